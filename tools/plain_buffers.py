@@ -1,13 +1,16 @@
-"""The buffers that a receiver has for a stream, by stream_type, descriptors and the level in its first unit (docs/ANY_STREAM.md): the
-rate out of its transport buffer in bits a second, and its main buffer in bytes. tools/plain-job uses it."""
+"""The buffers that a receiver has for a stream, by stream_type, descriptors and what its first unit says (docs/COST.md): the rate
+out of its transport buffer in bits a second, and its main buffer in bytes, of video the elementary stream buffer. tools/plain-job uses
+it; tools/plain-view has the multiplexing buffer with it as one."""
 
 # level: greatest rate in bits a second, video buffer in bits (ISO/IEC 13818-2, tables 8-13 and 8-14)
 MPEG2 = {10: (4_000_000, 475_136), 8: (15_000_000, 1_835_008), 6: (60_000_000, 7_340_032), 4: (80_000_000, 9_781_248)}
 # level_idc: MaxBR, MaxCPB (ISO/IEC 14496-10, table A-1)
 AVC = {10: (64, 175), 9: (128, 350), 11: (192, 500), 12: (384, 1_000), 13: (768, 2_000), 20: (2_000, 2_000), 21: (4_000, 4_000), 22: (4_000, 4_000),
        30: (10_000, 10_000), 31: (14_000, 14_000), 32: (20_000, 20_000), 40: (20_000, 25_000), 41: (50_000, 62_500), 42: (50_000, 62_500),
-       50: (135_000, 135_000), 51: (240_000, 240_000), 52: (240_000, 240_000)}
-# general_level_idc: the same of the main tier (ISO/IEC 23008-2, tables A.8 and A.9)
+       50: (135_000, 135_000), 51: (240_000, 240_000), 52: (240_000, 240_000), 60: (240_000, 240_000), 61: (480_000, 480_000),
+       62: (800_000, 800_000)}
+# general_level_idc: the same of the high tier and of the main tier (ISO/IEC 23008-2, tables A.8 and A.9)
+HIGH_TIER = {120: 30_000, 123: 50_000, 150: 100_000, 153: 160_000, 156: 240_000, 180: 240_000, 183: 480_000, 186: 800_000}
 HEVC = {30: (128, 350), 60: (1_500, 1_500), 63: (3_000, 3_000), 90: (6_000, 6_000), 93: (10_000, 10_000), 120: (12_000, 12_000), 123: (20_000, 20_000),
         150: (25_000, 25_000), 153: (40_000, 40_000), 156: (60_000, 60_000), 180: (60_000, 60_000), 183: (120_000, 120_000), 186: (240_000, 240_000)}
 
@@ -21,8 +24,9 @@ def mux(rate):
     return 4 * rate // 1000 + rate // 750
 
 
-def limited(rx, bits):
-    return min(rx, 200_000_000), min(bits // 8, 10_000_000)
+def declared(rx, ebs, rbx, mbs):
+    """Rx, EBS, Rbx and MBS as a description can declare them: bits a second and bytes."""
+    return min(rx, 200_000_000), min(ebs // 8, 10_000_000), min(rbx, 200_000_000), min(mbs // 8, 10_000_000)
 
 
 def starts(data, prefix):
@@ -33,21 +37,136 @@ def starts(data, prefix):
         at = data.find(prefix, at + 1)
 
 
-def mpeg2_level(data):
-    return next((d[1] >> 4 for d in starts(data, b"\0\0\1\xB5") if len(d) > 1 and d[0] >> 4 == 1), None)
+def bits_of(data):
+    return "".join(f"{byte:08b}" for byte in data)
 
 
-def avc_level(data):
-    """level_idc; level 1b, 11 with constraint_set3_flag in the Baseline, Main and Extended profiles, is 9."""
-    found = next((d[:4] for d in starts(data, b"\0\0\1") if len(d) > 3 and d[0] & 31 == 7), None)
-    if found and found[3] == 11 and found[2] & 0x10 and found[1] in (66, 77, 88):
-        return 9
-    return found and found[3]
+def mpeg2_sequence(data):
+    """Level, bit_rate in units of 400 bits a second, vbv_buffer_size in units of 16,384 bits, by the syntax of ISO/IEC 13818-2, 6.2.2."""
+    header = bits_of(next(starts(data, b"\0\0\1\xB3"), b"")[:8])
+    extension = bits_of(next((d for d in starts(data, b"\0\0\1\xB5") if d and d[0] >> 4 == 1), b"")[:6])
+    number = lambda bits, at, size: int(bits[at: at + size], 2) if len(bits) >= at + size else 0
+    level = number(extension, 8, 4) if extension[4:5] == "0" else 0
+    rate = number(header, 32, 18) if len(header) >= 56 else 0
+    rate += (number(extension, 19, 12) if len(extension) >= 32 else 0) << 18
+    return level, rate, number(header, 51, 10 if len(header) == 64 else 99) + (number(extension, 32, 8) << 10)
 
 
-def hevc_level(data):
-    plain = (d[:64].replace(b"\0\0\3", b"\0\0") for d in starts(data, b"\0\0\1") if d and d[0] >> 1 & 63 == 33)
-    return next((d[14] for d in plain if len(d) > 14), None)
+class Bits:
+    """Reads the elements of a raw byte sequence payload (ISO/IEC 14496-10, 7.2 and 9.1)."""
+
+    def __init__(self, nal):
+        self.text, self.at, zeros = bytearray(), 0, 0
+        for byte in nal[:200_000]:
+            if zeros >= 2 and byte == 3:
+                zeros = 0
+                continue
+            zeros = 0 if byte else zeros + 1
+            self.text.append(byte)
+        del self.text[131_072:]
+
+    def u(self, count):
+        value = 0
+        for _ in range(count):
+            value = value << 1 | self.text[self.at // 8] >> (7 - self.at % 8) & 1
+            self.at += 1
+        return value
+
+    def ue(self):
+        zeros = 0
+        while not self.u(1):
+            zeros += 1
+            if zeros == 32:
+                raise IndexError
+        return (1 << zeros) - 1 + self.u(zeros)
+
+    def se(self):
+        code = self.ue()
+        return (code + 1) // 2 if code & 1 else -(code // 2)
+
+
+def scaling_list(bits, size):
+    last = following = 8
+    for _ in range(size):
+        if following:
+            following = (last + bits.se() + 256) % 256
+        last = following or last
+
+
+def avc_cpb_size(nal):
+    """CpbSize[cpb_cnt_minus1] of the HRD parameters of NAL units, in bits (ISO/IEC 14496-10, 7.3.2.1.1, E.1.1, E.1.2); 0 without."""
+    bits = Bits(nal)
+    try:
+        profile, _, _, _ = bits.u(8), bits.u(8), bits.u(8), bits.ue()
+        if profile in (100, 110, 122, 244, 44, 83, 86, 118, 128, 138, 139, 134, 135):
+            chroma = bits.ue()
+            if chroma == 3:
+                bits.u(1)
+            bits.ue(), bits.ue(), bits.u(1)
+            if bits.u(1):
+                for i in range(12 if chroma == 3 else 8):
+                    if bits.u(1):
+                        scaling_list(bits, 16 if i < 6 else 64)
+        bits.ue()
+        order = bits.ue()
+        if order == 0:
+            bits.ue()
+        elif order == 1:
+            bits.u(1), bits.se(), bits.se()
+            frames = bits.ue()
+            if frames > 255:
+                return 0
+            for _ in range(frames):
+                bits.se()
+        bits.ue(), bits.u(1), bits.ue(), bits.ue()
+        if not bits.u(1):
+            bits.u(1)
+        bits.u(1)
+        if bits.u(1):
+            bits.ue(), bits.ue(), bits.ue(), bits.ue()
+        if not bits.u(1):
+            return 0
+        if bits.u(1) and bits.u(8) == 255:
+            bits.u(32)
+        if bits.u(1):
+            bits.u(1)
+        if bits.u(1):
+            bits.u(4)
+            if bits.u(1):
+                bits.u(24)
+        if bits.u(1):
+            bits.ue(), bits.ue()
+        if bits.u(1):
+            bits.u(65)
+        if not bits.u(1):
+            return 0
+        schedules = bits.ue() + 1
+        if schedules > 32:
+            return 0
+        bits.u(4)
+        scale = bits.u(4)
+        for _ in range(schedules - 1):
+            bits.ue(), bits.ue(), bits.u(1)
+        bits.ue()
+        return bits.ue() + 1 << 4 + scale
+    except IndexError:
+        return 0
+
+
+def avc_sequence(data):
+    """level_idc and CpbSize; level 1b, 11 with constraint_set3_flag in the Baseline, Main and Extended profiles, is 9."""
+    nal = next((d[1:] for d in starts(data, b"\0\0\1") if d and d[0] & 31 == 7), b"")
+    if len(nal) < 3:
+        return 0, 0
+    level = 9 if nal[2] == 11 and nal[1] & 0x10 and nal[0] in (66, 77, 88) else nal[2]
+    return level, avc_cpb_size(nal)
+
+
+def hevc_sequence(data):
+    """general_level_idc and general_tier_flag."""
+    nals = (d[2:64].replace(b"\0\0\3", b"\0\0") for d in starts(data, b"\0\0\1") if len(d) > 1 and d[0] == 0x42 and d[1] < 8)
+    plain = next(nals, b"")
+    return plain[12] if len(plain) > 12 else 0, len(plain) > 1 and plain[1] & 0x20 != 0
 
 
 def channels(data):
@@ -69,21 +188,51 @@ def tags(loop):
         loop = loop[2 + loop[1]:]
 
 
-def by_rate(unit, maximum, size):
-    rate = max(unit * maximum, 2_000_000)
-    return limited(rate, unit * size + mux(rate))
+def kept(said, greatest, most):
+    """EBS: what is said, at most the level's; that where nothing is said, or less than the greatest unit, of `most` bytes, has."""
+    ebs = min(said or greatest, greatest)
+    return ebs if ebs // 8 >= most else greatest
 
 
-def buffers(kind, loop, number, first):
-    """(rx, main) of a stream with this stream_type, descriptors, stream_id and first unit."""
-    found = dict(tags(loop))
+def by_rate(unit, maximum, size, said, most):
+    rate, greatest = max(unit * maximum, 2_000_000), unit * size
+    ebs = kept(said, greatest, most)
+    return declared(rate, ebs, rate, mux(rate) + greatest - ebs)
+
+
+def video(kind, first, most):
+    """(rx, main, rbx, mb) of video with this stream_type, first unit and greatest size of a unit; None of other streams."""
     if kind in (1, 2):
-        rate, size = MPEG2.get(mpeg2_level(first), MPEG2[8])
-        return limited(rate * 12 // 10, size + mux(rate))
+        level, said_rate, said = mpeg2_sequence(first)
+        rate, greatest = MPEG2.get(level, MPEG2[8])
+        ebs = kept(16_384 * said, greatest, most)
+        if level in (4, 6):
+            return declared(rate * 12 // 10, ebs, min(420 * said_rate or rate, rate), mux(rate))
+        return declared(rate * 12 // 10, ebs, rate, mux(rate) + greatest - ebs)
     if kind == 0x1B:
-        return by_rate(1_200, *AVC.get(avc_level(first), AVC[40]))
+        level, said = avc_sequence(first)
+        return by_rate(1_200, *AVC.get(level, AVC[40]), said, most)
     if kind == 0x24:
-        return by_rate(1_100, *HEVC.get(hevc_level(first), HEVC[120]))
+        level, high = hevc_sequence(first)
+        if high and (level == 0 or level >= 120):
+            limit = HIGH_TIER.get(level, HIGH_TIER[120])
+            return by_rate(1_100, limit, limit, 0, most)
+        return by_rate(1_100, *HEVC.get(level, HEVC[120]), 0, most)
+    return None
+
+
+def joined_buffers(kind, loop, number, first):
+    """(rx, main) with the multiplexing buffer and the elementary stream buffer of video as one."""
+    sizes = video(kind, first, 0)
+    return (sizes[0], min(sizes[1] + sizes[3], 10_000_000)) if sizes else buffers(kind, loop, number, first, 0)
+
+
+def buffers(kind, loop, number, first, most):
+    """(rx, main) of a stream with this stream_type, descriptors, stream_id, first unit and greatest size of a unit."""
+    found = dict(tags(loop))
+    sizes = video(kind, first, most)
+    if sizes:
+        return sizes[:2]
     if kind in (0x81, 0x87) or 0x6A in found or 0x7A in found:
         return 2_000_000, 5_696
     if kind == 0x0F:

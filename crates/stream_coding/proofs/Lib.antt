@@ -1,1 +1,4 @@
-pub mod FieldSearch
+pub mod StructureSearch
+pub mod RbspBytes
+pub mod Elements
+pub mod ScalingLists

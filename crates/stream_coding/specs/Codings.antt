@@ -1,11 +1,14 @@
 -- How a stream is coded, by the entry of the program map that names it and by its first access unit.
-use Rattle.std.specs.Prelude.{ℕ, ◌==◌, ◌&&◌, ◌||◌, Bool, if◌then◌else◌, List, [], ◌∷◌, take, unwrap_or}
+use Rattle.std.specs.Prelude.{ℕ, ◌==◌, ◌&&◌, ◌||◌, Bool, if◌then◌else◌, List, [], ◌∷◌, take}
 use Rattle.std.specs.List.{list_any}
 use Rattle.std.specs.Str.{bytes_eq}
 use Rattle.descriptor_loops.specs.Descriptors.{DescriptorView, descriptors_in, has_tag}
-use Rattle.stream_coding.specs.Fields.{found_in}
-use Rattle.stream_coding.specs.declared.fields.Field.{Field}
-use Rattle.stream_coding.specs.declared.fields.Field.TheVariants.{MpegLevel, AvcLevel, HevcLevel, AdtsChannels}
+use Rattle.stream_coding.specs.Structures.{bytes_of}
+use Rattle.stream_coding.specs.Sequences.{mpeg_sequence}
+use Rattle.stream_coding.specs.Avc.{avc_sequence}
+use Rattle.stream_coding.specs.Hevc.{hevc_sequence}
+use Rattle.stream_coding.specs.Adts.{channels}
+use Rattle.stream_coding.specs.declared.structures.Structure.TheVariants.{AdtsHeader}
 use Rattle.stream_coding.specs.declared.coding.Coding.{Coding}
 use Rattle.stream_coding.specs.declared.coding.Coding.TheVariants.{Mpeg, Avc, Hevc, Audio, Aac, Ac3, Subtitles, Teletext, Other}
 
@@ -24,9 +27,6 @@ is_ac3 stream_type descriptors =
 
 -- 2. Codings
 
-abbrev pub field_or_zero : Field → List ℕ → ℕ
-field_or_zero field unit = unwrap_or (found_in field unit) 0
-
 -- by descriptors: AC-3, or the subtitling and teletext descriptors of EN 300 468, table 12
 unfoldable pub coding_by_descriptors : ℕ → List ℕ → Coding
 coding_by_descriptors stream_type descriptors =
@@ -38,9 +38,9 @@ coding_by_descriptors stream_type descriptors =
 -- by stream_type (ISO/IEC 13818-1, table 2-34), and where it names none of these codings by descriptors
 unfoldable pub coding_of : ℕ → List ℕ → List ℕ → Coding
 coding_of stream_type descriptors unit =
-    if stream_type == 0x01 || stream_type == 0x02 then Mpeg (field_or_zero MpegLevel unit)
-    else (if stream_type == 0x1B then Avc (field_or_zero AvcLevel unit)
-    else (if stream_type == 0x24 then Hevc (field_or_zero HevcLevel unit)
-    else (if stream_type == 0x0F then Aac (field_or_zero AdtsChannels unit)
+    if stream_type == 0x01 || stream_type == 0x02 then Mpeg (mpeg_sequence unit)
+    else (if stream_type == 0x1B then Avc (avc_sequence unit)
+    else (if stream_type == 0x24 then Hevc (hevc_sequence unit)
+    else (if stream_type == 0x0F then Aac (channels (bytes_of AdtsHeader unit))
     else (if stream_type == 0x03 || stream_type == 0x04 || stream_type == 0x11 || stream_type == 0x1C then Audio
     else coding_by_descriptors stream_type descriptors))))

@@ -1,3 +1,9 @@
-pub mod Fields
+pub mod Structures
+pub mod Rbsp
+pub mod Sequences
+pub mod Avc
+pub mod Hevc
+pub mod Adts
 pub mod Codings
+pub mod Video
 pub mod Buffers

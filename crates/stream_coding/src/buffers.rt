@@ -1,11 +1,21 @@
 //! The buffers that a decoder has for a stream of each coding (ISO/IEC 13818-1, 2.4.2).
 
-ghost use Rattle.std.specs.Prelude.{◌≡◌, ◌≤◌};
+ghost use Rattle.std.specs.Prelude.{◌≡◌, option_map};
 ghost use Rattle.stream_coding.specs.Buffers as spec;
 
-use crate::coding::Coding;
+use crate::coding::{AvcSequence, Coding, MpegSequence};
+use crate::video_buffers::{VideoBuffers, avc_buffers, hevc_buffers, mpeg_buffers, video_buffers};
 
-/// The rate out of the transport buffer in bits a second, and the main buffer in bytes.
+/// The multiplexing buffer of video, MB: the rate in bits a second at which bytes go from it into the elementary stream
+/// buffer, Rbx, and its size in bytes, MBS.
+#[derive(Clone, Copy)]
+pub struct MultiplexingBuffer {
+    pub rbx: u32,
+    pub size: u32,
+}
+
+/// The rate out of the transport buffer in bits a second, Rx, and the main buffer in bytes: of video the elementary
+/// stream buffer, EBS, with the multiplexing buffer before it.
 #[derive(Clone, Copy)]
 pub struct Buffers {
     pub rx: u32,
@@ -17,115 +27,6 @@ pub struct Buffers {
 pub struct PidBuffers {
     pub pid: u16,
     pub buffers: Buffers,
-}
-
-// The greatest rate and the video buffer of a level, in bits.
-#[tactic(auto, unfolding(crate::specs::Buffers::mpeg_limits))]
-fn mpeg_limits(level: u8) -> (u32, u32)
-    ensures value { result ≡ spec.mpeg_limits level }
-    ensures rate { result.0 ≤ 80000000 }
-    ensures size { result.1 ≤ 9781248 }
-{
-    match level {
-        10 => (4_000_000, 475_136),
-        6 => (60_000_000, 7_340_032),
-        4 => (80_000_000, 9_781_248),
-        _ => (15_000_000, 1_835_008),
-    }
-}
-
-// MaxBR and MaxCPB of a level.
-#[tactic(auto, unfolding(crate::specs::Buffers::avc_limits))]
-fn avc_limits(level: u8) -> (u32, u32)
-    ensures value { result ≡ spec.avc_limits level }
-    ensures rate { result.0 ≤ 800000 }
-    ensures size { result.1 ≤ 800000 }
-{
-    match level {
-        10 => (64, 175),
-        9 => (128, 350),
-        11 => (192, 500),
-        12 => (384, 1_000),
-        13 => (768, 2_000),
-        20 => (2_000, 2_000),
-        21 => (4_000, 4_000),
-        22 => (4_000, 4_000),
-        30 => (10_000, 10_000),
-        31 => (14_000, 14_000),
-        32 => (20_000, 20_000),
-        41 => (50_000, 62_500),
-        42 => (50_000, 62_500),
-        50 => (135_000, 135_000),
-        51 => (240_000, 240_000),
-        52 => (240_000, 240_000),
-        60 => (240_000, 240_000),
-        61 => (480_000, 480_000),
-        62 => (800_000, 800_000),
-        _ => (20_000, 25_000),
-    }
-}
-
-// The same in the main tier.
-#[tactic(auto, unfolding(crate::specs::Buffers::hevc_limits))]
-fn hevc_limits(level: u8) -> (u32, u32)
-    ensures value { result ≡ spec.hevc_limits level }
-    ensures rate { result.0 ≤ 240000 }
-    ensures size { result.1 ≤ 240000 }
-{
-    match level {
-        30 => (128, 350),
-        60 => (1_500, 1_500),
-        63 => (3_000, 3_000),
-        90 => (6_000, 6_000),
-        93 => (10_000, 10_000),
-        123 => (20_000, 20_000),
-        150 => (25_000, 25_000),
-        153 => (40_000, 40_000),
-        156 => (60_000, 60_000),
-        180 => (60_000, 60_000),
-        183 => (120_000, 120_000),
-        186 => (240_000, 240_000),
-        _ => (12_000, 12_000),
-    }
-}
-
-// The bits of 4 ms for multiplexing and of a 750th of a second for headers.
-fn mux_bits(rate: u32) -> u32
-    requires { rate ≤ 960000000 }
-    ensures value { result ≡ spec.mux_bits rate }
-    ensures bound { result ≤ 5120000 }
-{
-    4 * rate / 1000 + rate / 750
-}
-
-// At most what a description can declare.
-#[tactic(auto, unfolding(crate::specs::Buffers::capped))]
-fn capped(rx: u32, bits: u32) -> Buffers
-    ensures { result ≡ spec.capped rx bits }
-{
-    Buffers {
-        rx: rx.min(200_000_000),
-        main: (bits / 8).min(10_000_000),
-    }
-}
-
-// By a level's rate and its buffer in bits.
-fn level_buffers(rate: u32, bits: u32) -> Buffers
-    requires rate { rate ≤ 960000000 }
-    requires bits { bits ≤ 960000000 }
-    ensures { result ≡ spec.level_buffers rate bits }
-{
-    let rate = if rate < 2_000_000 { 2_000_000 } else { rate };
-    capped(rate, bits + mux_bits(rate))
-}
-
-fn mpeg_buffers(limits: (u32, u32)) -> Buffers
-    requires rate { limits.0 ≤ 80000000 }
-    requires size { limits.1 ≤ 9781248 }
-    ensures { result ≡ spec.mpeg_buffers limits }
-{
-    let (rate, bits) = limits;
-    capped(rate * 12 / 10, bits + mux_bits(rate))
 }
 
 // By the number of channels.
@@ -142,14 +43,47 @@ fn aac_buffers(channels: u8) -> Buffers
     } else {
         (33_177_600, 51_216)
     };
-    Buffers { rx, main }
+    fixed(rx, main)
 }
 
-// These buffers.
+// One main buffer.
 fn fixed(rx: u32, main: u32) -> Buffers
     ensures { result ≡ record { rx = rx; main = main } }
 {
     Buffers { rx, main }
+}
+
+// Bits a second and bytes, at most what a description can declare.
+fn declared_rate(rate: u32) -> u32
+    ensures { result ≡ spec.declared_rate rate }
+{
+    rate.min(200_000_000)
+}
+
+fn declared_bytes(bits: u32) -> u32
+    ensures { result ≡ spec.declared_bytes bits }
+{
+    (bits / 8).min(10_000_000)
+}
+
+// Of video the main buffer is the elementary stream buffer.
+fn elementary(video: VideoBuffers) -> Buffers
+    ensures { result ≡ spec.elementary video }
+{
+    Buffers {
+        rx: declared_rate(video.rx),
+        main: declared_bytes(video.ebs),
+    }
+}
+
+#[tactic(auto, unfolding(crate::specs::Buffers::multiplexing))]
+fn multiplexing(video: VideoBuffers) -> MultiplexingBuffer
+    ensures { result ≡ spec.multiplexing video }
+{
+    MultiplexingBuffer {
+        rbx: declared_rate(video.rbx),
+        size: declared_bytes(video.mbs),
+    }
 }
 
 /// The buffers of a stream of this coding, cut to what a description can declare.
@@ -158,21 +92,73 @@ pub fn buffers_of(coding: Coding) -> Buffers
     ensures { result ≡ spec.buffers_of coding }
 {
     match coding {
-        Coding::Mpeg(level) => mpeg_buffers(mpeg_limits(level)),
-        Coding::Avc(level) => {
-            let (rate, size) = avc_limits(level);
-            level_buffers(1_200 * rate, 1_200 * size)
-        }
-        Coding::Hevc(level) => {
-            let (rate, size) = hevc_limits(level);
-            level_buffers(1_100 * rate, 1_100 * size)
-        }
+        Coding::Mpeg(sequence) => elementary(mpeg_buffers(sequence)),
+        Coding::Avc(sequence) => elementary(avc_buffers(sequence)),
+        Coding::Hevc(sequence) => elementary(hevc_buffers(sequence)),
         Coding::Audio => fixed(2_000_000, 3_584),
         Coding::Aac(channels) => aac_buffers(channels),
         Coding::Ac3 => fixed(2_000_000, 5_696),
         Coding::Subtitles => fixed(400_000, 24_576),
         Coding::Teletext => fixed(6_750_000, 1_504),
         Coding::Other => fixed(2_000_000, 65_536),
+    }
+}
+
+/// Returns the multiplexing buffer of a stream of this coding, if it is of video, cut to what a description can declare.
+pub fn multiplexing_of(coding: Coding) -> Option<MultiplexingBuffer>
+    ensures { result ≡ spec.multiplexing_of coding }
+{
+    match video_buffers(coding) {
+        None => None,
+        Some(video) => Some(multiplexing(video)),
+    }
+}
+
+/// Returns the buffers of a stream of this coding with the multiplexing buffer and the elementary stream buffer of video
+/// as one, for whoever keeps no two.
+pub fn joined_buffers_of(coding: Coding) -> Buffers
+    ensures { result ≡ spec.joined_buffers_of coding }
+{
+    let Buffers { rx, main } = buffers_of(coding);
+    let before = match multiplexing_of(coding) {
+        None => 0,
+        Some(buffer) => buffer.size,
+    };
+    Buffers {
+        rx,
+        main: main.saturating_add(before).min(10_000_000),
+    }
+}
+
+// The coding with the greatest buffer of its level.
+#[tactic(auto, unfolding(crate::specs::Buffers::without_size))]
+fn without_size(coding: Coding) -> Coding
+    ensures { result ≡ spec.without_size coding }
+{
+    match coding {
+        Coding::Mpeg(sequence) => Coding::Mpeg(MpegSequence {
+            level: sequence.level,
+            bit_rate: sequence.bit_rate,
+            vbv_buffer_size: 0,
+        }),
+        Coding::Avc(sequence) => Coding::Avc(AvcSequence {
+            level: sequence.level,
+            cpb_size: 0,
+        }),
+        _ => coding,
+    }
+}
+
+/// Returns the coding of a stream with a unit of this size: if the elementary stream buffer that the stream says does not
+/// hold the unit, the stream does not keep to it, and that of its level counts.
+#[tactic(auto, unfolding(crate::specs::Buffers::coding_holding))]
+pub fn coding_holding(size: usize, coding: Coding) -> Coding
+    ensures { result ≡ spec.coding_holding size coding }
+{
+    if (buffers_of(coding).main as usize) < size {
+        without_size(coding)
+    } else {
+        coding
     }
 }
 

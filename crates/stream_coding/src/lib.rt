@@ -1,14 +1,25 @@
 //! How an elementary stream is coded, and the buffers that a decoder has for it.
 //!
-//! The coding is that of its entry in the program map (`specs/Codings`) with the level or the number of channels that
-//! its first access unit says (`specs/Fields`); the buffers are those of the standards (`specs/Buffers`).
+//! The coding is that of its entry in the program map (`specs/Codings`), with what its first access unit says in the
+//! structures of `specs/Structures`: its level, video buffer or number of channels (`specs/Sequences`, `Avc`, `Hevc`,
+//! `Adts`); the buffers are those of the standards (`specs/Video`, `Buffers`).
 #![tactic(auto)]
 
 mod ac3;
+mod adts;
+mod avc;
+mod avc_vui;
 mod buffers;
 mod coding;
-mod fields;
+mod hevc;
+mod rbsp;
+mod sequences;
+mod structures;
+mod video_buffers;
 
 pub use ac3::is_ac3;
-pub use buffers::{Buffers, PidBuffers, buffers_of, given_buffers};
-pub use coding::{Coding, coding_of};
+pub use buffers::{
+    Buffers, MultiplexingBuffer, PidBuffers, buffers_of, coding_holding, given_buffers,
+    joined_buffers_of, multiplexing_of,
+};
+pub use coding::{AvcSequence, Coding, HevcSequence, MpegSequence, coding_of};

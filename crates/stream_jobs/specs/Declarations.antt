@@ -12,8 +12,9 @@ use Rattle.stream_choice.specs.Ranges.{is_needs, are_max_packets}
 use Rattle.stream_choice.specs.Shares.{least_share, transport_delay}
 use Rattle.stream_choice.specs.declared.choice.Choice.{Choice}
 use Rattle.stream_choice.specs.declared.needs.Needs.{Needs}
-use Rattle.stream_coding.specs.Buffers.{buffers_of, given_buffers}
+use Rattle.stream_coding.specs.Buffers.{buffers_of, coding_holding, given_buffers}
 use Rattle.stream_coding.specs.Codings.{coding_of}
+use Rattle.stream_coding.specs.declared.coding.Coding.{Coding}
 use Rattle.stream_coding.specs.declared.buffers.Buffers.{Buffers}
 use Rattle.stream_coding.specs.declared.buffers.PidBuffers.{PidBuffers}
 use Rattle.stream_units.specs.UnitRuns.{UnitRunsView, runs_burst}
@@ -43,14 +44,18 @@ units_refusal s = refusals.Units s.pid (length s.units)
 unfoldable pub too_long : List TimedStreamView → Option JobRefusal
 too_long streams = option_map units_refusal (find is_too_long streams)
 
--- 2. Buffers: those that are asked for, else those of the coding and its level
+-- 2. Buffers: those that are asked for, else those of the coding and what the stream says of them
 
 unfoldable pub first_bytes : List AccessUnit → List ℕ
 first_bytes [] = []
 first_bytes (u ∷ us) = u.bytes
 
+-- by the first unit; a buffer that does not hold the greatest one is none that the stream keeps to
+unfoldable pub coding_for : TimedStreamView → Coding
+coding_for s = coding_holding (max_unit_size s.units) (coding_of s.stream_type s.descriptors (first_bytes s.units))
+
 unfoldable pub buffers_for : List PidBuffers → TimedStreamView → Buffers
-buffers_for given s = unwrap_or (given_buffers given s.pid) (buffers_of (coding_of s.stream_type s.descriptors (first_bytes s.units)))
+buffers_for given s = unwrap_or (given_buffers given s.pid) (buffers_of (coding_for s))
 
 -- 3. What is counted of a stream's units: what they need, and the greatest number of packets of 1, 2, .. of them in a row
 

@@ -1,5 +1,5 @@
 -- The description of a job as text.
-use Rattle.std.specs.Prelude.{ℕ, ◌-◌, ◌^◌, min, List, ◌++◌, flat_map, zip}
+use Rattle.std.specs.Prelude.{ℕ, ◌-◌, ◌^◌, min, List, ◌++◌, None, flat_map, zip}
 use Rattle.job_text.specs.DescriptionParts.{EventPartView, HeadingView, ProgramPartView, StreamPartView}
 use Rattle.job_text.specs.Texts.{event_text, heading_text, network_if_any, program_text, stream_text}
 use Rattle.stream_choice.specs.declared.choice.Choice.{Choice}
@@ -58,6 +58,7 @@ stream_part s = record {
   descriptors = s.0.descriptors;
   allowance = s.1.1.allowance;
   shared_with = s.0.shared_with;
+  multiplexing = None;
 }
 
 -- 4. The whole: the lines of private tables (`specs/JobTables`) come last

@@ -13,7 +13,9 @@ use pes_packet::greatest_size;
 use std::alloc::{AllocError, Global};
 use std::marker::Model;
 use stream_choice::Needs;
-use stream_coding::{Buffers, PidBuffers, buffers_of, coding_of, given_buffers};
+use stream_coding::{
+    Buffers, Coding, PidBuffers, buffers_of, coding_holding, coding_of, given_buffers,
+};
 use stream_units::{CountedPackets, max_unit_size, min_interval};
 
 /// The greatest number of programs, and of streams, in a description.
@@ -94,14 +96,23 @@ fn first_bytes(stream: &TimedStream) -> &[u8]
     }
 }
 
-// The buffers of a stream: those that the options give, or those of its coding and level.
+// How a stream is coded: by its first unit, and by a buffer that holds its greatest one.
+#[tactic(auto, unfolding(crate::specs::Declarations::coding_for))]
+fn coding_for(stream: &TimedStream) -> Coding
+    ensures { result ≡ spec.coding_for stream.now }
+{
+    let coding = coding_of(stream.stream_type, &stream.descriptors, first_bytes(stream));
+    coding_holding(max_unit_size(&stream.units), coding)
+}
+
+// The buffers of a stream: those that the options give, or those of its coding.
 #[tactic(auto, unfolding(crate::specs::Declarations::buffers_for))]
 fn buffers_for(given: &[PidBuffers], stream: &TimedStream) -> Buffers
     ensures { result ≡ spec.buffers_for given.now stream.now }
 {
     match given_buffers(given, stream.pid) {
         Some(buffers) => buffers,
-        None => buffers_of(coding_of(stream.stream_type, &stream.descriptors, first_bytes(stream))),
+        None => buffers_of(coding_for(stream)),
     }
 }
 

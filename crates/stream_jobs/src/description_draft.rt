@@ -148,6 +148,7 @@ fn write_stream(
         descriptors: &stream.descriptors,
         allowance: choice.allowance,
         shared_with: &stream.shared_with,
+        multiplexing: None,
     };
     entry.write_text(text)
 }

@@ -4,7 +4,7 @@ use Rattle.std.specs.List.{list_any}
 use Rattle.stream_coding.specs.declared.coding.Coding.{Coding}
 use Rattle.stream_coding.specs.declared.buffers.Buffers.{Buffers}
 use Rattle.stream_coding.specs.declared.buffers.PidBuffers.{PidBuffers}
-use Rattle.stream_coding.specs.Buffers.{buffers_of, given_buffers}
+use Rattle.stream_coding.specs.Buffers.{given_buffers, joined_buffers_of}
 use Rattle.stream_programs.specs.Streams.{FoundStreamView}
 use Rattle.stream_report.specs.declared.view_options.ViewOptions.{ViewOptions}
 
@@ -30,7 +30,8 @@ unfoldable pub chosen : ChoiceView → Option FoundStreamView → Option FoundSt
 chosen choice None = None
 chosen choice (Some stream) = if takes choice stream.program then Some stream else None
 
--- its buffers: those that are given, or else those of its coding; no rate is beyond 200,000,000 bits a second
+-- its buffers: those that are given, or else those of its coding, of video the multiplexing buffer and the elementary stream buffer as
+-- one; no rate is beyond 200,000,000 bits a second
 unfoldable pub given_or : Option Buffers → Buffers → Buffers
 given_or None coded = coded
 given_or (Some given) coded = given
@@ -39,4 +40,4 @@ abbrev pub up_to_limit : Buffers → Buffers
 up_to_limit buffers = record { rx = min buffers.rx 200000000; main = buffers.main }
 
 abbrev pub buffers_for : ChoiceView → ℕ → Coding → Buffers
-buffers_for choice pid coding = up_to_limit (given_or (given_buffers choice.buffers pid) (buffers_of coding))
+buffers_for choice pid coding = up_to_limit (given_or (given_buffers choice.buffers pid) (joined_buffers_of coding))

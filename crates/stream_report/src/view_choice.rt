@@ -3,7 +3,7 @@ ghost use Rattle.std.specs.Prelude.{◌≡◌};
 ghost use Rattle.stream_report.specs.Choices as spec;
 
 use std::marker::Model;
-use stream_coding::{Buffers, Coding, PidBuffers, buffers_of, given_buffers};
+use stream_coding::{Buffers, Coding, PidBuffers, given_buffers, joined_buffers_of};
 
 /// Which streams are viewed, and with which buffers.
 #[derive(Drop)]
@@ -38,14 +38,14 @@ impl ViewChoice {
         self.programs.is_empty() || is_among(program, &self.programs)
     }
 
-    /// The buffers of the stream of a PID, of this coding.
+    /// The buffers of the stream of a PID, of this coding: of video both buffers as one.
     #[tactic(auto, unfolding(crate::specs::Choices::given_or))]
     pub fn buffers_for(&self, pid: u16, coding: Coding) -> Buffers
         ensures { result ≡ spec.buffers_for self.now pid coding }
     {
         let buffers = match given_buffers(&self.buffers, pid) {
             Some(buffers) => buffers,
-            None => buffers_of(coding),
+            None => joined_buffers_of(coding),
         };
         Buffers {
             rx: buffers.rx.min(200_000_000),

@@ -12,3 +12,4 @@ mod order;
 mod packets;
 mod programs;
 mod units;
+mod video_buffers;

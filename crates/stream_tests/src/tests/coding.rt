@@ -1,37 +1,60 @@
-//! Beginnings of units as encoders write them, and what the tables of the standards give.
+//! Beginnings of units as encoders write them.
 
-use stream_coding::{Buffers, Coding, buffers_of, coding_of, is_ac3};
+use stream_coding::{AvcSequence, Coding, HevcSequence, MpegSequence, coding_of, is_ac3};
 
-// Rates and buffers of codings, as the tables of their standards give them.
-static BUFFERS: [(Coding, u32, u32); 9] = [
-    (Coding::Mpeg(8), 18_000_000, 239_376),
-    (Coding::Mpeg(0), 18_000_000, 239_376),
-    (Coding::Avc(40), 24_000_000, 3_766_000),
-    (Coding::Avc(10), 2_000_000, 27_583),
-    (Coding::Avc(51), 200_000_000, 10_000_000),
-    (Coding::Hevc(120), 13_200_000, 1_658_800),
-    (Coding::Aac(2), 2_000_000, 3_584),
-    (Coding::Aac(6), 5_529_600, 8_976),
-    (Coding::Ac3, 2_000_000, 5_696),
-];
-
-fn are_buffers() -> bool {
-    for (coding, rx, main) in &BUFFERS {
-        let Buffers { rx: a, main: b } = buffers_of(*coding);
-        if a != *rx || b != *main {
-            return false;
-        }
-    }
-    true
-}
-
-// A sequence extension of main profile, main level, after the end of a sequence header, and one with the escape bit
-// before.
+// A sequence extension of main profile, main level, after the end of a sequence header, and one with the escape bit.
 const MPEG: &[u8] = &[0x10, 0, 0, 1, 0xb5, 0x14, 0x8a, 0, 1];
 
-const ESCAPED: &[u8] = &[0, 0, 1, 0xb5, 0x18, 0x8a, 0, 0, 1, 0xb5, 0x14, 0x4a];
+const ESCAPED: &[u8] = &[0, 0, 1, 0xb5, 0x18, 0x8a];
+
+// The sequence header and the sequence extension of ffmpeg: 1,280 by 720, high-1440 level, 10 Mbit/s and a buffer of
+// 2,000,000
+// bits; 720 by 576, main level, 4 Mbit/s and a buffer of 800,000 bits.
+const HIGH_1440: &[u8] = &[
+    0, 0, 1, 0xb3, 0x50, 2, 0xd0, 0x33, 0x18, 0x6a, 0x23, 0xd8, 0, 0, 1, 0xb5, 0x14, 0x6a, 0, 1, 0,
+    0,
+];
+
+const MAIN_LEVEL: &[u8] = &[
+    0, 0, 1, 0xb3, 0x2d, 2, 0x40, 0x13, 9, 0xc4, 0x21, 0x88, 0, 0, 1, 0xb5, 0x14, 0x8a, 0, 1, 0, 0,
+];
+
+// Worked by hand: bit_rate_extension 1 and vbv_buffer_size_extension 2 with it.
+const EXTENDED: &[u8] = &[
+    0, 0, 1, 0xb3, 0x2d, 2, 0x40, 0x13, 9, 0xc4, 0x21, 0x88, 0, 0, 1, 0xb5, 0x14, 0x4a, 0, 3, 2, 0,
+];
+
 // An access unit delimiter, and the sequence parameter set of high profile, level 3.1.
 const AVC: &[u8] = &[0, 0, 0, 1, 9, 0xf0, 0, 0, 0, 1, 0x67, 0x64, 0, 0x1f, 0xac];
+// Sequence parameter sets of x264, level 3: with HRD parameters of NAL units and a buffer of 1,000,000 bits, and
+// without them.
+const NAL_HRD: &[u8] = &[
+    0, 0, 1, 0x67, 0x64, 0, 0x1e, 0xac, 0xd9, 0x40, 0xa0, 0x2f, 0xf9, 0x70, 0x11, 0, 0, 3, 0, 1, 0,
+    0, 3, 0, 0x32, 0x60, 0x40, 0, 0xf4, 0x24, 0, 0x1e, 0x84, 0xa4, 0xc3, 0, 0x78, 0xb1, 0x6c, 0xb0,
+];
+
+const NO_HRD: &[u8] = &[
+    0, 0, 1, 0x67, 0x64, 0, 0x1e, 0xac, 0xd9, 0x40, 0xa0, 0x2f, 0xf9, 0x70, 0x11, 0, 0, 3, 0, 1, 0,
+    0, 3, 0, 0x32, 0x0f, 0x16, 0x2d, 0x96,
+];
+
+// Worked by hand: high profile, level 3, with three scaling lists, one that ends at its first number, one of 16
+// numbers and one
+// that ends at its second, and a buffer of 1,000,000 bits.
+const SCALED: &[u8] = &[
+    0, 0, 1, 0x67, 0x64, 0, 0x1e, 0xad, 0x84, 0x42, 0x10, 8, 0x7f, 0xfc, 0x14, 0xc0, 0x78, 0, 0x40,
+    0x1b, 0x20, 0x28, 0x27, 0x41, 0x90, 0, 0x3e, 0x80, 0, 0x1e, 0x84, 0x88,
+];
+
+// Worked by hand: baseline profile, level 3, pic_order_cnt_type 1 with two offsets, fields, cropping, all VUI
+// parameters up to the HRD
+// parameters, and two schedules, of 64,000 and of 192,000 bits (cpb_size_scale 3).
+const SCHEDULES: &[u8] = &[
+    0, 0, 1, 0x67, 0x42, 0, 0x1e, 0xd1, 0x91, 0x94, 0xcc, 0x14, 0x12, 0xf5, 0x7f, 0xf8, 0, 0x80, 0,
+    0x7d, 0xb8, 8, 8, 0x0d, 0x28, 0, 0, 0x1f, 0x48, 0, 7, 0x53, 6, 0x88, 0xc0, 0x1f, 0x40, 7, 0xd0,
+    0, 0x7d, 0, 2, 0xee, 0x6f, 0x7b, 0xe0, 0x40,
+];
+
 // The sequence parameter set of main profile, level 4, with three emulation prevention bytes; and its first 20 bytes.
 const HEVC: &[u8] = &[
     0, 0, 0, 1, 0x42, 1, 1, 1, 0x60, 0, 0, 3, 0, 0x90, 0, 0, 3, 0, 0, 3, 0, 0x78, 0xa0,
@@ -40,6 +63,12 @@ const HEVC: &[u8] = &[
 const CUT: &[u8] = &[
     0, 0, 0, 1, 0x42, 1, 1, 1, 0x60, 0, 0, 3, 0, 0x90, 0, 0, 3, 0, 0, 3,
 ];
+
+// The same of the high tier.
+const HIGH_TIER: &[u8] = &[
+    0, 0, 0, 1, 0x42, 1, 1, 0x21, 0x60, 0, 0, 3, 0, 0x90, 0, 0, 3, 0, 0, 3, 0, 0x78, 0xa0,
+];
+
 // ADTS headers of 2, 6 and 8 channels, the last after two other bytes.
 const STEREO: &[u8] = &[0xff, 0xf1, 0x50, 0x80, 0x2e];
 
@@ -55,13 +84,139 @@ const REGISTERED: &[u8] = &[5, 4, 0x41, 0x43, 0x2d, 0x33];
 const SUBTITLES: &[u8] = &[0x59, 8, 0x65, 0x6e, 0x67, 0x10, 0, 1, 0, 2];
 
 // The stream_type, the descriptors, the beginning of a unit, and the coding.
-static CODINGS: [(u8, &[u8], &[u8], Coding); 20] = [
-    (2, &[], MPEG, Coding::Mpeg(8)),
-    (2, &[], ESCAPED, Coding::Mpeg(4)),
-    (1, &[], AVC, Coding::Mpeg(0)),
-    (0x1b, &[], AVC, Coding::Avc(31)),
-    (0x24, &[], HEVC, Coding::Hevc(120)),
-    (0x24, &[], CUT, Coding::Hevc(0)),
+static CODINGS: [(u8, &[u8], &[u8], Coding); 28] = [
+    (
+        2,
+        &[],
+        MPEG,
+        Coding::Mpeg(MpegSequence {
+            level: 8,
+            bit_rate: 0,
+            vbv_buffer_size: 0,
+        }),
+    ),
+    (
+        2,
+        &[],
+        ESCAPED,
+        Coding::Mpeg(MpegSequence {
+            level: 0,
+            bit_rate: 0,
+            vbv_buffer_size: 0,
+        }),
+    ),
+    (
+        1,
+        &[],
+        AVC,
+        Coding::Mpeg(MpegSequence {
+            level: 0,
+            bit_rate: 0,
+            vbv_buffer_size: 0,
+        }),
+    ),
+    (
+        2,
+        &[],
+        HIGH_1440,
+        Coding::Mpeg(MpegSequence {
+            level: 6,
+            bit_rate: 25_000,
+            vbv_buffer_size: 123,
+        }),
+    ),
+    (
+        2,
+        &[],
+        MAIN_LEVEL,
+        Coding::Mpeg(MpegSequence {
+            level: 8,
+            bit_rate: 10_000,
+            vbv_buffer_size: 49,
+        }),
+    ),
+    (
+        2,
+        &[],
+        EXTENDED,
+        Coding::Mpeg(MpegSequence {
+            level: 4,
+            bit_rate: 272_144,
+            vbv_buffer_size: 2_097,
+        }),
+    ),
+    (
+        0x1b,
+        &[],
+        AVC,
+        Coding::Avc(AvcSequence {
+            level: 31,
+            cpb_size: 0,
+        }),
+    ),
+    (
+        0x1b,
+        &[],
+        NAL_HRD,
+        Coding::Avc(AvcSequence {
+            level: 30,
+            cpb_size: 1_000_000,
+        }),
+    ),
+    (
+        0x1b,
+        &[],
+        SCALED,
+        Coding::Avc(AvcSequence {
+            level: 30,
+            cpb_size: 1_000_000,
+        }),
+    ),
+    (
+        0x1b,
+        &[],
+        SCHEDULES,
+        Coding::Avc(AvcSequence {
+            level: 30,
+            cpb_size: 192_000,
+        }),
+    ),
+    (
+        0x1b,
+        &[],
+        NO_HRD,
+        Coding::Avc(AvcSequence {
+            level: 30,
+            cpb_size: 0,
+        }),
+    ),
+    (
+        0x24,
+        &[],
+        HEVC,
+        Coding::Hevc(HevcSequence {
+            level: 120,
+            high_tier: false,
+        }),
+    ),
+    (
+        0x24,
+        &[],
+        HIGH_TIER,
+        Coding::Hevc(HevcSequence {
+            level: 120,
+            high_tier: true,
+        }),
+    ),
+    (
+        0x24,
+        &[],
+        CUT,
+        Coding::Hevc(HevcSequence {
+            level: 0,
+            high_tier: false,
+        }),
+    ),
     (0x0f, &[], STEREO, Coding::Aac(2)),
     (0x0f, &[], FIVE_ONE, Coding::Aac(6)),
     (0x0f, &[], SEVEN_ONE, Coding::Aac(8)),
@@ -91,5 +246,5 @@ fn are_codings() -> bool {
 
 #[test]
 fn codings(rt: HostRuntime) {
-    assert!(rt; are_buffers() && are_codings());
+    assert!(rt; are_codings());
 }

@@ -5,6 +5,7 @@ use linked_list_allocator::LocalHeap;
 use std::alloc::{AllocError, Allocator, Global};
 use unit_records::records_are_read;
 use unit_timing::allowance::Allowance;
+use unit_timing::multiplexing_buffer::MultiplexingBuffer;
 
 const HEADING: Heading<'static> = Heading {
     rate: 8_000_000,
@@ -57,6 +58,7 @@ static STREAMS: [StreamPart<'static>; 2] = [
             packets: 4,
         },
         shared_with: &[2, 65_535],
+        multiplexing: None,
     },
     StreamPart {
         program: 65_535,
@@ -74,6 +76,10 @@ static STREAMS: [StreamPart<'static>; 2] = [
             pace: 3_217_300,
         },
         shared_with: &[],
+        multiplexing: Some(MultiplexingBuffer {
+            rbx: 20_000_000,
+            size: 16_000,
+        }),
     },
 ];
 
@@ -125,9 +131,11 @@ id = 224
 interval = 3600
 lead = 45000
 main = 3766000
+mb = 16000
 pace = 3217300
 pid = 300
 program = 65535
+rbx = 20000000
 rx = 24000000
 size = 200000
 type = 27

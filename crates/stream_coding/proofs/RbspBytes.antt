@@ -1,24 +1,10 @@
--- A search step by step: at the front of the bytes, and after the first of them.
+-- The bytes of a NAL unit without its emulation prevention bytes, step by step: at the front, and after it.
 use Rattle.std.proofs.Common.{◌≡◌, ℕ, zero, suc, ◌-◌, true, false, refl, ap₂, subst, inl, inr, rules, arith, List, [], ◌∷◌, length, take, drop, None, Some}
 use Rattle.std.proofs.lemmas.Bool.{cases_Bool}
 use Rattle.std.proofs.lemmas.Slice.Eq.{bytes_eq-Decides}
 use Rattle.std.specs.List.{slice_get}
 use Rattle.std.specs.Str.{bytes_eq}
-use Rattle.stream_coding.specs.Fields.{field_at_front, found_in, rbsp_bytes}
-use Rattle.stream_coding.specs.declared.fields.Field.{Field}
-
-pub found_here : (f : Field) (bytes rest : List ℕ) (b n : ℕ) → bytes ≡ b ∷ rest → field_at_front f bytes ≡ Some n → found_in f bytes ≡ Some n
-unfolding found_in
-found_here f bytes rest b n is here = rw is (rw (subst (λ (l : List ℕ). field_at_front f l ≡ Some n) is here) refl)
-
-pub found_later : (f : Field) (bytes rest : List ℕ) (b : ℕ) → bytes ≡ b ∷ rest → field_at_front f bytes ≡ None → found_in f bytes ≡ found_in f rest
-unfolding found_in
-found_later f bytes rest b is here = rw is (rw (subst (λ (l : List ℕ). field_at_front f l ≡ None) is here) refl)
-
-pub found_nowhere : (f : Field) (bytes : List ℕ) → length bytes ≡ 0 → found_in f bytes ≡ None
-unfolding found_in
-found_nowhere f [] none = refl
-found_nowhere f (b ∷ bytes) none = absurd cc
+use Rattle.stream_coding.specs.Rbsp.{rbsp_bytes}
 
 -- where 00 00 03 stands at the front, and where it does not
 all_prevented : (a b c : ℕ) → bytes_eq (a ∷ b ∷ c ∷ []) (0 ∷ 0 ∷ 3 ∷ []) ≡ true → (a ∷ b ∷ c ∷ []) ≡ (0 ∷ 0 ∷ 3 ∷ [])

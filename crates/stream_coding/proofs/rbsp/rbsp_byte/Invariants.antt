@@ -1,7 +1,7 @@
 use Rattle.std.proofs.Common.{◌≡◌, length}
 use Rattle.std.specs.List.{slice_get}
-use Rattle.stream_coding.specs.Fields.{rbsp_bytes}
-use Rattle.stream_coding.proofs.fields.rbsp_byte.Given as goal
+use Rattle.stream_coding.specs.Rbsp.{rbsp_bytes}
+use Rattle.stream_coding.proofs.rbsp.rbsp_byte.Given as goal
 
 abbrev pub invariant-loop-first : goal.invariant-loop-first
 invariant-loop-first l = slice_get (rbsp_bytes l.bytes) l.number ≡ slice_get (rbsp_bytes l.left) l.before

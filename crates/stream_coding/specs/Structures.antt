@@ -1,0 +1,62 @@
+-- Where the structures of a coded stream begin that say its level, its video buffer, or how many channels it has.
+use Rattle.std.specs.Prelude.{ℕ, ◌/◌, ◌%◌, ◌==◌, ◌&&◌, nat_lt, if◌then◌else◌, Option, None, Some, List, [], ◌∷◌, take, drop}
+use Rattle.std.specs.Option.{option_and_then, option_or, option_map_or}
+use Rattle.std.specs.Str.{bytes_eq}
+use Rattle.stream_coding.specs.declared.structures.Structure.{Structure}
+use Rattle.stream_coding.specs.declared.structures.Structure.TheVariants.{SequenceHeader, SequenceExtension, AvcParameters, HevcParameters, AdtsHeader}
+
+-- 1. What is at the front of bytes
+
+-- the bytes after a start code prefix, 00 00 01 (ISO/IEC 13818-2, 5.2.3; ISO/IEC 14496-10, annex B)
+unfoldable pub after_start_code : List ℕ → Option (List ℕ)
+after_start_code bytes = if bytes_eq (take 3 bytes) (0 ∷ 0 ∷ 1 ∷ []) then Some (drop 3 bytes) else None
+
+-- of a sequence header (ISO/IEC 13818-2, 6.2.2.1) what follows the start code's value 0xB3
+unfoldable pub sequence_header : List ℕ → Option (List ℕ)
+sequence_header [] = None
+sequence_header (code ∷ rest) = if code == 0xB3 then Some rest else None
+
+-- of a sequence extension (6.2.2.3) what follows the start code's value 0xB5: extension_start_code_identifier, 1 in 4 bits, is the
+-- first of it
+unfoldable pub is_identified : List ℕ → Option (List ℕ)
+is_identified [] = None
+is_identified (first ∷ rest) = if first / 16 == 1 then Some (first ∷ rest) else None
+
+unfoldable pub sequence_extension : List ℕ → Option (List ℕ)
+sequence_extension [] = None
+sequence_extension (code ∷ rest) = if code == 0xB5 then is_identified rest else None
+
+-- of a sequence parameter set (ISO/IEC 14496-10, 7.3.1) what follows the byte of which nal_unit_type, 7, is the last five bits
+unfoldable pub avc_parameters : List ℕ → Option (List ℕ)
+avc_parameters [] = None
+avc_parameters (header ∷ rest) = if header % 32 == 7 then Some rest else None
+
+-- of a sequence parameter set of layer 0 (ISO/IEC 23008-2, 7.3.1.2) what follows two bytes with nal_unit_type 33 and nuh_layer_id 0
+unfoldable pub hevc_parameters : List ℕ → Option (List ℕ)
+hevc_parameters (first ∷ second ∷ rest) = if first == 0x42 && nat_lt second 8 then Some rest else None
+hevc_parameters _ = None
+
+-- of an ADTS header (ISO/IEC 13818-7, 6.2) what follows its first two bytes: the syncword, twelve ones, ID, layer 00, and
+-- protection_absent, which comes with it
+unfoldable pub adts_header : List ℕ → Option (List ℕ)
+adts_header (first ∷ second ∷ rest) = if first == 0xFF && second / 16 == 15 && second / 2 % 4 == 0 then Some (drop 1 (first ∷ second ∷ rest)) else None
+adts_header _ = None
+
+-- what follows the beginning of a structure, where it begins with the first of these bytes
+unfoldable pub at_front : Structure → List ℕ → Option (List ℕ)
+at_front SequenceHeader bytes = option_and_then sequence_header (after_start_code bytes)
+at_front SequenceExtension bytes = option_and_then sequence_extension (after_start_code bytes)
+at_front AvcParameters bytes = option_and_then avc_parameters (after_start_code bytes)
+at_front HevcParameters bytes = option_and_then hevc_parameters (after_start_code bytes)
+at_front AdtsHeader bytes = adts_header bytes
+
+-- 2. What is found in a unit
+
+-- at the first place at which a structure begins
+unfoldable pub found_in : Structure → List ℕ → Option (List ℕ)
+found_in structure [] = None
+found_in structure (b ∷ bs) = option_or (at_front structure (b ∷ bs)) (found_in structure bs)
+
+-- no bytes where it begins nowhere
+abbrev pub bytes_of : Structure → List ℕ → List ℕ
+bytes_of structure unit = option_map_or (λ bytes. bytes) (found_in structure unit) []

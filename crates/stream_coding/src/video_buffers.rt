@@ -1,0 +1,246 @@
+//! The buffers that a decoder has for video (ISO/IEC 13818-1, 2.4.2.3).
+
+ghost use Rattle.std.specs.Prelude.{◌≡◌, ◌≤◌};
+ghost use Rattle.stream_coding.specs.Video as spec;
+
+use crate::coding::{AvcSequence, Coding, HevcSequence, MpegSequence};
+
+/// Rx and Rbx, out of the transport buffer and out of the multiplexing buffer, in bits a second; EBS and MBS, the
+/// elementary stream buffer and the multiplexing buffer, in bits.
+#[derive(Clone, Copy)]
+pub(crate) struct VideoBuffers {
+    pub rx: u32,
+    pub ebs: u32,
+    pub rbx: u32,
+    pub mbs: u32,
+}
+
+// Rmax and VBVmax of a level, in bits.
+#[tactic(auto, unfolding(crate::specs::Video::mpeg_limits))]
+fn mpeg_limits(level: u8) -> (u32, u32)
+    ensures value { result ≡ spec.mpeg_limits level }
+    ensures rate { result.0 ≤ 80000000 }
+    ensures size { result.1 ≤ 9781248 }
+{
+    match level {
+        10 => (4_000_000, 475_136),
+        6 => (60_000_000, 7_340_032),
+        4 => (80_000_000, 9_781_248),
+        _ => (15_000_000, 1_835_008),
+    }
+}
+
+// MaxBR and MaxCPB of a level.
+#[tactic(auto, unfolding(crate::specs::Video::avc_limits))]
+fn avc_limits(level: u8) -> (u32, u32)
+    ensures value { result ≡ spec.avc_limits level }
+    ensures rate { result.0 ≤ 800000 }
+    ensures size { result.1 ≤ 800000 }
+{
+    match level {
+        10 => (64, 175),
+        9 => (128, 350),
+        11 => (192, 500),
+        12 => (384, 1_000),
+        13 => (768, 2_000),
+        20 => (2_000, 2_000),
+        21 => (4_000, 4_000),
+        22 => (4_000, 4_000),
+        30 => (10_000, 10_000),
+        31 => (14_000, 14_000),
+        32 => (20_000, 20_000),
+        41 => (50_000, 62_500),
+        42 => (50_000, 62_500),
+        50 => (135_000, 135_000),
+        51 => (240_000, 240_000),
+        52 => (240_000, 240_000),
+        60 => (240_000, 240_000),
+        61 => (480_000, 480_000),
+        62 => (800_000, 800_000),
+        _ => (20_000, 25_000),
+    }
+}
+
+// The same in the high tier of ISO/IEC 23008-2.
+#[tactic(auto, unfolding(crate::specs::Video::high_tier_limits))]
+fn high_tier_limits(level: u8) -> (u32, u32)
+    ensures value { result ≡ spec.high_tier_limits level }
+    ensures rate { result.0 ≤ 800000 }
+    ensures size { result.1 ≤ 800000 }
+{
+    match level {
+        123 => (50_000, 50_000),
+        150 => (100_000, 100_000),
+        153 => (160_000, 160_000),
+        156 => (240_000, 240_000),
+        180 => (240_000, 240_000),
+        183 => (480_000, 480_000),
+        186 => (800_000, 800_000),
+        _ => (30_000, 30_000),
+    }
+}
+
+// The same in the main tier.
+#[tactic(auto, unfolding(crate::specs::Video::main_tier_limits))]
+fn main_tier_limits(level: u8) -> (u32, u32)
+    ensures value { result ≡ spec.main_tier_limits level }
+    ensures rate { result.0 ≤ 240000 }
+    ensures size { result.1 ≤ 240000 }
+{
+    match level {
+        30 => (128, 350),
+        60 => (1_500, 1_500),
+        63 => (3_000, 3_000),
+        90 => (6_000, 6_000),
+        93 => (10_000, 10_000),
+        123 => (20_000, 20_000),
+        150 => (25_000, 25_000),
+        153 => (40_000, 40_000),
+        156 => (60_000, 60_000),
+        180 => (60_000, 60_000),
+        183 => (120_000, 120_000),
+        186 => (240_000, 240_000),
+        _ => (12_000, 12_000),
+    }
+}
+
+// By level and tier.
+#[tactic(auto, unfolding(crate::specs::Video::hevc_limits))]
+fn hevc_limits(sequence: HevcSequence) -> (u32, u32)
+    ensures value { result ≡ spec.hevc_limits sequence }
+    ensures rate { result.0 ≤ 800000 }
+    ensures size { result.1 ≤ 800000 }
+{
+    let level = sequence.level;
+    if sequence.high_tier && (level >= 120 || level == 0) {
+        high_tier_limits(level)
+    } else {
+        main_tier_limits(level)
+    }
+}
+
+// The bits of 4 ms for multiplexing and of a 750th of a second for headers.
+fn mux_bits(rate: u32) -> u32
+    requires { rate ≤ 960000000 }
+    ensures value { result ≡ spec.mux_bits rate }
+    ensures bound { result ≤ 5120000 }
+{
+    4 * rate / 1000 + rate / 750
+}
+
+// What is said, at most the greatest; that where nothing is said.
+#[tactic(auto, unfolding(crate::specs::Video::said_or_greatest))]
+fn said_or_greatest(said: u64, greatest: u32) -> u32
+    ensures value { result ≡ spec.said_or_greatest said greatest }
+    ensures bound { result ≤ greatest }
+{
+    if said == 0 {
+        greatest
+    } else {
+        said.min(u64::from(greatest)) as u32
+    }
+}
+
+// What is left of a level's video buffer, with the bits for multiplexing and headers.
+fn shared_mbs(rate: u32, greatest: u32, ebs: u32) -> u32
+    requires rate { rate ≤ 960000000 }
+    requires greatest { greatest ≤ 960000000 }
+    requires ebs { ebs ≤ greatest }
+    ensures { result ≡ spec.shared_mbs rate greatest ebs }
+{
+    mux_bits(rate) + (greatest - ebs)
+}
+
+#[tactic(auto, unfolding(crate::specs::Video::is_high))]
+fn is_high(level: u8) -> bool
+    ensures { result ≡ spec.is_high level }
+{
+    level == 6 || level == 4
+}
+
+#[tactic(auto, unfolding(crate::specs::Video::mpeg_rbx))]
+fn mpeg_rbx(sequence: MpegSequence) -> u32
+    ensures { result ≡ spec.mpeg_rbx sequence }
+{
+    let (rate, _) = mpeg_limits(sequence.level);
+    if is_high(sequence.level) {
+        said_or_greatest(420 * u64::from(sequence.bit_rate), rate)
+    } else {
+        rate
+    }
+}
+
+fn mpeg_ebs(sequence: MpegSequence) -> u32
+    ensures value { result ≡ spec.mpeg_ebs sequence }
+{
+    let (_, greatest) = mpeg_limits(sequence.level);
+    said_or_greatest(16_384 * u64::from(sequence.vbv_buffer_size), greatest)
+}
+
+#[tactic(auto, unfolding(crate::specs::Video::mpeg_mbs))]
+fn mpeg_mbs(sequence: MpegSequence) -> u32
+    ensures { result ≡ spec.mpeg_mbs sequence }
+{
+    let (rate, greatest) = mpeg_limits(sequence.level);
+    if is_high(sequence.level) {
+        mux_bits(rate)
+    } else {
+        let ebs = said_or_greatest(16_384 * u64::from(sequence.vbv_buffer_size), greatest);
+        shared_mbs(rate, greatest, ebs)
+    }
+}
+
+pub(crate) fn mpeg_buffers(sequence: MpegSequence) -> VideoBuffers
+    ensures { result ≡ spec.mpeg_buffers sequence }
+{
+    let (rate, _) = mpeg_limits(sequence.level);
+    VideoBuffers {
+        rx: rate * 12 / 10,
+        ebs: mpeg_ebs(sequence),
+        rbx: mpeg_rbx(sequence),
+        mbs: mpeg_mbs(sequence),
+    }
+}
+
+// By a level's rate and its buffer in bits, and the buffer that is said.
+fn level_buffers(rate: u32, greatest: u32, said: u64) -> VideoBuffers
+    requires rate { rate ≤ 960000000 }
+    requires greatest { greatest ≤ 960000000 }
+    ensures { result ≡ spec.level_buffers rate greatest said }
+{
+    let rate = if rate < 2_000_000 { 2_000_000 } else { rate };
+    let ebs = said_or_greatest(said, greatest);
+    VideoBuffers {
+        rx: rate,
+        ebs,
+        rbx: rate,
+        mbs: shared_mbs(rate, greatest, ebs),
+    }
+}
+
+pub(crate) fn avc_buffers(sequence: AvcSequence) -> VideoBuffers
+    ensures { result ≡ spec.avc_buffers sequence }
+{
+    let (rate, size) = avc_limits(sequence.level);
+    level_buffers(1_200 * rate, 1_200 * size, sequence.cpb_size)
+}
+
+pub(crate) fn hevc_buffers(sequence: HevcSequence) -> VideoBuffers
+    ensures { result ≡ spec.hevc_buffers sequence }
+{
+    let (rate, size) = hevc_limits(sequence);
+    level_buffers(1_100 * rate, 1_100 * size, 0)
+}
+
+/// The buffers of a stream of this coding, if it is of video.
+#[tactic(auto, unfolding(crate::specs::Video::video_buffers))]
+pub(crate) fn video_buffers(coding: Coding) -> Option<VideoBuffers>
+    ensures { result ≡ spec.video_buffers coding }
+{
+    match coding {
+        Coding::Mpeg(sequence) => Some(mpeg_buffers(sequence)),
+        Coding::Avc(sequence) => Some(avc_buffers(sequence)),
+        Coding::Hevc(sequence) => Some(hevc_buffers(sequence)),
+        _ => None,
+    }
+}
