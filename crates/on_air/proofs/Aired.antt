@@ -1,5 +1,5 @@
 -- What a record, and the end, leave of a run.
-use Rattle.std.proofs.Common.{◌≡◌, ℕ, ◌+◌, max, Bool, List, [], Option, Some, None, sym, ap, ◌∙◌, subst}
+use Rattle.std.proofs.Common.{◌≡◌, ℕ, ◌+◌, ◌&&◌, nat_lt, max, Bool, List, [], Option, Some, None, sym, ap, ◌∙◌, subst}
 use Rattle.description.specs.Ranges.{IsInRange}
 use Rattle.plan_timing.specs.Promised.{Promised}
 use Rattle.pes_packet.specs.AccessUnits.{AccessUnit}
@@ -13,9 +13,11 @@ use Rattle.mux_core.specs.Histories.{bytes_of, content_at, empty_history}
 use Rattle.mux_core.specs.MuxStates.{MuxState}
 use Rattle.mux_core.specs.WholeJobs.{job_history, run_output, output_of}
 use Rattle.mux_core.proofs.Accepted.{standing}
+use Rattle.on_air.specs.declared.leap.Leap.{Leap}
 use Rattle.on_air.specs.declared.options.Terms.{Terms}
 use Rattle.on_air.specs.declared.refusals.AirRefusal.{AirRefusal}
-use Rattle.on_air.specs.Airing.{Run, Air, silence, job_of, air_output, lead_of, limit_of, settled, settled_at, last_of, last_at, on_to, air_cause, accepted_by, aired_by, aired, ended}
+use Rattle.on_air.specs.Airing.{Run, Air, silence, job_of, air_output, lead_of, limit_of, settled, settled_at, last_of, last_at, on_to, air_cause, accepted_by, aired_by, aired, ended, is_far_from, leap_by, is_ahead}
+use Rattle.on_air.specs.Leaps.{is_far, leap_after, leap_records, no_leap}
 use Rattle.on_air.specs.AirStates.{AirState, Carries, with_slots, WroteOn, Promises, Admits, IsOnAir, run_with}
 use Rattle.on_air.specs.Hearing.{Fails}
 
@@ -35,9 +37,10 @@ pub record Moves (old new : AirState) : Type 0 where
 
 -- a record was refused
 refused_by : (run : Run) (a : Air) (entry : ℕ × AccessUnit) (cause : AirRefusal) (start now : Option (List ℕ)) (old new : AirState) → IsOnAir run a start now old → Moves old new →
-    new.packets ≡ old.packets → new.greatest ≡ old.greatest → new.records ≡ old.records + 1 → Carries run (job_of a) new.mux → IsOnAir run (aired_by run a entry (Some cause)) start now new
+    new.packets ≡ old.packets → new.greatest ≡ old.greatest → new.leap ≡ leap_by run a entry → new.records ≡ old.records + 1 → Carries run (job_of a) new.mux →
+    IsOnAir run (aired_by run a entry (Some cause)) start now new
 unfolding aired_by
-refused_by run a entry cause start now old new h moves packets greatest records mux = record {
+refused_by run a entry cause start now old new h moves packets greatest leap records mux = record {
   mux = mux;
   promises = h.promises;
   terms = moves.terms ∙ h.terms;
@@ -45,19 +48,20 @@ refused_by run a entry cause start now old new h moves packets greatest records 
   rate = moves.rate ∙ h.rate;
   lead = moves.lead ∙ h.lead;
   greatest = greatest ∙ h.greatest;
+  leap = leap;
   records = records ∙ ap (λ (n : ℕ). n + 1) h.records;
   output = subst (λ (p : Buffered). IsOutput start now p (air_output run a)) (sym packets) h.output;
   headline = h.headline;
 }
 
 pub refused_on : (run : Run) (a : Air) (entry : ℕ × AccessUnit) (cause : AirRefusal) (start now : Option (List ℕ)) (old new : AirState) → IsOnAir run a start now old → Moves old new →
-    new.packets ≡ old.packets → new.greatest ≡ old.greatest → new.records ≡ old.records + 1 → Admits run a entry (Some cause) new.mux →
+    new.packets ≡ old.packets → new.greatest ≡ old.greatest → new.leap ≡ leap_by run a entry → new.records ≡ old.records + 1 → Admits run a entry (Some cause) new.mux →
     (air_cause run a entry ≡ Some cause) × IsOnAir run (aired run a entry) start now new
 unfolding accepted_by
-refused_on run a entry cause start now old new h moves packets greatest records admits = (
+refused_on run a entry cause start now old new h moves packets greatest leap records admits = (
   sym admits.cause,
   subst (λ (o : Option AirRefusal). IsOnAir run (aired_by run a entry o) start now new) admits.cause
-      (refused_by run a entry cause start now old new h moves packets greatest records admits.mux),
+      (refused_by run a entry cause start now old new h moves packets greatest leap records admits.mux),
 )
 
 -- what is written before the slots that a record settles
@@ -71,11 +75,12 @@ admitted_output run a entry refused m start now old hex packets h same like admi
 
 -- a record was taken, and the slots that it settles were written
 taken_by : (run : Run) (a : Air) (entry : ℕ × AccessUnit) (hex : Bool) (start now later : Option (List ℕ)) (m : MuxState) (old new : AirState) → IsOnAir run a start now old → Moves old new →
-    hex ≡ old.packets.hex → new.greatest ≡ max old.greatest entry.1.dts → new.records ≡ old.records + 1 → Carries run (job_history (accepted_by a entry None) a.slots) m →
+    hex ≡ old.packets.hex → new.greatest ≡ max old.greatest entry.1.dts → new.leap ≡ leap_by run a entry → new.records ≡ old.records + 1 →
+    Carries run (job_history (accepted_by a entry None) a.slots) m →
     WroteOn run (with_slots (job_history (accepted_by a entry None) a.slots) (on_to a.slots (settled_at run entry.1.dts))) hex start later new.mux new.packets →
     IsOnAir run (aired_by run a entry None) start later new
 unfolding aired_by
-taken_by run a entry hex start now later m old new h moves like greatest records mux wrote =
+taken_by run a entry hex start now later m old new h moves like greatest leap records mux wrote =
     let slots = on_to a.slots (settled_at run entry.1.dts) in
     record {
       mux = wrote.mux;
@@ -85,19 +90,20 @@ taken_by run a entry hex start now later m old new h moves like greatest records
       rate = moves.rate ∙ h.rate;
       lead = moves.lead ∙ h.lead;
       greatest = greatest ∙ ap (λ (n : ℕ). max n entry.1.dts) h.greatest;
+      leap = leap;
       records = records ∙ ap (λ (n : ℕ). n + 1) h.records;
       output = subst (λ (b : Bool). IsOutput start later new.packets (output_of b run.scheduled (job_history (accepted_by a entry None) slots))) (like ∙ h.hex) wrote.output;
       headline = keeps run (accepted_by a entry None) a.slots slots m h.promises mux;
     }
 
 pub taken_on : (run : Run) (a : Air) (entry : ℕ × AccessUnit) (target : ℕ) (hex : Bool) (start now later : Option (List ℕ)) (m : MuxState) (old new : AirState) → IsOnAir run a start now old → Moves old new →
-    hex ≡ old.packets.hex → new.greatest ≡ max old.greatest entry.1.dts → new.records ≡ old.records + 1 → Admits run a entry None m → target ≡ settled_at run entry.1.dts →
+    hex ≡ old.packets.hex → new.greatest ≡ max old.greatest entry.1.dts → new.leap ≡ leap_by run a entry → new.records ≡ old.records + 1 → Admits run a entry None m → target ≡ settled_at run entry.1.dts →
     WroteOn run (with_slots (job_history (accepted_by a entry None) a.slots) (on_to a.slots target)) hex start later new.mux new.packets →
     (air_cause run a entry ≡ None) × IsOnAir run (aired run a entry) start later new
-taken_on run a entry target hex start now later m old new h moves like greatest records admits is wrote = (
+taken_on run a entry target hex start now later m old new h moves like greatest leap records admits is wrote = (
   sym admits.cause,
   subst (λ (o : Option AirRefusal). IsOnAir run (aired_by run a entry o) start later new) admits.cause
-      (taken_by run a entry hex start now later m old new h moves like greatest records admits.mux
+      (taken_by run a entry hex start now later m old new h moves like greatest leap records admits.mux
       (subst (λ (n : ℕ). WroteOn run (with_slots (job_history (accepted_by a entry None) a.slots) (on_to a.slots n)) hex start later new.mux new.packets) is wrote)),
 )
 
@@ -124,8 +130,8 @@ fails_on run a entry target sent hex start now later m old h like admits is took
 
 -- what waited was written
 pub flushed : (run : Run) (a : Air) (start now later : Option (List ℕ)) (old new : AirState) → IsOnAir run a start now old → Moves old new → new.mux ≡ old.mux →
-    new.packets.hex ≡ old.packets.hex → new.greatest ≡ old.greatest → new.records ≡ old.records → IsOutput start later new.packets (air_output run a) → IsOnAir run a start later new
-flushed run a start now later old new h moves mux hex greatest records output = record {
+    new.packets.hex ≡ old.packets.hex → new.greatest ≡ old.greatest → new.leap ≡ old.leap → new.records ≡ old.records → IsOutput start later new.packets (air_output run a) → IsOnAir run a start later new
+flushed run a start now later old new h moves mux hex greatest leap records output = record {
   mux = subst (λ (m : MuxState). Carries run (job_of a) m) (sym mux) h.mux;
   promises = h.promises;
   terms = moves.terms ∙ h.terms;
@@ -133,6 +139,7 @@ flushed run a start now later old new h moves mux hex greatest records output = 
   rate = moves.rate ∙ h.rate;
   lead = moves.lead ∙ h.lead;
   greatest = greatest ∙ h.greatest;
+  leap = leap ∙ h.leap;
   records = records ∙ h.records;
   output = output;
   headline = h.headline;
@@ -151,9 +158,9 @@ end_output run a start now old packets h same =
     (subst (λ (b : Bool). IsOutput start now old.packets (output_of b run.scheduled (job_of a))) (sym h.hex) h.output)
 
 pub ended_on : (run : Run) (a : Air) (target : ℕ) (hex : Bool) (start now later : Option (List ℕ)) (old new : AirState) → IsOnAir run a start now old → Moves old new →
-    hex ≡ old.packets.hex → new.greatest ≡ old.greatest → new.records ≡ old.records → target ≡ last_at run a.greatest →
+    hex ≡ old.packets.hex → new.greatest ≡ old.greatest → new.leap ≡ old.leap → new.records ≡ old.records → target ≡ last_at run a.greatest →
     WroteOn run (with_slots (job_of a) (on_to a.slots target)) hex start later new.mux new.packets → IsOnAir run (ended run a) start later new
-ended_on run a target hex start now later old new h moves like greatest records is w =
+ended_on run a target hex start now later old new h moves like greatest leap records is w =
     let wrote = subst (λ (n : ℕ). WroteOn run (with_slots (job_of a) (on_to a.slots n)) hex start later new.mux new.packets) is w in
     record {
       mux = wrote.mux;
@@ -163,6 +170,7 @@ ended_on run a target hex start now later old new h moves like greatest records 
       rate = moves.rate ∙ h.rate;
       lead = moves.lead ∙ h.lead;
       greatest = greatest ∙ h.greatest;
+      leap = leap ∙ h.leap;
       records = records ∙ h.records;
       output = subst (λ (b : Bool). IsOutput start later new.packets (output_of b run.scheduled (job_of (ended run a)))) (like ∙ h.hex) wrote.output;
       headline = keeps run a.accepted a.slots (ended run a).slots old.mux h.promises h.mux;
@@ -193,12 +201,30 @@ settled_same run a start now old rate lead limit due dts terms h r l t m e =
     ∙ ap (λ (n : ℕ). settled run.scheduled.description.rate (lead_of run) n due) (m ∙ ap (λ (x : Terms). limit_of x) (t ∙ h.terms))
     ∙ ap (λ (n : ℕ). settled run.scheduled.description.rate (lead_of run) (limit_of run.terms) n) e
 
+-- the records that leap, with one more, and whether it is refused for being ahead
+pub leap_same : (run : Run) (a : Air) (entry : ℕ × AccessUnit) (start now : Option (List ℕ)) (old : AirState) (far : Bool) (leap before : Leap) (ahead greatest due : ℕ) →
+    IsOnAir run a start now old → ahead ≡ old.terms.ahead → greatest ≡ old.greatest → before ≡ old.leap → due ≡ entry.1.dts → far ≡ is_far ahead greatest due →
+    leap ≡ leap_after far ahead before due → (leap ≡ leap_by run a entry) × (far ≡ is_far_from run a entry)
+leap_same run a entry start now old far leap before ahead greatest due h s g b d is after =
+    let terms : ahead ≡ run.terms.ahead = s ∙ ap (λ (t : Terms). t.ahead) h.terms in
+    let distance : far ≡ is_far_from run a entry =
+    is ∙ ap (λ (n : ℕ). is_far n greatest due) terms ∙ ap (λ (n : ℕ). is_far run.terms.ahead n due) (g ∙ h.greatest) ∙ ap (λ (n : ℕ). is_far run.terms.ahead a.greatest n) d in (
+      after ∙ ap (λ (f : Bool). leap_after f ahead before due) distance ∙ ap (λ (n : ℕ). leap_after (is_far_from run a entry) n before due) terms
+          ∙ ap (λ (l : Leap). leap_after (is_far_from run a entry) run.terms.ahead l due) (b ∙ h.leap) ∙ ap (λ (n : ℕ). leap_after (is_far_from run a entry) run.terms.ahead a.leap n) d,
+      distance,
+    )
+
+pub ahead_same : (run : Run) (a : Air) (entry : ℕ × AccessUnit) (far held : Bool) (leap : Leap) → leap ≡ leap_by run a entry → far ≡ is_far_from run a entry →
+    held ≡ (far && nat_lt leap.records leap_records) → held ≡ is_ahead run a entry
+ahead_same run a entry far held leap same distance is =
+    is ∙ ap (λ (f : Bool). f && nat_lt leap.records leap_records) distance ∙ ap (λ (l : Leap). is_far_from run a entry && nat_lt l.records leap_records) same
+
 -- before the first record
 pub begins : (d : Scheduled) (terms : Terms) (hex : Bool) (start : Option (List ℕ)) (s : AirState) → Carries (run_with d terms hex) empty_history s.mux → Promises d →
     waiting_of s.packets ≡ [] → s.packets.sent ≡ 0 → s.packets.hex ≡ hex → s.terms ≡ terms → s.rate ≡ d.description.rate → s.lead ≡ lead_of (run_with d terms hex) →
-    s.greatest ≡ 0 → s.records ≡ 0 → IsOnAir (run_with d terms hex) silence start start s
+    s.greatest ≡ 0 → s.leap ≡ no_leap → s.records ≡ 0 → IsOnAir (run_with d terms hex) silence start start s
 unfolding run_output
-begins d terms hex start s carries promises none unsent same t r l g n = record {
+begins d terms hex start s carries promises none unsent same t r l g leap n = record {
   mux = carries;
   promises = promises;
   terms = t;
@@ -206,6 +232,7 @@ begins d terms hex start s carries promises none unsent same t r l g n = record 
   rate = r;
   lead = l;
   greatest = g;
+  leap = leap;
   records = n;
   output = holds_none start s.packets none unsent;
   headline = keeps (run_with d terms hex) [] 0 0 s.mux promises carries;

@@ -1,5 +1,5 @@
 -- What one record after another leaves of a run and of its input.
-use Rattle.std.proofs.Common.{◌≡◌, ℕ, suc, List, [], ◌∷◌, ◌++◌, Option, Some, None, Result, Ok, Err, refl, sym, ap, ◌∙◌, subst}
+use Rattle.std.proofs.Common.{◌≡◌, ◌<◌, ℕ, suc, List, [], ◌∷◌, ◌++◌, Option, Some, None, Result, Ok, Err, refl, sym, ap, ◌∙◌, subst, below_more, arith}
 use Rattle.pes_packet.specs.AccessUnits.{AccessUnit}
 use Rattle.unit_records.specs.Records.{record_at}
 use Rattle.unit_records.specs.declared.reading.UnitFileError.{UnitFileError}
@@ -9,13 +9,18 @@ use Rattle.packet_output.specs.declared.output.OutputFault.{OutputFault}
 use Rattle.on_air.specs.declared.answers.Heard.{Heard}
 use Rattle.on_air.specs.declared.answers.Heard.TheVariants.{Taken, Refused, Ended}
 use Rattle.on_air.specs.declared.answers.Ending.{Ending}
-use Rattle.on_air.specs.Airing.{Run, Air, air_cause, aired_by, aired, with_record, heard}
+use Rattle.on_air.specs.Airing.{Run, Air, air_cause, aired_by, aired, with_record, heard, limit_of}
 use Rattle.on_air.specs.AirStates.{AirState, IsOnAir}
-use Rattle.on_air.specs.Hearing.{HearsRecord, Hears, HasHeard, HearsOn, NamesDevice}
+use Rattle.on_air.specs.Hearing.{HearsRecord, Hears, HasHeard, HasSlotsLeft, HearsOn, NamesDevice}
 
 with_one : (run : Run) (a : Air) (found : Result (Option (ℕ × AccessUnit)) UnitFileError) (entry : ℕ × AccessUnit) → found ≡ Ok (Some entry) → aired run a entry ≡ with_record run found a
 unfolding with_record
 with_one run a found entry is = rw is refl
+
+-- slots were left before each of n records, and before the next
+slots_more : (run : Run) (n : ℕ) (a : Air) (xs : List ℕ) → a ≡ heard run n xs → a.slots < limit_of run.terms → HasSlotsLeft run n xs → HasSlotsLeft run (suc n) xs
+slots_more run n a xs is left before m less =
+    below_more (λ i. (heard run i xs).slots < limit_of run.terms) n before (subst (λ (b : Air). b.slots < limit_of run.terms) is left) m (omega (arith, less))
 
 -- one record more
 pub one_more : (run : Run) (n : ℕ) (a : Air) (origin old left : Option (List ℕ)) (refused : Option AirRefusal) (h : HearsRecord run a old left refused) → HasHeard run n a origin old →
@@ -24,7 +29,7 @@ unfolding heard after_records
 one_more run n a origin old left refused h has xs is =
     let before = has xs is in
     let read = h.known (after_records n xs) before.1 in
-    (with_one run a (record_at (after_records n xs)) h.entry read.0 ∙ ap (with_record run (record_at (after_records n xs))) before.0, read.1)
+    (with_one run a (record_at (after_records n xs)) h.entry read.0 ∙ ap (with_record run (record_at (after_records n xs))) before.0, read.1, slots_more run n a xs before.0 h.slots_left before.2)
 
 -- a record that is taken adds no refusal, and one that is refused its own
 pub taken_adds : (run : Run) (a : Air) (entry : ℕ × AccessUnit) (refused : Option AirRefusal) → refused ≡ None → (aired_by run a entry refused).refused ≡ a.refused

@@ -7,3 +7,4 @@ pub mod InOrder
 pub mod Aired
 pub mod HeardRecords
 pub mod FirstStates
+pub mod Leaping

@@ -16,12 +16,13 @@ use Rattle.mux_core.specs.declared.done.NewError.{NewError}
 use Rattle.mux_core.specs.declared.done.NewError.TheVariants.{Periods}
 use Rattle.mux_core.specs.Scheduled.{Scheduled}
 use Rattle.mux_core.specs.WholeJobs.{job_history, output_of, plan_schedule, switch_schedule}
+use Rattle.on_air.specs.declared.leap.Leap.{Leap}
 use Rattle.on_air.specs.declared.options.Terms.{Terms}
 use Rattle.on_air.specs.declared.refusals.AirRefusal.{AirRefusal}
 use Rattle.on_air.specs.Airing.{Run, Air, job_of, air_output, lead_of, greatest_lead, room_of, air_cause, accepted_by}
 
--- the multiplexer, the packets that wait to be written, the terms, the rate and the lead by which slots are settled, the greatest DTS taken
--- and the number of records heard
+-- the multiplexer, the packets that wait to be written, the terms, the rate and the lead by which slots are settled, the greatest DTS taken,
+-- the records that leap and the number of records heard
 pub record AirState : Type 0 where
   pub mux : MuxState
   pub packets : Buffered
@@ -29,6 +30,7 @@ pub record AirState : Type 0 where
   pub rate : ℕ
   pub lead : ℕ
   pub greatest : ℕ
+  pub leap : Leap
   pub records : ℕ
 
 -- a multiplexer of this run stands for a history
@@ -72,6 +74,7 @@ pub record IsOnAir (run : Run) (a : Air) (start now : Option (List ℕ)) (s : Ai
   pub rate : s.rate ≡ run.scheduled.description.rate
   pub lead : s.lead ≡ lead_of run
   pub greatest : s.greatest ≡ a.greatest
+  pub leap : s.leap ≡ a.leap
   pub records : s.records ≡ a.records
   pub output : IsOutput start now s.packets (air_output run a)
   pub headline : KeepsHeadline run a

@@ -13,9 +13,11 @@ use Rattle.mux_core.specs.Scheduled.{Scheduled}
 use Rattle.mux_core.specs.Histories.{History}
 use Rattle.mux_core.specs.MuxStates.{feed_cause}
 use Rattle.mux_core.specs.WholeJobs.{job_history, output_of}
+use Rattle.on_air.specs.declared.leap.Leap.{Leap}
 use Rattle.on_air.specs.declared.options.Terms.{Terms}
 use Rattle.on_air.specs.declared.refusals.AirRefusal.{AirRefusal}
 use Rattle.on_air.specs.declared.refusals.AirRefusal.TheVariants.{Feed, Ahead}
+use Rattle.on_air.specs.Leaps.{is_far, leap_after, leap_records, no_leap}
 
 -- what is aired, the number of units of a stream that may wait, the terms, and whether packets leave as lines of digits
 pub record Run : Type 0 where
@@ -25,16 +27,18 @@ pub record Run : Type 0 where
   pub hex : Bool
 
 -- how far a run has come: the units accepted, each with the number of its stream, in order; the number of slots written; the greatest DTS
--- taken, in units of 90 kHz; the number of records heard; the numbers of those that were refused, and why
+-- taken, in units of 90 kHz; the records that leap, up to the last one heard; the number of records heard; the numbers of those that
+-- were refused, and why
 pub record Air : Type 0 where
   pub accepted : List (ℕ × AccessUnit)
   pub slots : ℕ
   pub greatest : ℕ
+  pub leap : Leap
   pub records : ℕ
   pub refused : List (ℕ × AirRefusal)
 
 abbrev pub silence : Air
-silence = record { accepted = []; slots = 0; greatest = 0; records = 0; refused = [] }
+silence = record { accepted = []; slots = 0; greatest = 0; leap = no_leap; records = 0; refused = [] }
 
 -- as a history of the multiplexer, and its output
 abbrev pub job_of : Air → History
@@ -93,8 +97,16 @@ abbrev pub is_tick : ℕ × AccessUnit → Bool
 is_tick entry = (entry.0 == 255) && (length entry.1.bytes == 0)
 
 -- its DTS lies further after the greatest so far than the terms allow
+abbrev pub is_far_from : Run → Air → ℕ × AccessUnit → Bool
+is_far_from run a entry = is_far run.terms.ahead a.greatest entry.1.dts
+
+-- the records that leap, with this one
+abbrev pub leap_by : Run → Air → ℕ × AccessUnit → Leap
+leap_by run a entry = leap_after (is_far_from run a entry) run.terms.ahead a.leap entry.1.dts
+
+-- it lies further ahead than the terms allow, and too few records before it leapt as far
 abbrev pub is_ahead : Run → Air → ℕ × AccessUnit → Bool
-is_ahead run a entry = nat_lt run.terms.ahead (entry.1.dts - a.greatest)
+is_ahead run a entry = is_far_from run a entry && nat_lt (leap_by run a entry).records leap_records
 
 -- why the multiplexer refuses its unit
 abbrev pub unit_refusal : Run → Air → ℕ × AccessUnit → Option FeedError
@@ -109,12 +121,13 @@ unfoldable pub accepted_by : Air → ℕ × AccessUnit → Option AirRefusal →
 accepted_by a entry (Some cause) = a.accepted
 accepted_by a entry None = cond (is_tick entry) a.accepted (a.accepted ++ entry ∷ [])
 
--- a record that is refused moves nothing; else the slots that are settled by its DTS are written
+-- a record that is refused moves no slot; else the slots that are settled by its DTS are written
 unfoldable pub aired_by : Run → Air → ℕ × AccessUnit → Option AirRefusal → Air
 aired_by run a entry (Some cause) = record {
   accepted = a.accepted;
   slots = a.slots;
   greatest = a.greatest;
+  leap = leap_by run a entry;
   records = a.records + 1;
   refused = a.refused ++ (a.records, cause) ∷ [];
 }
@@ -122,6 +135,7 @@ aired_by run a entry None = record {
   accepted = accepted_by a entry None;
   slots = on_to a.slots (settled_at run entry.1.dts);
   greatest = max a.greatest entry.1.dts;
+  leap = leap_by run a entry;
   records = a.records + 1;
   refused = a.refused;
 }
@@ -148,6 +162,7 @@ ended run a = record {
   accepted = a.accepted;
   slots = on_to a.slots (last_at run a.greatest);
   greatest = a.greatest;
+  leap = a.leap;
   records = a.records;
   refused = a.refused;
 }

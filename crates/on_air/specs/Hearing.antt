@@ -20,8 +20,9 @@ pub record Fails (run : Run) (a : Air) (start now : Option (List ℕ)) (sent : �
   pub took : Took start now sent (air_output run a)
   pub headline : KeepsHeadline run a
 
--- a record was heard, and judged; where the bytes of the input are known, it is the one at their front
+-- a record was heard, of a run that had not all its slots, and judged; where the bytes of the input are known, it is the one at their front
 pub record HearsRecord (run : Run) (a : Air) (old left : Option (List ℕ)) (refused : Option AirRefusal) : Type 0 where
+  pub slots_left : a.slots < limit_of run.terms
   pub entry : ℕ × AccessUnit
   pub cause : air_cause run a entry ≡ refused
   pub known : (xs : List ℕ) → old ≡ Some xs → ReadsRecord xs left (Ok (Some entry))
@@ -79,9 +80,13 @@ NamesDevice (Err fault) read0 read1 written0 written1 = (read1 ≡ read0) × Fai
 
 -- ---- records up to one that is to be told
 
--- the run has heard n records of an input that had the bytes `origin` at the run's beginning
+-- before each of n records the run had not all its slots
+abbrev pub HasSlotsLeft : Run → ℕ → List ℕ → Type 0
+HasSlotsLeft run n xs = (m : ℕ) → m < n → (heard run m xs).slots < limit_of run.terms
+
+-- the run has heard n records of an input that had the bytes `origin` at the run's beginning, and none after its last slot
 abbrev pub HasHeard : Run → ℕ → Air → Option (List ℕ) → Option (List ℕ) → Type 0
-HasHeard run n a origin left = (xs : List ℕ) → origin ≡ Some xs → (a ≡ heard run n xs) × (left ≡ Some (after_records n xs))
+HasHeard run n a origin left = (xs : List ℕ) → origin ≡ Some xs → (a ≡ heard run n xs) × (left ≡ Some (after_records n xs)) × HasSlotsLeft run n xs
 
 -- a number of records was heard, and the run has come as far as `b`
 pub record HeardOn (run : Run) (origin left : Option (List ℕ)) (b : Air) : Type 0 where

@@ -1,5 +1,5 @@
 -- What the laws of this crate say.
-use Rattle.std.specs.Prelude.{◌≡◌, ◌≤◌, ◌+◌, ℕ, zero, suc, max, not, false, List, [], ◌∷◌, ◌++◌, fold, Option, Some, None, Result, Ok, Err}
+use Rattle.std.specs.Prelude.{◌≡◌, ◌≤◌, ◌<◌, ⊤, length, ◌+◌, ℕ, zero, suc, max, not, true, false, List, [], ◌∷◌, ◌++◌, fold, Option, Some, None, Result, Ok, Err}
 use Rattle.std.specs.List.{filter}
 use Rattle.clock27.specs.Release.{release}
 use Rattle.pes_packet.specs.AccessUnits.{AccessUnit}
@@ -9,7 +9,9 @@ use Rattle.unit_records.specs.Records.{record_at}
 use Rattle.unit_records.specs.declared.reading.UnitFileError.{UnitFileError}
 use Rattle.carry.specs.RecordRuns.{after_records}
 use Rattle.mux_core.specs.WholeJobs.{job_history, output_of, first_refused}
-use Rattle.on_air.specs.Airing.{Run, Air, is_tick, lead_of, limit_of, last_at, needed_room, heard, ended, air_output}
+use Rattle.on_air.specs.declared.refusals.AirRefusal.TheVariants.{Ahead}
+use Rattle.on_air.specs.Leaps.{is_near, leap_records}
+use Rattle.on_air.specs.Airing.{Run, Air, is_tick, lead_of, limit_of, last_at, needed_room, air_cause, aired, heard, ended, air_output}
 use Rattle.on_air.specs.AirStates.{Promises}
 
 -- a unit that a stream accepts before the first slot is accepted too where no slot from its release on is written, and there is room for it
@@ -73,3 +75,21 @@ abbrev pub AiredAsMultiplexed : Type 0
 AiredAsMultiplexed = (run : Run) (other n : ℕ) (xs : List ℕ) → first_refused run.scheduled other [] (records_of n xs) ≡ None → (heard run n xs).refused ≡ [] →
     air_output run (ended run (heard run n xs))
     ≡ output_of run.hex run.scheduled (job_history (records_of n xs) (last_at run (greatest_of (records_of n xs))))
+
+-- ---- records that leap
+
+-- each record lies near the one before, the first one near a record that is due at `due`
+unfoldable pub NearEach : ℕ → ℕ → List (ℕ × AccessUnit) → Type 0
+NearEach ahead due [] = ⊤
+NearEach ahead due (entry ∷ entries) = (is_near ahead due entry.1.dts ≡ true) × NearEach ahead entry.1.dts entries
+
+-- a run refuses each of these records for being ahead
+unfoldable pub AllAhead : Run → Air → List (ℕ × AccessUnit) → Type 0
+AllAhead run a [] = ⊤
+AllAhead run a (entry ∷ entries) = (air_cause run a entry ≡ Some Ahead) × AllAhead run (aired run a entry) entries
+
+-- whatever was heard before, of eight records in a row that lie near one another not all are refused for being ahead: a feed whose
+-- stamps agree is never refused for ever
+abbrev pub LeapFollowed : Type 0
+LeapFollowed = (run : Run) (a : Air) (first : ℕ × AccessUnit) (rest : List (ℕ × AccessUnit)) → NearEach run.terms.ahead first.1.dts rest →
+    AllAhead run a (first ∷ rest) → length (first ∷ rest) < leap_records

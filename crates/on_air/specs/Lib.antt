@@ -1,3 +1,4 @@
+pub mod Leaps
 pub mod Airing
 pub mod AirStates
 pub mod Hearing

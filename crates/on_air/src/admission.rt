@@ -1,7 +1,7 @@
 //! A record judged, and its unit fed.
 
 ghost use Rattle.std.specs.Prelude.{◌≡◌};
-ghost use Rattle.on_air.specs.Airing.{Run, Air, is_tick, job_of};
+ghost use Rattle.on_air.specs.Airing.{Run, Air, is_ahead, is_tick, job_of};
 ghost use Rattle.on_air.specs.AirStates.{Carries, Promises, Admits};
 
 use crate::refusals::AirRefusal;
@@ -16,18 +16,17 @@ fn is_tick<A: Allocator>(stream: u8, unit: &Unit<A>) -> bool
     stream == 255 && unit.bytes.is_empty()
 }
 
-/// Feeds the unit of a record to its stream, and answers why it is refused. A tick is not fed.
+/// Feeds the unit of a record to its stream, and answers why it is refused: first if it is `ahead`. A tick is not fed.
 pub(crate) fn admit<A: Allocator>(
     mux: &mut Mux<A>,
-    ahead: u64,
-    greatest: u64,
+    ahead: bool,
     stream: u8,
     unit: Unit<A>,
 ) -> Option<AirRefusal>
     ensures { (run : Run) (a : Air) → Carries run (job_of a) mux.old → Promises run.scheduled →
-        ahead ≡ run.terms.ahead → greatest ≡ a.greatest → Admits run a (stream, unit) result mux.new }
+        ahead ≡ is_ahead run a (stream, unit) → Admits run a (stream, unit) result mux.new }
 {
-    if unit.dts.saturating_sub(greatest) > ahead {
+    if ahead {
         return Some(AirRefusal::Ahead);
     }
     if is_tick(stream, &unit) {

@@ -9,6 +9,7 @@ ghost use Rattle.on_air.specs.Hearing.{Fails, Hears, TakesUnit, CountsRecord, Co
 
 use crate::admission::admit;
 use crate::answers::{Ending, Heard};
+use crate::leap::{Leap, is_far};
 use crate::options::Terms;
 use crate::refusals::AirRefusal;
 use crate::slots::{last_slot, settled, write_on};
@@ -33,6 +34,7 @@ pub struct OnAir<A: Allocator = Global> {
     pub(crate) rate: Rate,
     pub(crate) lead: u64,
     pub(crate) greatest: u64,
+    pub(crate) leap: Leap,
     pub(crate) records: u64,
 }
 
@@ -48,6 +50,7 @@ impl<A: Allocator> Model for OnAir<A> {
       rate = o.rate;
       lead = o.lead;
       greatest = o.greatest;
+      leap = o.leap;
       records = o.records;
     } };
 }
@@ -197,7 +200,10 @@ impl<A: Allocator + Copy> OnAir<A> {
     {
         let due = unit.dts;
         self.records += 1;
-        match admit(&mut self.mux, self.terms.ahead, self.greatest, stream, unit) {
+        let far = is_far(self.terms.ahead, self.greatest, due);
+        let leap = self.leap.after(far, self.terms.ahead, due);
+        self.leap = leap;
+        match admit(&mut self.mux, leap.refuses(far), stream, unit) {
             None => {}
             Some(cause) => return Ok(Some(cause)),
         }

@@ -11,6 +11,7 @@ ghost use Rattle.on_air.specs.AirStates.{switch_refusal};
 
 use crate::airing::OnAir;
 use crate::leads::{greatest_lead, room_of};
+use crate::leap::Leap;
 use crate::options::Terms;
 use clock27::Rate;
 use mux_core::{Mux, NewError};
@@ -117,6 +118,7 @@ fn begun<A: Allocator + Copy>(
             rate: of.rate,
             lead: of.lead,
             greatest: 0,
+            leap: Leap::none(),
             records: 0,
         }),
         Err(_) => {

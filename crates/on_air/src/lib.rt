@@ -7,7 +7,7 @@
 //! job is multiplexed.
 //!
 //! The modules in reading order: the terms of a run, why a record is refused, what a call answers, the rooms and leads
-//! of a description, slots up to one that is settled, whether a read may wait, a unit judged and fed, the run and its calls, how
+//! of a description, a leap of the stamps, slots up to one that is settled, whether a read may wait, a unit judged and fed, the run and its calls, how
 //! it begins; the laws.
 #![tactic(auto)]
 
@@ -17,6 +17,7 @@ mod answers;
 mod beginning;
 pub mod laws;
 mod leads;
+mod leap;
 mod options;
 mod refusals;
 mod slots;
@@ -24,6 +25,7 @@ mod waiting;
 
 pub use airing::OnAir;
 pub use answers::{Ending, Heard};
+pub use leap::Leap;
 pub use mux_core::NewError;
 pub use options::Terms;
 pub use packet_output::OutputFault;

@@ -14,7 +14,7 @@ returns-clause-ok g c = λ run a start h.
     (λ out. flushed run a start _ _ c.args.self.now _ h
     (record { terms = ap (λ (x : AirState). x.terms) c.self.view_is; rate = ap (λ (x : AirState). x.rate) c.self.view_is; lead = ap (λ (x : AirState). x.lead) c.self.view_is })
     (ap (λ (x : AirState). x.mux) c.self.view_is) (c.flush.ensures.hex ∙ ap (λ (p : Buffered). p.hex) packets)
-    (ap (λ (x : AirState). x.greatest) c.self.view_is) (ap (λ (x : AirState). x.records) c.self.view_is) out)
+    (ap (λ (x : AirState). x.greatest) c.self.view_is) (ap (λ (x : AirState). x.leap) c.self.view_is) (ap (λ (x : AirState). x.records) c.self.view_is) out)
     (c.flush.ensures.ok start (air_output run a) output)
 
 pub returns-clause-err : goal.returns-clause-err

@@ -14,8 +14,11 @@ returns-then-now-limit-clause-heard g c = λ run a start h.
 
 pub returns-in-Ok-clause-heard : goal.returns-in-Ok-clause-heard
 returns-in-Ok-clause-heard g c = λ run a start h.
+    let stands = subst (λ (m : MuxState). Stands (job_of a) m) (sym (ap (λ (x : AirState). x.mux) c.self.view_is)) h.mux.stands in
+    let terms = ap (λ (x : AirState). limit_of x.terms) c.self.view_is ∙ ap (λ (t : Terms). limit_of t) h.terms in
     let t = rw c.in-Ok-None-take.field-0-is at (c.in-Ok-None-take.ensures.takes run a start h) in
     let read : HearsRecord run a (g.R.Read.remaining c.args.input.now) (g.R.Read.remaining c.read_unit.new.from) None = record {
+      slots_left = omega (arith, c.if-now-limit.false, c.now.ensures (job_of a) stands, c.limit.ensures.value, terms);
       entry = (c.in-Ok-Some.stream, c.in-Ok-Some.unit);
       cause = t.0;
       known = λ xs e. rw c.in-Ok-Some.field-0-is at (c.in-Ok-Some.ensures.known xs e);
@@ -24,8 +27,11 @@ returns-in-Ok-clause-heard g c = λ run a start h.
 
 pub returns-in-Ok-Some-take-clause-heard : goal.returns-in-Ok-Some-take-clause-heard
 returns-in-Ok-Some-take-clause-heard g c = λ run a start h.
+    let stands = subst (λ (m : MuxState). Stands (job_of a) m) (sym (ap (λ (x : AirState). x.mux) c.self.view_is)) h.mux.stands in
+    let terms = ap (λ (x : AirState). limit_of x.terms) c.self.view_is ∙ ap (λ (t : Terms). limit_of t) h.terms in
     let t = rw c.in-Ok-Some-take.field-0-is at (c.in-Ok-Some-take.ensures.takes run a start h) in
     let read : HearsRecord run a (g.R.Read.remaining c.args.input.now) (g.R.Read.remaining c.read_unit.new.from) (Some c.in-Ok-Some-take.cause) = record {
+      slots_left = omega (arith, c.if-now-limit.false, c.now.ensures (job_of a) stands, c.limit.ensures.value, terms);
       entry = (c.in-Ok-Some.stream, c.in-Ok-Some.unit);
       cause = t.0;
       known = λ xs e. rw c.in-Ok-Some.field-0-is at (c.in-Ok-Some.ensures.known xs e);
@@ -34,8 +40,11 @@ returns-in-Ok-Some-take-clause-heard g c = λ run a start h.
 
 pub returns-in-Err-let_out-clause-heard : goal.returns-in-Err-let_out-clause-heard
 returns-in-Err-let_out-clause-heard g c = λ run a start h.
+    let stands = subst (λ (m : MuxState). Stands (job_of a) m) (sym (ap (λ (x : AirState). x.mux) c.self.view_is)) h.mux.stands in
+    let terms = ap (λ (x : AirState). limit_of x.terms) c.self.view_is ∙ ap (λ (t : Terms). limit_of t) h.terms in
     let t = rw c.in-Ok-None-take.field-0-is at (c.in-Ok-None-take.ensures.takes run a start h) in
     let read : HearsRecord run a (g.R.Read.remaining c.args.input.now) (g.R.Read.remaining c.read_unit.new.from) None = record {
+      slots_left = omega (arith, c.if-now-limit.false, c.now.ensures (job_of a) stands, c.limit.ensures.value, terms);
       entry = (c.in-Ok-Some.stream, c.in-Ok-Some.unit);
       cause = t.0;
       known = λ xs e. rw c.in-Ok-Some.field-0-is at (c.in-Ok-Some.ensures.known xs e);
@@ -44,8 +53,11 @@ returns-in-Err-let_out-clause-heard g c = λ run a start h.
 
 pub returns-in-Err-take-clause-heard : goal.returns-in-Err-take-clause-heard
 returns-in-Err-take-clause-heard g c = λ run a start h.
+    let stands = subst (λ (m : MuxState). Stands (job_of a) m) (sym (ap (λ (x : AirState). x.mux) c.self.view_is)) h.mux.stands in
+    let terms = ap (λ (x : AirState). limit_of x.terms) c.self.view_is ∙ ap (λ (t : Terms). limit_of t) h.terms in
     let t = c.in-Err-take.ensures.takes run a start h in
     let read : HearsRecord run a (g.R.Read.remaining c.args.input.now) (g.R.Read.remaining c.read_unit.new.from) None = record {
+      slots_left = omega (arith, c.if-now-limit.false, c.now.ensures (job_of a) stands, c.limit.ensures.value, terms);
       entry = (c.in-Ok-Some.stream, c.in-Ok-Some.unit);
       cause = t.0;
       known = λ xs e. rw c.in-Ok-Some.field-0-is at (c.in-Ok-Some.ensures.known xs e);

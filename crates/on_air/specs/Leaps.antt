@@ -1,0 +1,31 @@
+-- A leap of the stamps that come in: after a silence, or where an encoder begins anew, each record lies further ahead than the
+-- terms of a run allow. A single wild stamp is no leap: a run follows stamps only once several records in a row agree.
+use Rattle.std.specs.Prelude.{ℕ, ◌+◌, ◌-◌, ◌&&◌, Bool, nat_le, nat_lt, if◌then◌else◌}
+use Rattle.on_air.specs.declared.leap.Leap.{Leap}
+
+-- how many records in a row have to leap, each near the one before, until a run follows them
+abbrev pub leap_records : ℕ
+leap_records = 8
+
+-- what is due at `due` lies more than `ahead` after the greatest DTS so far, in units of 90 kHz
+abbrev pub is_far : ℕ → ℕ → ℕ → Bool
+is_far ahead greatest due = nat_lt ahead (due - greatest)
+
+-- two stamps lie at most `ahead` from each other
+abbrev pub is_near : ℕ → ℕ → ℕ → Bool
+is_near ahead one other = nat_le (one - other) ahead && nat_le (other - one) ahead
+
+-- no record leaps
+abbrev pub no_leap : Leap
+no_leap = record { records = 0; due = 0 }
+
+-- with one more record that is far: it goes on with the leap where it is near the last record of it, and else begins another
+abbrev pub leap_with : ℕ → Leap → ℕ → Leap
+leap_with ahead leap due = record {
+  records = if is_near ahead leap.due due then (if nat_lt leap.records leap_records then leap.records + 1 else leap_records) else 1;
+  due = due;
+}
+
+-- after a record; one that is not far ends a leap
+abbrev pub leap_after : Bool → ℕ → Leap → ℕ → Leap
+leap_after far ahead leap due = if far then leap_with ahead leap due else no_leap

@@ -1,0 +1,74 @@
+//! A leap of the stamps that come in: records in a row that all lie further ahead than the terms of a run allow.
+
+ghost use Rattle.std.specs.Prelude.{◌≡◌, ◌&&◌, nat_lt};
+ghost use Rattle.on_air.specs.Leaps.{is_far, is_near, leap_after, leap_records, leap_with, no_leap};
+
+/// How many records in a row have to leap, each near the one before, until a run follows them.
+pub(crate) const LEAP_RECORDS: u8 = 8;
+
+/// The records in a row, so far, that lie further ahead than the terms allow, each near the one before.
+#[derive(Clone, Copy)]
+pub struct Leap {
+    /// The number of these records, 8 at most.
+    pub(crate) records: u8,
+    /// The DTS of the last one, in units of 90 kHz.
+    pub(crate) due: u64,
+}
+
+/// Returns whether a record that is due at `due` lies more than `ahead` after the greatest DTS so far, in units of 90 kHz.
+pub(crate) fn is_far(ahead: u64, greatest: u64, due: u64) -> bool
+    ensures { result ≡ is_far ahead greatest due }
+{
+    ahead < due.saturating_sub(greatest)
+}
+
+// Returns whether two stamps lie at most `ahead` from each other.
+fn is_near(ahead: u64, one: u64, other: u64) -> bool
+    ensures { result ≡ is_near ahead one other }
+{
+    one.saturating_sub(other) <= ahead && other.saturating_sub(one) <= ahead
+}
+
+impl Leap {
+    /// Returns the leap of no record.
+    pub(crate) fn none() -> Leap
+        ensures { result ≡ no_leap }
+    {
+        Leap { records: 0, due: 0 }
+    }
+
+    // Returns the leap with one more record that lies further ahead than the terms allow.
+    fn with(self, ahead: u64, due: u64) -> Leap
+        ensures { result ≡ leap_with ahead self due }
+    {
+        let records = if is_near(ahead, self.due, due) {
+            if self.records < LEAP_RECORDS {
+                self.records + 1
+            } else {
+                LEAP_RECORDS
+            }
+        } else {
+            1
+        };
+        Leap { records, due }
+    }
+
+    /// Returns the leap after a record that is due at `due`, where `far` says whether it lies further ahead than `ahead`.
+    pub(crate) fn after(self, far: bool, ahead: u64, due: u64) -> Leap
+        ensures { result ≡ leap_after far ahead self due }
+    {
+        if far {
+            self.with(ahead, due)
+        } else {
+            Leap::none()
+        }
+    }
+
+    /// Returns whether the last record of this leap is refused, where `far` says whether it lies further ahead than the terms
+    /// allow: the leap has fewer than 8 records.
+    pub(crate) fn refuses(self, far: bool) -> bool
+        ensures { result ≡ far && nat_lt self.records leap_records }
+    {
+        far && self.records < LEAP_RECORDS
+    }
+}
