@@ -1,5 +1,5 @@
 -- Records heard one after another, and the lines of those that are refused.
-use Rattle.std.proofs.Common.{◌≡◌, ◌<◌, ◌+◌, ℕ, Bool, true, false, nat_lt, List, [], ◌∷◌, ◌++◌, length, map, Option, Some, None, Result, Ok, Err, refl, sym, ap, ◌∙◌, subst, arith, length-append}
+use Rattle.std.proofs.Common.{◌≡◌, ◌<◌, ◌+◌, ℕ, Bool, true, false, nat_lt, List, [], ◌∷◌, ◌++◌, length, map, Option, Some, None, Result, Ok, Err, refl, sym, ap, ◌∙◌, subst, arith, below_none, length-append}
 use Rattle.std.proofs.lemmas.List.{map-append}
 use Rattle.std.proofs.lemmas.Bool.{lt-ltb}
 use Rattle.devices.specs.Devices.{Device, Port, HasFailed, IsClean, between}
@@ -12,7 +12,7 @@ use Rattle.on_air.specs.declared.refusals.AirRefusal.{AirRefusal}
 use Rattle.on_air.specs.declared.answers.Heard.TheVariants.{Taken, Refused, Ended}
 use Rattle.on_air.specs.declared.answers.Ending.{Ending}
 use Rattle.on_air.specs.declared.answers.Ending.TheVariants.{Input, Unread, Slots, Records}
-use Rattle.on_air.specs.Airing.{Run, Air, heard, silence}
+use Rattle.on_air.specs.Airing.{Run, Air, heard, silence, limit_of}
 use Rattle.on_air.specs.AirStates.{AirState, IsOnAir}
 use Rattle.on_air.specs.Hearing.{HasHeard, HeardOn, HearsOn, NamesDevice}
 use Rattle.tsair_cli.specs.declared.hearing.RecordsEnd.{RecordsEnd}
@@ -43,7 +43,7 @@ pub first : (run : Run) (origin start now : Option (List ℕ)) (port : Port) (s 
     Midway run origin origin start now (between port port) false s
 unfolding heard after_records
 first run origin start now port s h = record {
-  airs = record { came = silence; heard_is = record { count = 0; heard_is = λ xs e. (refl, e) }; told = told_none port };
+  airs = record { came = silence; heard_is = record { count = 0; heard_is = λ xs e. (refl, e, λ m none. below_none (λ i. (heard run i xs).slots < limit_of run.terms) m none) }; told = told_none port };
   refused_is = refl;
   state = h;
 }

@@ -1,4 +1,3 @@
-pub mod CommandLines
 pub mod FrontLines
 pub mod Fronts
 pub mod HeardRecords

@@ -4,12 +4,12 @@ ghost use Rattle.std.specs.Prelude.{◌≡◌, IfOk};
 ghost use Rattle.clap.specs.Words.{found_of, rows_of};
 ghost use Rattle.tsair_cli.specs.Arguments as spec;
 
-use crate::command_line::matches_for;
+use crate::options::OPTIONS;
 use clap::ArgMatches;
-use clap::error::ErrorKind;
-use devices::{is_given, number_if_given, number_option, text_of};
+use devices::{is_given, text_of};
 use on_air::Terms;
 use std::alloc::{AllocError, Global};
+use word_faults::{given_options, number_if, number_of};
 
 /// The options of a run.
 #[derive(Clone, Copy)]
@@ -29,16 +29,12 @@ pub struct AirOptions {
 fn options_of(matches: &ArgMatches<'_>) -> Option<AirOptions>
     ensures { result ≡ spec.options_of (rows_of (found_of matches.now)) }
 {
-    let wait = number_option(text_of(matches, "wait"), 0, 8_100_000, 0)?;
-    let ahead = number_option(text_of(matches, "ahead"), 0, 1 << 52, 900_000)?;
-    let slots = number_if_given(text_of(matches, "slots"), 0, 1 << 40)?;
-    let periods = number_if_given(text_of(matches, "switch"), 0, u64::MAX)?;
+    let wait = number_of(&OPTIONS, matches, "wait")? as u32;
+    let ahead = number_of(&OPTIONS, matches, "ahead")?;
+    let slots = number_if(&OPTIONS, matches, "slots")?;
+    let periods = number_if(&OPTIONS, matches, "switch")?;
     Some(AirOptions {
-        terms: Terms {
-            wait: wait as u32,
-            ahead,
-            slots,
-        },
+        terms: Terms { wait, ahead, slots },
         periods,
         hex: is_given(text_of(matches, "hex")),
         stop: is_given(text_of(matches, "stop")),
@@ -52,11 +48,8 @@ pub(crate) fn read_arguments(
 ) -> Result<Option<AirOptions>, AllocError>
     ensures { IfOk result (λ r. r ≡ spec.asked words.now) }
 {
-    match matches_for(alloc, words) {
-        Ok(matches) => Ok(options_of(&matches)),
-        Err(error) => match error.kind() {
-            ErrorKind::OutOfMemory => Err(AllocError),
-            _ => Ok(None),
-        },
+    match given_options(alloc, "tsair", &OPTIONS, words)? {
+        Some(matches) => Ok(options_of(&matches)),
+        None => Ok(None),
     }
 }

@@ -11,8 +11,7 @@ ghost use Rattle.on_air.specs.AirStates.{IsOnAir, begin_refusal};
 ghost use Rattle.checked_jobs.specs.JobFaults.{plans_view};
 ghost use Rattle.tsair_cli.specs.AirRuns as spec;
 ghost use Rattle.tsair_cli.specs.Arguments.{asked};
-ghost use Rattle.tsair_cli.specs.KnownWords.{known_words};
-ghost use Rattle.tsair_cli.specs.UsageText.{usage_text};
+ghost use Rattle.tsair_cli.specs.Options.{known_words, usage_text};
 ghost use Rattle.word_faults.specs.UsageReport.{Prints, is_version, usage_report, version_text};
 ghost use Rattle.tsair_cli.specs.declared.arguments.AirOptions.{AirOptions};
 
@@ -20,7 +19,7 @@ use crate::arguments::{AirOptions, read_arguments};
 use crate::ending::report_end;
 use crate::front::{read_front, report_front};
 use crate::hearing::hear_all;
-use crate::known_words::KnownWords;
+use crate::options::{known_words, usage};
 use checked_jobs::{JobPlans, report_refusal};
 use counted_io::Sink;
 use devices::{Halt, report_halt, report_text};
@@ -28,25 +27,6 @@ use held_input::HeldInput;
 use on_air::{NewError, OnAir};
 use std::alloc::Global;
 use word_faults::answer_other_words;
-
-/// The usage, written to the second writer on a usage error.
-const USAGE: &str = "usage: tsair [OPTIONS] < JOB > PACKETS
-  --wait 0..8100000              how much later than a greater DTS a unit may come, in units of 90 kHz
-  --ahead 0..4503599627370496    how far after the greatest DTS so far the next may lie; else 900000
-  --stop                         the first unit that is refused ends the run
-  --hex                          packets are written as lines of hexadecimal digits
-  --slots 0..1099511627776       the number of packets; else those up to the greatest DTS
-  --switch Q                     the periods of the first plan before the second
-  --progress                     how many bytes are read is told each second, on a terminal
-  --version                      alone: the version, and the kit that proved it
-";
-
-// The usage.
-fn usage() -> &'static str
-    ensures { result.now ≡ usage_text }
-{
-    USAGE
-}
 
 /// Writes the usage, and returns the status.
 pub fn report_usage<E: Sink>(faults: &mut E) -> u8
@@ -163,7 +143,8 @@ pub fn run<R: HeldInput, W: Sink, E: Sink>(
     match read_arguments(alloc, words) {
         Ok(Some(options)) => air_job(alloc, options, input, output, faults),
         Ok(None) => {
-            answer_other_words(alloc, "tsair", KnownWords, words, usage(), output, faults)
+            let known = known_words();
+            answer_other_words(alloc, "tsair", known, words, usage(), output, faults)
         }
         Err(_) => report_halt(faults, Halt::Memory),
     }

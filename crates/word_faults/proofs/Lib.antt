@@ -1,1 +1,4 @@
+pub mod Found
+pub mod GivenOptions
 pub mod UsageReports
+pub mod NamedWords

@@ -1,14 +1,24 @@
-//! The first word of a command line that cannot be taken, in words.
+//! The options of a program as a table, and the first word of a command line that cannot be taken, in words.
 //!
-//! A program says what it knows (`CommandLine`): its options, which of them take a value, the values that each takes, and
-//! words beside options. `first_fault` finds the first word that is not known, is given twice, lacks its value, has one
-//! that its option does not take, or stands beside others where it takes none; `word_beside` finds the word beside the options
-//! (`specs/WordFaults`). `usage_report` is the line that says what is wrong, with the usage after it, and `answer_other_words`
-//! reports it, or prints the version for `--version` alone (`specs/UsageReport`).
+//! A program has a table of options (`OptionRow`): each row is the name of an option, its value (`ValueKind`: a flag,
+//! a number with its range and its default, a list), and its line of the usage. From the table come the values that
+//! are read (`given_options`, `number_of`, `number_if`, `numbers_of`: `specs/GivenOptions`), what the program knows
+//! of a word (`KnownWords`: `specs/OptionRows`, `specs/KnownWords`), and the usage text (`specs/OptionUsage`).
+//!
+//! `CommandLine` is what is known of a word: whether it is an option, whether that takes a value, and which, and
+//! words beside options. `first_fault` finds the first word that is not known, is given twice, lacks its value, has
+//! one that its option does not take, or stands beside others where it takes none; `word_beside` finds the word
+//! beside the options (`specs/WordFaults`). `usage_report` is the line that says what is wrong, with the usage after
+//! it, and `answer_other_words` reports it, or prints the version for `--version` alone (`specs/UsageReport`). The
+//! words that the line names are really there (`faults_name_words`: `specs/NamedWords`).
 #![tactic(auto)]
 
 mod command_line;
 mod faults;
+mod known_words;
+mod laws;
+mod option_row;
+mod option_values;
 mod other_words;
 mod usage;
 mod version;
@@ -16,6 +26,10 @@ mod word_fault;
 
 pub use command_line::CommandLine;
 pub use faults::{first_fault, word_beside};
+pub use known_words::KnownWords;
+pub use laws::faults_name_words;
+pub use option_row::{OptionRow, Row, ValueKind};
+pub use option_values::{given_options, number_if, number_of, numbers_of};
 pub use other_words::answer_other_words;
 pub use usage::usage_report;
 pub use word_fault::{Reason, WordFault};

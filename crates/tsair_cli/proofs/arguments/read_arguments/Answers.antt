@@ -1,19 +1,15 @@
-use Rattle.std.proofs.Common.{◌∙◌, List, ℕ, Bor, inl, inr, ap, map, sym}
-use Rattle.clap.specs.Words.{fault_of, matches_of}
+use Rattle.std.proofs.Common.{◌∙◌, ap, refl}
+use Rattle.std.specs.Prelude.{option_and_then}
+use Rattle.word_faults.specs.GivenOptions.{with_options}
 use Rattle.tsair_cli.specs.Arguments.{options_of}
-use Rattle.tsair_cli.specs.CommandLine.{tsair_app}
-use Rattle.tsair_cli.proofs.CommandLines.{faultless, refused}
 use Rattle.tsair_cli.proofs.arguments.read_arguments.Goals as goal
 
-pub returns-in-Ok : goal.returns-in-Ok
-returns-in-Ok c =
-    let t = map (λ (s : Bor (List ℕ)). s.now) c.args.words.now in
-    c.options_of.ensures ∙ ap options_of c.in-Ok.ensures.ok ∙ faultless (fault_of tsair_app t) (options_of (matches_of tsair_app t)) c.in-Ok.ensures.fault
+pub given_options-requires : goal.given_options-requires
+unfolding with_options
+given_options-requires c = refl
 
-pub returns : goal.returns
-returns c =
-    let t = map (λ (s : Bor (List ℕ)). s.now) c.args.words.now in
-    elim c.in-Err.ensures.fault [
-      | inl e ↦ absurd (c.in_default.not-OutOfMemory (c.kind.ensures ∙ e))
-      | inr i ↦ sym (refused _ (fault_of tsair_app t) (options_of (matches_of tsair_app t)) i)
-    ]
+pub returns-in-Some : goal.returns-in-Some
+returns-in-Some c = c.options_of.ensures ∙ ap (option_and_then options_of) (rw c.in-Some.is at c.in_ok-matches.ensures)
+
+pub returns-in-None : goal.returns-in-None
+returns-in-None c = ap (option_and_then options_of) (rw c.in-None.is at c.in_ok-matches.ensures)

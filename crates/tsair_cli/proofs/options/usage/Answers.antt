@@ -1,6 +1,6 @@
 use Rattle.std.proofs.Common.{refl}
 use Rattle.std.specs.Fmt.{digits}
-use Rattle.tsair_cli.proofs.program.usage.Goals as goal
+use Rattle.tsair_cli.proofs.options.usage.Goals as goal
 
 pub returns : goal.returns
 unfolding digits

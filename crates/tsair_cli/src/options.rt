@@ -1,0 +1,105 @@
+//! The options of the program, and its usage.
+ghost use Rattle.std.specs.Prelude.{◌≡◌};
+ghost use Rattle.tsair_cli.specs.Options as spec;
+ghost use Rattle.word_faults.specs.KnownWords.{known_of};
+
+use word_faults::{KnownWords, OptionRow, ValueKind};
+
+/// The options. What is read, which word is a fault, and the usage follow these rows.
+pub(crate) const OPTIONS: [OptionRow; 8] = [
+    OptionRow {
+        name: "wait",
+        value: ValueKind::Number {
+            least: 0,
+            greatest: 8_100_000,
+            default: Some(0),
+        },
+        form: "",
+        help: "how much later than a greater DTS a unit may come, in units of 90 kHz",
+    },
+    OptionRow {
+        name: "ahead",
+        value: ValueKind::Number {
+            least: 0,
+            greatest: 1 << 52,
+            default: Some(900_000),
+        },
+        form: "",
+        help: "how far after the greatest DTS so far the next may lie; else 900000",
+    },
+    OptionRow {
+        name: "stop",
+        value: ValueKind::Flag,
+        form: "",
+        help: "the first unit that is refused ends the run",
+    },
+    OptionRow {
+        name: "hex",
+        value: ValueKind::Flag,
+        form: "",
+        help: "packets are written as lines of hexadecimal digits",
+    },
+    OptionRow {
+        name: "slots",
+        value: ValueKind::Number {
+            least: 0,
+            greatest: 1 << 40,
+            default: None,
+        },
+        form: "",
+        help: "the number of packets; else those up to the greatest DTS",
+    },
+    OptionRow {
+        name: "switch",
+        value: ValueKind::Number {
+            least: 0,
+            greatest: u64::MAX,
+            default: None,
+        },
+        form: "Q",
+        help: "the periods of the first plan before the second",
+    },
+    OptionRow {
+        name: "progress",
+        value: ValueKind::Flag,
+        form: "",
+        help: "how many bytes are read is told each second, on a terminal",
+    },
+    OptionRow {
+        name: "version",
+        value: ValueKind::Alone,
+        form: "",
+        help: "alone: the version, and the kit that proved it",
+    },
+];
+
+/// The usage, written to the second writer on a usage error: a line for each row of the table.
+const USAGE: &str = "usage: tsair [OPTIONS] < JOB > PACKETS
+  --wait 0..8100000              how much later than a greater DTS a unit may come, in units of 90 kHz
+  --ahead 0..4503599627370496    how far after the greatest DTS so far the next may lie; else 900000
+  --stop                         the first unit that is refused ends the run
+  --hex                          packets are written as lines of hexadecimal digits
+  --slots 0..1099511627776       the number of packets; else those up to the greatest DTS
+  --switch Q                     the periods of the first plan before the second
+  --progress                     how many bytes are read is told each second, on a terminal
+  --version                      alone: the version, and the kit that proved it
+";
+
+/// The usage.
+pub(crate) fn usage() -> &'static str
+    ensures { result.now ≡ spec.usage_text }
+{
+    USAGE
+}
+
+/// What the program knows of its command line: options alone.
+pub(crate) fn known_words() -> KnownWords
+    ensures { known_of result ≡ spec.known_words }
+{
+    KnownWords {
+        options: &OPTIONS,
+        words: &[],
+        alone: &[],
+        required: None,
+    }
+}

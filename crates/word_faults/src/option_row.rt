@@ -1,0 +1,98 @@
+//! A table of options: a row is the name of an option, its value, and its line of the usage.
+ghost use Rattle.std.specs.Prelude.{◌≡◌, IfOk, find, map, option_map};
+ghost use Rattle.std.specs.Str.{bytes_eq};
+ghost use Rattle.word_faults.specs.OptionRows as spec;
+
+use devices::number_in;
+use option_lists::{buffer_list, number_list};
+use std::alloc::{AllocError, Global};
+
+/// What follows the word of an option.
+#[derive(Clone, Copy)]
+pub enum ValueKind {
+    /// Nothing: the option is given or not.
+    Flag,
+    /// Nothing, and no other word may stand beside it.
+    Alone,
+    /// A number of this range, and the number where the option is not given, if there is one.
+    Number {
+        least: u64,
+        greatest: u64,
+        default: Option<u64>,
+    },
+    /// Numbers up to this one, with commas between them.
+    Numbers {
+        greatest: u16,
+    },
+    /// Buffers of PIDs, `PID:RX:MAIN,..`.
+    Buffers,
+}
+
+/// An option of a program. It is generic in how its texts are held: a constant of a type that is not, and holds a
+/// reference, has no name in a specification.
+#[derive(Clone, Copy)]
+pub struct Row<Text> {
+    /// Its name: its word without the two hyphens.
+    pub name: Text,
+    /// Its value.
+    pub value: ValueKind,
+    /// How the usage writes its value; a number without a form has its range.
+    pub form: Text,
+    /// What it is for, in a line.
+    pub help: Text,
+}
+
+/// A row of a table that is a constant.
+pub type OptionRow = Row<&'static str>;
+
+// What follows the two hyphens of a word.
+fn name_in(word: &str) -> Option<&[u8]>
+    ensures { option_map (λ s. s.now) result ≡ spec.name_in word.now }
+{
+    word.as_bytes().strip_prefix(b"--")
+}
+
+// The row of this name.
+fn row_named<'a>(options: &'a [OptionRow], name: &[u8]) -> Option<&'a OptionRow>
+    ensures { option_map (λ row. row.now) result ≡ find (λ row. bytes_eq row.name.now name.now) options.now }
+{
+    options.iter().find(|row| row.name.as_bytes() == name)
+}
+
+/// The value of the option of this name; none where there is no such option.
+#[tactic(auto, unfolding(crate::specs::OptionRows::kind_named))]
+pub(crate) fn kind_named(options: &[OptionRow], name: &[u8]) -> Option<ValueKind>
+    ensures { result ≡ spec.kind_named (map spec.view options.now) name.now }
+{
+    match row_named(options, name) {
+        Some(row) => Some(row.value),
+        None => None,
+    }
+}
+
+/// The value of the option of this word; none where there is no such option.
+pub(crate) fn kind_of(options: &[OptionRow], word: &str) -> Option<ValueKind>
+    ensures { result ≡ spec.kind_of (map spec.view options.now) word.now }
+{
+    match name_in(word) {
+        Some(name) => kind_named(options, name),
+        None => None,
+    }
+}
+
+/// Whether a text is a value of this kind.
+#[tactic(auto, unfolding(crate::specs::OptionRows::is_value))]
+pub(crate) fn is_value(alloc: Global, kind: ValueKind, text: &str) -> Result<bool, AllocError>
+    ensures { IfOk result (λ b. b ≡ spec.is_value kind text.now) }
+{
+    match kind {
+        ValueKind::Flag | ValueKind::Alone => Ok(false),
+        ValueKind::Number {
+            least,
+            greatest,
+            ..
+        } => Ok(number_in(text, least, greatest).is_some()),
+        ValueKind::Numbers { greatest } => Ok(number_list(alloc, greatest, Some(text))?.is_some()),
+        ValueKind::Buffers => Ok(buffer_list(alloc, Some(text))?.is_some()),
+    }
+}

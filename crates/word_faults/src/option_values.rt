@@ -1,0 +1,208 @@
+//! The values that a command line gives to the options of a table, as `clap` reads them.
+ghost use Rattle.std.specs.Prelude.{◌≡◌, ◌≤◌, true, max, IfOk, IfSome, map, option_map};
+ghost use Rattle.clap.specs.Words.{FailsBy, app_of, fault_of, found_of, is_simple_and_free, matches_of, rows_of};
+ghost use Rattle.devices.specs.Options.{number_option};
+ghost use Rattle.word_faults.specs.GivenOptions as spec;
+ghost use Rattle.word_faults.specs.OptionRows.{view};
+
+use crate::option_row::{OptionRow, ValueKind, kind_named};
+use clap::error::ErrorKind;
+use clap::{ArgMatches, Command, Error};
+use devices::{flag, number_given, number_in, option, text_of};
+use option_lists::number_list;
+use std::alloc::{AllocError, Global};
+
+// With the option of one more row.
+fn with_option<'a>(
+    alloc: Global,
+    command: Command<'a>,
+    row: OptionRow,
+) -> Result<Command<'a>, AllocError>
+    ensures { IfOk result (λ c. app_of c ≡ spec.with_option (app_of command.entry) (view row.entry)) }
+{
+    match row.value {
+        ValueKind::Alone => Ok(command),
+        ValueKind::Flag => command.arg(flag(alloc, row.name)),
+        ValueKind::Number { .. } | ValueKind::Numbers { .. } | ValueKind::Buffers => {
+            command.arg(option(alloc, row.name))
+        }
+    }
+}
+
+// With the options of all rows.
+#[tactic(auto, unfolding(crate::specs::GivenOptions::with_options))]
+fn with_options<'a>(
+    alloc: Global,
+    mut command: Command<'a>,
+    options: &[OptionRow],
+) -> Result<Command<'a>, AllocError>
+    ensures { IfOk result (λ c. app_of c ≡ spec.with_options (app_of command.entry) (map view options.now)) }
+{
+    for row in options {
+        command = with_option(alloc, command, *row)?;
+    }
+    Ok(command)
+}
+
+// A command line of these options alone.
+fn command_of<'a>(
+    alloc: Global,
+    program: &'static str,
+    options: &[OptionRow],
+) -> Result<Command<'a>, AllocError>
+    ensures { IfOk result (λ c. app_of c ≡ spec.app_of_options program.now (map view options.now)) }
+{
+    with_options(
+        alloc,
+        Command::new(alloc, program).no_binary_name(true),
+        options,
+    )
+}
+
+// What `clap` reads in the words.
+fn matches_for<'a>(
+    alloc: Global,
+    program: &'static str,
+    options: &[OptionRow],
+    words: &'a [&'a str],
+) -> Result<ArgMatches<'a>, Error>
+    requires { is_simple_and_free (spec.app_of_options program.now (map view options.now)) ≡ true }
+    ensures ok { IfOk result (λ m. rows_of (found_of m)
+        ≡ matches_of (spec.app_of_options program.now (map view options.now)) (map (λ s. s.now) words.entry.now)) }
+    ensures fault { FailsBy
+        (fault_of (spec.app_of_options program.now (map view options.now)) (map (λ s. s.now) words.entry.now)) result }
+{
+    command_of(alloc, program, options)?.try_get_matches_from(words)
+}
+
+/// The values that the words give to the options of a table; none where the words are a usage error.
+pub fn given_options<'a>(
+    alloc: Global,
+    program: &'static str,
+    options: &[OptionRow],
+    words: &'a [&'a str],
+) -> Result<Option<ArgMatches<'a>>, AllocError>
+    requires { is_simple_and_free (spec.app_of_options program.now (map view options.now)) ≡ true }
+    ensures { IfOk result (λ r. option_map (λ m. rows_of (found_of m)) r
+        ≡ spec.given_options program.now (map view options.now) (map (λ s. s.now) words.entry.now)) }
+{
+    match matches_for(alloc, program, options, words) {
+        Ok(matches) => Ok(Some(matches)),
+        Err(error) => match error.kind() {
+            ErrorKind::OutOfMemory => Err(AllocError),
+            _ => Ok(None),
+        },
+    }
+}
+
+// The number of an option, `default` where it is not given.
+#[tactic(auto, unfolding(devices::specs::Options::number_option))]
+fn number_or(text: Option<&str>, least: u64, greatest: u64, default: u64) -> Option<u64>
+    ensures value { result ≡ number_option least greatest default (option_map (λ s. s.now) text.entry) }
+    ensures upper { IfSome result (λ n. n ≤ max greatest default) }
+{
+    match text {
+        None => Some(default),
+        Some(text) => number_in(text, least, greatest),
+    }
+}
+
+// The number of an option of this kind.
+#[tactic(auto, unfolding(crate::specs::GivenOptions::number_by, crate::specs::GivenOptions::greatest_by))]
+fn number_by(kind: Option<ValueKind>, text: Option<&str>) -> Option<u64>
+    ensures value { result ≡ spec.number_by kind (option_map (λ s. s.now) text.entry) }
+    ensures upper { IfSome result (λ n. n ≤ spec.greatest_by kind) }
+{
+    let Some(
+        ValueKind::Number {
+            least,
+            greatest,
+            default,
+        },
+    ) = kind
+    else {
+        return None;
+    };
+    match default {
+        Some(default) => number_or(text, least, greatest, default),
+        None => number_given(text, least, greatest),
+    }
+}
+
+/// The number of an option by its row: its default where the option is not given, none where its text is no number of
+/// its range.
+pub fn number_of(options: &[OptionRow], matches: &ArgMatches<'_>, name: &str) -> Option<u64>
+    ensures value { result ≡ spec.number_of (map view options.now) name.now (rows_of (found_of matches.now)) }
+    ensures upper { IfSome result (λ n. n ≤ spec.greatest_of (map view options.now) name.now) }
+{
+    number_by(kind_named(options, name.as_bytes()), text_of(matches, name))
+}
+
+// The number of an option of this kind that need not be given.
+#[tactic(auto, unfolding(crate::specs::GivenOptions::number_if_by, crate::specs::GivenOptions::least_by, crate::specs::GivenOptions::greatest_by, devices::specs::Options::number_if_given))]
+fn number_if_by(kind: Option<ValueKind>, text: Option<&str>) -> Option<Option<u64>>
+    ensures value { result ≡ spec.number_if_by kind (option_map (λ s. s.now) text.entry) }
+    ensures lower { IfSome result (λ given. IfSome given (λ n. spec.least_by kind ≤ n)) }
+    ensures upper { IfSome result (λ given. IfSome given (λ n. n ≤ spec.greatest_by kind)) }
+{
+    let Some(
+        ValueKind::Number {
+            least,
+            greatest,
+            ..
+        },
+    ) = kind
+    else {
+        return None;
+    };
+    let Some(text) = text else {
+        return Some(None);
+    };
+    match number_in(text, least, greatest) {
+        Some(number) => Some(Some(number)),
+        None => None,
+    }
+}
+
+/// The number of an option that need not be given, by its row; none where its text is no number of its range.
+pub fn number_if(options: &[OptionRow], matches: &ArgMatches<'_>, name: &str) -> Option<Option<u64>>
+    ensures value { result ≡ spec.number_if (map view options.now) name.now (rows_of (found_of matches.now)) }
+    ensures lower { IfSome result (λ given. IfSome given (λ n. spec.least_of (map view options.now) name.now ≤ n)) }
+    ensures upper { IfSome result (λ given. IfSome given (λ n. n ≤ spec.greatest_of (map view options.now) name.now)) }
+{
+    number_if_by(kind_named(options, name.as_bytes()), text_of(matches, name))
+}
+
+// The numbers of an option of this kind.
+#[tactic(auto, unfolding(crate::specs::GivenOptions::numbers_by))]
+fn numbers_by(
+    alloc: Global,
+    kind: Option<ValueKind>,
+    text: Option<&str>,
+) -> Result<Option<Vec<u16>>, AllocError>
+    ensures { IfOk result
+        (λ r. option_map (λ numbers. numbers.items) r ≡ spec.numbers_by kind (option_map (λ s. s.now) text.entry)) }
+{
+    match kind {
+        Some(ValueKind::Numbers { greatest }) => number_list(alloc, greatest, text),
+        _ => Ok(None),
+    }
+}
+
+/// The numbers of an option that is a list, by its row: no numbers where the option is not given, none where a part
+/// of its text is no number of its range.
+pub fn numbers_of(
+    alloc: Global,
+    options: &[OptionRow],
+    matches: &ArgMatches<'_>,
+    name: &str,
+) -> Result<Option<Vec<u16>>, AllocError>
+    ensures { IfOk result (λ r. option_map (λ numbers. numbers.items) r
+        ≡ spec.numbers_of (map view options.now) name.now (rows_of (found_of matches.now))) }
+{
+    numbers_by(
+        alloc,
+        kind_named(options, name.as_bytes()),
+        text_of(matches, name),
+    )
+}
