@@ -21,7 +21,7 @@ use Rattle.unit_feed.specs.Feeding.{Fed, FeedView}
 use Rattle.unit_feed.specs.StreamFeeding.{IsFedBy, StreamFeedView, at_first, fed_of, is_packet}
 use Rattle.unit_feed.specs.Ticks.{after_packets, fed_packets}
 use Rattle.unit_output.specs.FedLines.{fault_line, fed_lines, fed_record, fed_records, has_fault, have_fault, lines_of, pid_at}
-use Rattle.unit_output.specs.Passing.{FailsToPass, GoesOut, IsFedSoFar, Midway, Passes, PassesAll, PassesLast, PassesOn, PassesPieces, RunsStream}
+use Rattle.unit_output.specs.Passing.{FailsToPass, FeedsPiece, FeedsSome, GoesOut, IsFedSoFar, Midway, Passes, PassesAll, PassesLast, PassesOn, PassesPieces, RunsStream, longest_piece}
 
 -- 1. Of what is fed after other units
 
@@ -205,6 +205,25 @@ no_room first pids piece i0 i1 i2 output faults faulty s t m reads clean = recor
   stopped = clean ∙ m.unfailed;
 }
 
+-- no piece was fed
+pub feed_fails : (first : FeedView) (pids : List ℕ) (i0 i1 i2 : Port) (output faults : Device) (faulty : Bool) (s t : StreamFeedView) (fed : List Fed) (halt : Halt) →
+    Midway first pids (between i0 i1) output faults faulty s → FeedsPiece s (between i1 i2) t fed (Err halt) → PassesPieces first pids (between i0 i2) output faults (Err halt) t
+feed_fails first pids i0 i1 i2 output faults faulty s t fed Read m p = read_fails first pids i0 i1 i2 output faults faulty s m p.0 p.1
+feed_fails first pids i0 i1 i2 output faults faulty s t fed Write m p = absurd p
+feed_fails first pids i0 i1 i2 output faults faulty s t fed Memory m (piece, reads, clean) = no_room first pids piece i0 i1 i2 output faults faulty s t m reads clean
+
+pub feed_ends : (first : FeedView) (pids : List ℕ) (i0 i1 i2 : Port) (output faults : Device) (faulty : Bool) (s t : StreamFeedView) (fed : List Fed) →
+    Midway first pids (between i0 i1) output faults faulty s → FeedsPiece s (between i1 i2) t fed (Ok false) → PassesPieces first pids (between i0 i2) output faults (Ok faulty) t
+feed_ends first pids i0 i1 i2 output faults faulty s t fed m (reads, clean, ends, same) =
+    subst (λ (v : StreamFeedView). PassesPieces first pids (between i0 i2) output faults (Ok faulty) v) (sym same) (pieces_end first pids i0 i1 i2 output faults faulty s m reads clean ends)
+
+pub feeds_some : (s t : StreamFeedView) (input : Device) (fed : List Fed) (more : Bool) → more ≡ true → FeedsPiece s input t fed (Ok more) → FeedsSome s input t fed
+feeds_some s t input fed true is p = p
+feeds_some s t input fed false is p = absurd cc
+
+pub feeds_none : (s t : StreamFeedView) (input : Device) (fed : List Fed) (more : Bool) → more ≡ false → FeedsPiece s input t fed (Ok more) → FeedsPiece s input t fed (Ok false)
+feeds_none s t input fed more is p = subst (λ (b : Bool). FeedsPiece s input t fed (Ok b)) is p
+
 -- 5. The writer fails
 
 failed_later : (a b c : ℕ) → b ≡ a → Failed b c → Failed a c
@@ -227,15 +246,14 @@ last_fails first pids bytes i0 i1 i2 o0 o1 o2 f0 f1 f2 faulty s new m reads is o
   tells = subst (λ (p : Port). Tells f0 p (fed_lines pids m.fed)) (sym out.2) m.passes.tells;
 }
 
-pub piece_fails : (first : FeedView) (pids piece : List ℕ) (i0 i1 i2 o0 o1 o2 f0 f1 f2 : Port) (faulty : Bool) (s t : StreamFeedView) (new : List Fed) (halt : Halt)
-    (m : Midway first pids (between i0 i1) (between o0 o1) (between f0 f1) faulty s) → Consumes i1.bytes i2.bytes piece →
-    IsFedBy first (m.came ++ piece) false t (m.fed ++ new) → length t.held < 1128 → GoesOut pids new (between o1 o2) (between f1 f2) (Err halt) →
+pub piece_fails : (first : FeedView) (pids : List ℕ) (i0 i1 i2 o0 o1 o2 f0 f1 f2 : Port) (faulty : Bool) (s t : StreamFeedView) (new : List Fed) (halt : Halt) →
+    Midway first pids (between i0 i1) (between o0 o1) (between f0 f1) faulty s → FeedsSome s (between i1 i2) t new → GoesOut pids new (between o1 o2) (between f1 f2) (Err halt) →
     PassesPieces first pids (between i0 i2) (between o0 o2) (between f0 f2) (Err halt) t
-piece_fails first pids piece i0 i1 i2 o0 o1 o2 f0 f1 f2 faulty s t new Read m reads by held out = absurd out
-piece_fails first pids piece i0 i1 i2 o0 o1 o2 f0 f1 f2 faulty s t new Write m reads by held out =
-    last_fails first pids (m.came ++ piece) i0 i1 i2 o0 o1 o2 f0 f1 f2 faulty s new m (Consumes-trans i0.bytes i1.bytes i2.bytes m.came piece m.passes.read reads)
-    (inl (record { state = t; by = by; held = held })) out
-piece_fails first pids piece i0 i1 i2 o0 o1 o2 f0 f1 f2 faulty s t new Memory m reads by held out = absurd out
+piece_fails first pids i0 i1 i2 o0 o1 o2 f0 f1 f2 faulty s t new Read m p out = absurd out
+piece_fails first pids i0 i1 i2 o0 o1 o2 f0 f1 f2 faulty s t new Write m p out =
+    last_fails first pids (m.came ++ p.piece) i0 i1 i2 o0 o1 o2 f0 f1 f2 faulty s new m (Consumes-trans i0.bytes i1.bytes i2.bytes m.came p.piece m.passes.read p.read)
+    (inl (record { state = t; by = p.taken first m.came m.fed m.by; held = p.held })) out
+piece_fails first pids i0 i1 i2 o0 o1 o2 f0 f1 f2 faulty s t new Memory m p out = absurd out
 
 -- 6. What the end of the stream feeds
 
@@ -309,45 +327,59 @@ pub long_first : (first : FeedView) (pids : List ℕ) (input output faults : Por
     MidwayLong first pids (between input input) (between output output) (between faults faults) false s 0
 long_first first pids input output faults s is = record { midway = none_came first pids input output faults s is; pieces_in = omega arith }
 
--- what a push gives, with what was fed before and no more
-pub pushed : {E : Type 0} (first : FeedView) (came piece : List ℕ) (s t : StreamFeedView) (before none items shown : List Fed) (r : Result (Unit {0}) E) → none ≡ [] → shown ≡ items → is_err r ≡ false →
-    IsFedBy first came false s before → (IsFedBy first came false s (before ++ none) → OnOk r (IsFedBy first (came ++ piece) false t (before ++ items))) → IsFedBy first (came ++ piece) false t (before ++ shown)
-pushed first came piece s t before none items shown (Ok x) n e ok by push =
-    subst (λ (fed : List Fed). IsFedBy first (came ++ piece) false t (before ++ fed)) (sym e)
-    (push (subst (λ (fed : List Fed). IsFedBy first came false s fed) (sym (ap (λ (x : List Fed). before ++ x) n ∙ append-nil before)) by))
-pushed first came piece s t before none items shown (Err x) n e ok by push = absurd cc
+-- what a push gives, where nothing waited
+pub pushed : {E : Type 0} (piece : List ℕ) (s t : StreamFeedView) (none items : List Fed) (r : Result (Unit {0}) E) → none ≡ [] → is_err r ≡ false →
+    ((first : FeedView) (came : List ℕ) (before : List Fed) → IsFedBy first came false s (before ++ none) → OnOk r (IsFedBy first (came ++ piece) false t (before ++ items))) →
+    (first : FeedView) (came : List ℕ) (before : List Fed) → IsFedBy first came false s before → IsFedBy first (came ++ piece) false t (before ++ items)
+pushed piece s t none items (Ok x) n ok push first came before by =
+    push first came before (subst (λ (fed : List Fed). IsFedBy first came false s fed) (sym (ap (λ (x : List Fed). before ++ x) n ∙ append-nil before)) by)
+pushed piece s t none items (Err x) n ok push first came before by = absurd cc
 
 pub held_short : {E : Type 0} (n : ℕ) (r : Result (Unit {0}) E) → is_err r ≡ false → OnOk r (n < 1128) → n < 1128
 held_short n (Ok x) ok h = h
 held_short n (Err x) ok h = absurd cc
 
+pub fed_piece : {E : Type 0} (s t : StreamFeedView) (i1 i2 : Port) (part : List ℕ) (n : ℕ) (none items : List Fed) (r : Result (Unit {0}) E) → length part ≤ longest_piece → n ≤ length part → 0 < n →
+    Consumes i1.bytes i2.bytes (take n part) → i2.failed ≡ i1.failed → none ≡ [] → is_err r ≡ false →
+    ((first : FeedView) (came : List ℕ) (before : List Fed) → IsFedBy first came false s (before ++ none) → OnOk r (IsFedBy first (came ++ take n part) false t (before ++ items))) →
+    OnOk r (length t.held < 1128) → FeedsSome s (between i1 i2) t items
+fed_piece s t i1 i2 part n none items r most within some reads clean empty ok push short = record {
+  piece = take n part;
+  some = omega (arith, length-take-le n part within, some);
+  most = omega (arith, length-take-le n part within, within, most);
+  read = reads;
+  clean = clean;
+  taken = pushed (take n part) s t none items r empty ok push;
+  held = held_short (length t.held) r ok short;
+}
+
 -- a read that gave nothing
 pub none_read : (a b : Option (List ℕ)) (n : ℕ) (part : List ℕ) → n ≡ 0 → Consumes a b (take n part) → Consumes a b []
 none_read a b n part e h = subst (λ (m : ℕ). Consumes a b (take m part)) e h
 
-pub long_more : (first : FeedView) (pids part : List ℕ) (n : ℕ) (i0 i1 i2 o0 o1 o2 f0 f1 f2 : Port) (early late faulty : Bool) (s t : StreamFeedView) (new : List Fed) (pieces : ℕ)
-    (m : MidwayLong first pids (between i0 i1) (between o0 o1) (between f0 f1) early s pieces) → Consumes i1.bytes i2.bytes (take n part) → 0 < n → n ≤ length part → i2.failed ≡ i1.failed →
-    IsFedBy first (m.midway.came ++ take n part) false t (m.midway.fed ++ new) → length t.held < 1128 →
+pub long_more : (first : FeedView) (pids : List ℕ) (i0 i1 i2 o0 o1 o2 f0 f1 f2 : Port) (early late faulty : Bool) (s t : StreamFeedView) (new : List Fed) (pieces : ℕ) →
+    MidwayLong first pids (between i0 i1) (between o0 o1) (between f0 f1) early s pieces → FeedsSome s (between i1 i2) t new →
     GoesOut pids new (between o1 o2) (between f1 f2) (Ok late) → faulty ≡ (early || late) →
     MidwayLong first pids (between i0 i2) (between o0 o2) (between f0 f2) faulty t (pieces + 1)
-long_more first pids part n i0 i1 i2 o0 o1 o2 f0 f1 f2 early late faulty s t new pieces m reads some within clean by held out is =
+long_more first pids i0 i1 i2 o0 o1 o2 f0 f1 f2 early late faulty s t new pieces m p out is =
     let before = m.midway in
+    let some = p.some in
     record {
       midway = record {
-        came = before.came ++ take n part;
+        came = before.came ++ p.piece;
         fed = before.fed ++ new;
-        by = by;
-        held = held;
+        by = p.taken first before.came before.fed before.by;
+        held = p.held;
         passes = record {
-          read = Consumes-trans i0.bytes i1.bytes i2.bytes before.came (take n part) before.passes.read reads;
+          read = Consumes-trans i0.bytes i1.bytes i2.bytes before.came p.piece before.passes.read p.read;
           written = all_written o0 o1 o2 before.fed new before.passes.written out.0;
           clean = out.1 ∙ before.passes.clean;
           tells = all_told pids f0 f1 f2 before.fed new before.passes.tells out.2;
         };
-        unfailed = clean ∙ before.unfailed;
+        unfailed = p.clean ∙ before.unfailed;
         faulty_is = all_faulty early late faulty before.fed new before.faulty_is out.3 is;
       };
-      pieces_in = omega (arith, m.pieces_in, length-append before.came (take n part), length-take-le n part within, some);
+      pieces_in = omega (arith, m.pieces_in, length-append before.came p.piece, some);
     }
 
 pub long_enough : (first : FeedView) (pids : List ℕ) (input output faults : Device) (faulty : Bool) (s : StreamFeedView) (pieces : ℕ) (m : MidwayLong first pids input output faults faulty s pieces) →

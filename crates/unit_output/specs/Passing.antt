@@ -1,7 +1,8 @@
 -- A stream, read as it comes, and what goes out of it: the records of its units and of ticks before the next read, and a line for each
 -- unit that has no moment, each loss of packets, whatever else cuts units, each new map and each jump of the clock.
-use Rattle.std.specs.Prelude.{◌≡◌, ◌⊎◌, ◌<◌, ◌≤◌, ◌-◌, ◌^◌, ℕ, Bool, false, if◌then◌else◌, List, [], ◌++◌, length, take, Result, Ok, Err}
-use Rattle.std.specs.Io.KnownBytes.{Consumes, IsAtEnd}
+use Rattle.std.specs.Prelude.{◌≡◌, ◌⊎◌, ◌<◌, ◌≤◌, ◌-◌, ◌^◌, ℕ, Bool, true, false, if◌then◌else◌, List, [], ◌++◌, length, take, Result, Ok, Err}
+use Rattle.std.specs.Io.KnownBytes.{Consumes, IsAtEnd, Keeps}
+use Rattle.counted_io.specs.Device.{CountsOne}
 use Rattle.devices.specs.Devices.{Device, Port, HasFailed, IsClean, IsUntouched, Takes, between}
 use Rattle.devices.specs.Lines.{Reports, Stopped, Tells}
 use Rattle.devices.specs.Outcomes.{halt_line}
@@ -73,6 +74,28 @@ PassesOn first pids input output faults (Err Write) = FailsToPass first pids inp
 PassesOn first pids input output faults (Err Memory) = PassesFront first pids Memory input output faults
 
 -- 3. Piece by piece
+
+-- the most bytes of one read; what they make whole is out before the next
+abbrev pub longest_piece : ℕ
+longest_piece = 2 ^ 16
+
+-- a read gave bytes of the input, and all that they make whole is fed
+pub record FeedsSome (old : StreamFeedView) (input : Device) (new : StreamFeedView) (fed : List Fed) : Type 0 where
+  pub piece : List ℕ
+  pub some : 0 < length piece
+  pub most : length piece ≤ longest_piece
+  pub read : Consumes input.before.bytes input.after.bytes piece
+  pub clean : IsClean input
+  pub taken : (first : FeedView) (came : List ℕ) (before : List Fed) → IsFedBy first came false old before → IsFedBy first (came ++ piece) false new (before ++ fed)
+  pub held : length new.held < 1128
+
+-- or the input ended; a call of the reader failed; or there is no memory for the bytes that were read
+abbrev pub FeedsPiece : StreamFeedView → Device → StreamFeedView → List Fed → Result Bool Halt → Type 0
+FeedsPiece old input new fed (Ok true) = FeedsSome old input new fed
+FeedsPiece old input new fed (Ok false) = Consumes input.before.bytes input.after.bytes [] × IsClean input × IsAtEnd input.after.bytes × (new ≡ old)
+FeedsPiece old input new fed (Err Read) = Keeps input.before.bytes input.after.bytes × CountsOne input.before.failed input.after.failed
+FeedsPiece old input new fed (Err Write) = ⊥
+FeedsPiece old input new fed (Err Memory) = (piece : List ℕ) × Consumes input.before.bytes input.after.bytes piece × IsClean input
 
 -- what is fed goes out: the records, and then a line for all else; or the writer fails within the records
 abbrev pub GoesOut : List ℕ → List Fed → Device → Device → Result Bool Halt → Type 0

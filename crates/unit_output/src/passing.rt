@@ -1,6 +1,6 @@
 //! A stream, read as it comes; what it feeds goes out before the next read.
 
-ghost use Rattle.std.specs.Prelude.{◌≡◌, ◌<◌, ◌||◌, ℕ, List, false, length};
+ghost use Rattle.std.specs.Prelude.{◌≡◌, ◌<◌, ◌≤◌, ◌||◌, ℕ, List, [], false, length};
 ghost use Rattle.devices.specs.Devices.{reads, writes};
 ghost use Rattle.unit_feed.specs.Feeding.{Fed, FeedView};
 ghost use Rattle.unit_feed.specs.StreamFeeding.{IsFedBy, at_first};
@@ -32,6 +32,46 @@ fn pass_fed<W: Sink, E: Sink>(
     }
 }
 
+// What waits goes out, and nothing waits then. Returns whether a line was told.
+fn let_out<W: Sink, E: Sink>(
+    pids: &[u16],
+    fed: &mut Vec<(u8, Result<Unit, FeedFault>)>,
+    output: &mut W,
+    faults: &mut E,
+) -> Result<bool, Halt>
+    ensures goes { spec.GoesOut pids.now fed.old.items (writes W.Sink output.old output.new)
+        (writes E.Sink faults.old faults.new) result }
+    ensures out { fed.new.items ≡ [] }
+{
+    let result = pass_fed(pids, fed.as_slice(), output, faults);
+    fed.clear();
+    result
+}
+
+// Reads the next bytes of the input, and feeds them. All that was fed before is out. Returns whether there are any.
+fn feed_piece<R: Source>(
+    stream: &mut StreamFeed,
+    piece: &mut [u8],
+    input: &mut R,
+    fed: &mut Vec<(u8, Result<Unit, FeedFault>)>,
+) -> Result<bool, Halt>
+    requires some { 0 < length piece.old }
+    requires most { length piece.old ≤ spec.longest_piece }
+    // Nothing that was fed before waits to go out.
+    requires out { fed.old.items ≡ [] }
+    ensures { spec.FeedsPiece stream.old (reads R.Source input.old input.new) stream.new fed.new.items result }
+{
+    let n = match input.read_some(piece) {
+        Ok(0) => return Ok(false),
+        Ok(n) => n,
+        Err(_) => return Err(Halt::Read),
+    };
+    if stream.push(&piece[..n], fed).is_err() {
+        return Err(Halt::Memory);
+    }
+    Ok(true)
+}
+
 // Reads a stream to the end of the input; what each read feeds goes out before the next. Returns whether a line was told.
 fn pass_pieces<R: Source, W: Sink, E: Sink>(
     alloc: Global,
@@ -42,23 +82,23 @@ fn pass_pieces<R: Source, W: Sink, E: Sink>(
     output: &mut W,
     faults: &mut E,
 ) -> Result<bool, Halt>
-    requires { 0 < length piece.old }
+    requires some { 0 < length piece.old }
+    requires most { length piece.old ≤ spec.longest_piece }
     ensures { (first : FeedView) → stream.old ≡ at_first first →
         spec.PassesPieces first pids.now (reads R.Source input.old input.new) (writes W.Sink output.old output.new)
         (writes E.Sink faults.old faults.new) result stream.new }
 {
     let mut faulty = false;
+    let mut fed = Vec::new(alloc);
     for _ in 0..u64::MAX {
-        let n = match input.read_some(piece) {
-            Ok(0) => return Ok(faulty),
-            Ok(n) => n,
-            Err(_) => return Err(Halt::Read),
+        let more = match feed_piece(stream, piece, input, &mut fed) {
+            Ok(more) => more,
+            Err(halt) => return Err(halt),
         };
-        let mut fed = Vec::new(alloc);
-        if stream.push(&piece[..n], &mut fed).is_err() {
-            return Err(Halt::Memory);
+        if !more {
+            return Ok(faulty);
         }
-        let found = match pass_fed(pids, &fed, output, faults) {
+        let found = match let_out(pids, &mut fed, output, faults) {
             Ok(found) => found,
             Err(halt) => return Err(halt),
         };

@@ -1,4 +1,4 @@
-use Rattle.std.proofs.Common.{◌≡◌}
+use Rattle.std.proofs.Common.{◌≡◌, []}
 use Rattle.devices.specs.Devices.{between}
 use Rattle.unit_feed.specs.Feeding.{FeedView}
 use Rattle.unit_feed.specs.StreamFeeding.{at_first}
@@ -6,10 +6,13 @@ use Rattle.unit_output.proofs.PassedStreams.{MidwayLong}
 use Rattle.unit_output.proofs.passing.pass_pieces.Given as goal
 
 abbrev pub invariant-loop : goal.invariant-loop
-invariant-loop g l = (first : FeedView) → l.fn.stream ≡ at_first first →
-    MidwayLong first l.pids (between (record { bytes = g.R.Read.remaining l.fn.input; failed = g.R.Source.fault_count l.fn.input })
-    (record { bytes = g.R.Read.remaining l.input; failed = g.R.Source.fault_count l.input }))
-    (between (record { bytes = g.W.Write.contents l.fn.output; failed = g.W.Sink.fault_count l.fn.output })
-    (record { bytes = g.W.Write.contents l.output; failed = g.W.Sink.fault_count l.output }))
-    (between (record { bytes = g.E.Write.contents l.fn.faults; failed = g.E.Sink.fault_count l.fn.faults })
-    (record { bytes = g.E.Write.contents l.faults; failed = g.E.Sink.fault_count l.faults })) l.faulty l.stream l.counter
+invariant-loop g l = record {
+  out : l.fed.items ≡ [];
+  came : (first : FeedView) → l.fn.stream ≡ at_first first →
+      MidwayLong first l.pids (between (record { bytes = g.R.Read.remaining l.fn.input; failed = g.R.Source.fault_count l.fn.input })
+      (record { bytes = g.R.Read.remaining l.input; failed = g.R.Source.fault_count l.input }))
+      (between (record { bytes = g.W.Write.contents l.fn.output; failed = g.W.Sink.fault_count l.fn.output })
+      (record { bytes = g.W.Write.contents l.output; failed = g.W.Sink.fault_count l.output }))
+      (between (record { bytes = g.E.Write.contents l.fn.faults; failed = g.E.Sink.fault_count l.fn.faults })
+      (record { bytes = g.E.Write.contents l.faults; failed = g.E.Sink.fault_count l.faults })) l.faulty l.stream l.counter;
+}
