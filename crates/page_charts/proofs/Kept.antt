@@ -4,7 +4,7 @@ use Rattle.std.proofs.lemmas.Bool.Decides.{nat_tests}
 use Rattle.std.specs.Prelude.{slice_get, OnOk, ◌||◌, nat_le}
 use Rattle.page_curves.specs.Curves.{Sample, IsCurve}
 use Rattle.page_charts.specs.declared.pid_curves.PidCurve.{PidCurve}
-use Rattle.page_charts.specs.declared.pid_name.PidName.{PidName}
+use Rattle.events.specs.declared.pid_name.PidName.{PidName}
 use Rattle.page_charts.specs.PidCurves.{AreCurves, IsKept, KeptCurve, has_pid, is_closed, kept_name, opened, sampled, with_sample}
 
 pub equals : (a b : ℕ) → a ≡ b → (a == b) ≡ true

@@ -1,5 +1,4 @@
 pub mod Numbers
-pub mod PidNames
 pub mod PidLabels
 pub mod Scale
 pub mod Frames

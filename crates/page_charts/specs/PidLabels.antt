@@ -2,9 +2,9 @@
 use Rattle.std.specs.Prelude.{ℕ, nat_eq, List, [], ◌++◌, codes, decimal, Option, Some, None}
 use Rattle.std.specs.Map.{lookup}
 use Rattle.indexmap.specs.IndexMap.{insert_entry}
-use Rattle.page_charts.specs.declared.pid_name.PidName.{PidName}
+use Rattle.events.specs.declared.pid_name.PidName.{PidName}
 use Rattle.page_charts.specs.declared.pid_labels.PidProgram.{PidProgram}
-use Rattle.page_charts.specs.PidNames.{of_pid, word}
+use Rattle.events.specs.PidNames.{of_pid, word}
 
 -- by PID, and by program; a name is text of a page
 pub record LabelsState : Type 0 where

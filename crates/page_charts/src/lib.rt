@@ -2,8 +2,7 @@
 //!
 //! - [`PidCurves`]: curves by PID, each with a name and a limit, [`MOST_CURVES`] at most.
 //! - [`ChartUnit`]: in which units numbers are written, and what a window without a value means.
-//! - [`write_chart`]: a picture of some of them over all windows, with a key and all its numbers as a table; [`PidName`] names
-//!   a PID.
+//! - [`write_chart`]: a picture of some of them over all windows, with a key and all its numbers as a table.
 //! - [`PidLabels`]: the programs of PIDs and the names of their services, which stand beside each PID ([`write_label`]).
 //! - [`write_tenths`]: a number in a greater unit.
 //!
@@ -17,7 +16,6 @@ mod numbers;
 mod paths;
 mod pid_curves;
 mod pid_labels;
-mod pid_name;
 mod scale;
 mod value_table;
 
@@ -26,4 +24,3 @@ pub use frame::{ChartUnit, Frame};
 pub use numbers::write_tenths;
 pub use pid_curves::{MOST_CURVES, PidCurve, PidCurves, greatest_value};
 pub use pid_labels::{PidLabels, PidProgram, write_label};
-pub use pid_name::PidName;

@@ -4,7 +4,7 @@ ghost use Rattle.page_curves.specs.Curves.{sample};
 ghost use Rattle.page_charts.specs.PidCurves.{AreCurves, KeptCurve, opened, with_sample};
 ghost use Rattle.page_charts.specs.PidCurves as spec;
 
-use crate::pid_name::PidName;
+use events::PidName;
 use page_curves::Curve;
 use std::alloc::{AllocError, Global};
 

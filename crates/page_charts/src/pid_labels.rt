@@ -3,7 +3,7 @@ ghost use Rattle.std.specs.Prelude.{◌≡◌, ◌++◌, OnOk, nat_eq, option_ma
 ghost use Rattle.std.specs.Map.{lookup};
 ghost use Rattle.page_charts.specs.PidLabels as spec;
 
-use crate::pid_name::PidName;
+use events::PidName;
 use indexmap::IndexMap;
 use std::alloc::{AllocError, Global};
 use std::fmt::Write;

@@ -7,11 +7,9 @@ use Rattle.description.specs.declared.table_kind.TableKind.TheVariants.{Pat, Pmt
 use Rattle.slot_plan.specs.Numbered.{numbered}
 use Rattle.slot_plan.specs.declared.slot.Item.TheVariants.{Stream, Pcr, Table}
 use Rattle.stream_coding.specs.Codings.{coding_of}
-use Rattle.stream_coding.specs.declared.coding.Coding.{Coding}
-use Rattle.stream_coding.specs.declared.coding.Coding.TheVariants as codings
-use Rattle.page_charts.specs.PidNames as pids
-use Rattle.page_charts.specs.declared.pid_name.PidName.{PidName}
-use Rattle.page_charts.specs.declared.pid_name.PidName.TheVariants as carried
+use Rattle.events.specs.PidNames as pids
+use Rattle.events.specs.declared.pid_name.PidName.{PidName}
+use Rattle.events.specs.declared.pid_name.PidName.TheVariants as carried
 use Rattle.plan_page.specs.declared.owners.Owner.TheVariants.{Item, Null}
 use Rattle.plan_page.specs.declared.plan_items.ItemName.{ItemName}
 use Rattle.plan_page.specs.declared.plan_items.ItemName.TheVariants as named
@@ -33,17 +31,6 @@ limit_word PcrLimit = codes "pcr_limit"
 limit_word TableLimit = codes "table"
 limit_word Nothing = codes ""
 
-unfoldable pub coding_name : Coding → PidName
-coding_name (codings.Mpeg level) = carried.Mpeg2
-coding_name (codings.Avc level) = carried.Avc
-coding_name (codings.Hevc level) = carried.Hevc
-coding_name codings.Audio = carried.Audio
-coding_name (codings.Aac channels) = carried.Aac
-coding_name codings.Ac3 = carried.Ac3
-coding_name codings.Subtitles = carried.Subtitles
-coding_name codings.Teletext = carried.Teletext
-coding_name codings.Other = carried.Other
-
 unfoldable pub table_name : Option TableKind → ItemName
 table_name (Some Pat) = named.Carried carried.Pat
 table_name (Some (Pmt place)) = named.Pmt
@@ -59,7 +46,7 @@ table_name None = named.Carried carried.Other
 abbrev pub stream_item : ℕ → DescribedStream → PlanItem
 stream_item number s = record {
   owner = Item (Stream number);
-  name = named.Carried (coding_name (coding_of s.stream_type s.descriptors []));
+  name = named.Carried (pids.of_coding (coding_of s.stream_type s.descriptors []));
   program = s.program;
   pid = s.pid;
   row = 1;

@@ -5,10 +5,10 @@ ghost use Rattle.plan_page.specs.PlanItems as spec;
 
 use crate::owners::Owner;
 use crate::table_items::push_tables;
-use page_charts::PidName;
+use events::PidName;
 use slot_plan::{Description, Item, ProgramDescription, StreamDescription};
 use std::alloc::{AllocError, Global};
-use stream_coding::{Coding, coding_of};
+use stream_coding::coding_of;
 
 /// What an item is called: what its PID carries, clock references, a program map, or a private table.
 #[derive(Clone, Copy)]
@@ -71,24 +71,6 @@ impl LimitName {
     }
 }
 
-// What a stream of a coding is called.
-#[tactic(auto, unfolding(crate::specs::PlanItems::coding_name))]
-fn coding_name(coding: Coding) -> PidName
-    ensures { result ≡ spec.coding_name coding }
-{
-    match coding {
-        Coding::Mpeg(_) => PidName::Mpeg2,
-        Coding::Avc(_) => PidName::Avc,
-        Coding::Hevc(_) => PidName::Hevc,
-        Coding::Audio => PidName::Audio,
-        Coding::Aac(_) => PidName::Aac,
-        Coding::Ac3 => PidName::Ac3,
-        Coding::Subtitles => PidName::Subtitles,
-        Coding::Teletext => PidName::Teletext,
-        Coding::Other => PidName::Other,
-    }
-}
-
 // A stream: between two of its slots there is less than its lead.
 fn stream_item(number: usize, stream: &StreamDescription) -> PlanItem
     requires { number < 256 }
@@ -97,7 +79,7 @@ fn stream_item(number: usize, stream: &StreamDescription) -> PlanItem
     let coding = coding_of(stream.stream_type, stream.descriptors.as_bytes(), &[]);
     PlanItem {
         owner: Owner::Item(Item::Stream(number as u8)),
-        name: ItemName::Carried(coding_name(coding)),
+        name: ItemName::Carried(PidName::of_coding(coding)),
         program: stream.program,
         pid: stream.pid,
         row: 1,

@@ -7,7 +7,7 @@ ghost use Rattle.plan_page.specs.PlanItems as spec;
 
 use crate::owners::Owner;
 use crate::plan_items::{ItemName, LimitName, PlanItem};
-use page_charts::PidName;
+use events::PidName;
 use slot_plan::{Description, Item, PrivateTable, TableKind};
 use std::alloc::AllocError;
 

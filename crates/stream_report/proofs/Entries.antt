@@ -2,6 +2,7 @@
 use Rattle.std.proofs.Common.{◌≡◌, ◌∙◌, sym, ℕ, zero, suc, Bool, true, false, ◌&&◌, List, [], ◌∷◌, ◌++◌, length, Some, None, ◌≤◌, drop, refl, ap, subst, append_assoc, append-nil, arith}
 use Rattle.std.specs.Prelude.{flat_map, set, slice_get}
 use Rattle.std.specs.List.{list_all}
+use Rattle.events.specs.declared.event.Event.{Event}
 use Rattle.stream_report.specs.declared.stream_entry.StreamEntry.{StreamEntry}
 use Rattle.stream_report.specs.Entries.{EntryState, IsEntry}
 use Rattle.stream_report.specs.StreamTables.{AreEntries}
@@ -50,33 +51,33 @@ set_at (c ∷ bs) [] n b e a i = absurd a
 set_at (c ∷ bs) (f ∷ es) zero b e a i = (i, a.1)
 set_at (c ∷ bs) (f ∷ es) (suc n) b e a i = (a.0, set_at bs es n b e a.1 i)
 
--- the streams that a walk has not reached, and what is still to be written of them
-pub record Ahead (bs : List StreamEntry) (f : EntryState → List ℕ) (text whole : List ℕ) : Type 0 where
+-- the streams that a walk has not reached, and what is still to come of them
+pub record Ahead (bs : List StreamEntry) (f : EntryState → List Event) (events whole : List Event) : Type 0 where
   pub left : List EntryState
   pub are : AreEntries bs left
-  pub same : text ++ flat_map f left ≡ whole
+  pub same : events ++ flat_map f left ≡ whole
 
-written_by : (f : EntryState → List ℕ) (b : StreamEntry) (bs : List StreamEntry) (text text' whole : List ℕ) → ((e : EntryState) → IsEntry b e → text' ≡ text ++ f e) →
-    (left : List EntryState) → AreEntries (b ∷ bs) left → text ++ flat_map f left ≡ whole → Ahead bs f text' whole
+written_by : (f : EntryState → List Event) (b : StreamEntry) (bs : List StreamEntry) (events events' whole : List Event) → ((e : EntryState) → IsEntry b e → events' ≡ events ++ f e) →
+    (left : List EntryState) → AreEntries (b ∷ bs) left → events ++ flat_map f left ≡ whole → Ahead bs f events' whole
 unfolding AreEntries
-written_by f b bs text text' whole writes [] are same = absurd are
-written_by f b bs text text' whole writes (e ∷ es) are same = record {
+written_by f b bs events events' whole writes [] are same = absurd are
+written_by f b bs events events' whole writes (e ∷ es) are same = record {
   left = es;
   are = are.1;
-  same = ap (λ (t : List ℕ). t ++ flat_map f es) (writes e are.0) ∙ append_assoc text (f e) (flat_map f es) ∙ same;
+  same = ap (λ (t : List Event). t ++ flat_map f es) (writes e are.0) ∙ append_assoc events (f e) (flat_map f es) ∙ same;
 }
 
-pub one_written : (f : EntryState → List ℕ) (b : StreamEntry) (bs : List StreamEntry) (text text' whole : List ℕ) → ((e : EntryState) → IsEntry b e → text' ≡ text ++ f e) →
-    Ahead (b ∷ bs) f text whole → Ahead bs f text' whole
-one_written f b bs text text' whole writes a = written_by f b bs text text' whole writes a.left a.are a.same
+pub one_written : (f : EntryState → List Event) (b : StreamEntry) (bs : List StreamEntry) (events events' whole : List Event) → ((e : EntryState) → IsEntry b e → events' ≡ events ++ f e) →
+    Ahead (b ∷ bs) f events whole → Ahead bs f events' whole
+one_written f b bs events events' whole writes a = written_by f b bs events events' whole writes a.left a.are a.same
 
-none_ahead : (f : EntryState → List ℕ) (text whole : List ℕ) (left : List EntryState) → AreEntries [] left → text ++ flat_map f left ≡ whole → text ≡ whole
+none_ahead : (f : EntryState → List Event) (events whole : List Event) (left : List EntryState) → AreEntries [] left → events ++ flat_map f left ≡ whole → events ≡ whole
 unfolding AreEntries
-none_ahead f text whole [] are same = sym (append-nil text) ∙ same
-none_ahead f text whole (e ∷ es) are same = absurd are
+none_ahead f events whole [] are same = sym (append-nil events) ∙ same
+none_ahead f events whole (e ∷ es) are same = absurd are
 
-pub all_written : (f : EntryState → List ℕ) (text whole : List ℕ) → Ahead [] f text whole → text ≡ whole
-all_written f text whole a = none_ahead f text whole a.left a.are a.same
+pub all_written : (f : EntryState → List Event) (events whole : List Event) → Ahead [] f events whole → events ≡ whole
+all_written f events whole a = none_ahead f events whole a.left a.are a.same
 
 -- and whether all of them are good
 pub record Unjudged (bs : List StreamEntry) (f : EntryState → Bool) (whole : Bool) : Type 0 where

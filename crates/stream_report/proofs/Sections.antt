@@ -3,8 +3,9 @@ use Rattle.std.proofs.Common.{◌≡◌, ◌∙◌, ◌<◌, ◌≤◌, ℕ, ◌
 use Rattle.std.proofs.Math.Seq.{drop-cons}
 use Rattle.std.proofs.lemmas.List.{append_assoc, append-nil, drop_all}
 use Rattle.demux.specs.Views.{FindingView}
+use Rattle.events.specs.declared.event.Event.{Event}
 use Rattle.stream_report.specs.declared.view_options.ViewOptions.{ViewOptions}
-use Rattle.stream_report.specs.TableLines.{TimesState, finding_lines, findings_lines, with_finding, with_findings}
+use Rattle.stream_report.specs.TableEvents.{TimesState, finding_events, findings_events, with_finding, with_findings}
 
 all_step : {X : Type 0} (view : X → FindingView) (i : ℕ) (fs : List X) (f : X) → i < length fs → f ≡ get_or fs i f → map view (drop i fs) ≡ view f ∷ map view (drop (i + 1) fs)
 all_step view i fs f below at = rw (drop-cons fs i f below, add-one i, sym at) refl
@@ -21,21 +22,21 @@ unfolding with_findings
 times_end view options whole s i fs over is =
     let none : map view (drop i fs) ≡ [] = rw (drop_all i fs over) refl in sym (is ∙ ap (λ (l : List FindingView). with_findings options s l) none)
 
--- and their lines
-pub lines_step : {X : Type 0} (view : X → FindingView) (options : ViewOptions) (s next : TimesState) (i : ℕ) (fs : List X) (f : X) (whole before after : List ℕ) → i < length fs → f ≡ get_or fs i f →
-    whole ≡ before ++ findings_lines options s (map view (drop i fs)) → next ≡ with_finding options s (view f) → after ≡ before ++ finding_lines options s (view f) →
-    whole ≡ after ++ findings_lines options next (map view (drop (i + 1) fs))
-unfolding findings_lines
-lines_step view options s next i fs f whole before after below at is goes grown =
-    let rest = findings_lines options (with_finding options s (view f)) (map view (drop (i + 1) fs)) in
-    is ∙ ap (λ (l : List FindingView). before ++ findings_lines options s l) (all_step view i fs f below at)
-    ∙ sym (append_assoc before (finding_lines options s (view f)) rest)
-    ∙ ap (λ (xs : List ℕ). xs ++ rest) (sym grown)
-    ∙ ap (λ (t : TimesState). after ++ findings_lines options t (map view (drop (i + 1) fs))) (sym goes)
+-- and what is wrong with them
+pub events_step : {X : Type 0} (view : X → FindingView) (options : ViewOptions) (s next : TimesState) (i : ℕ) (fs : List X) (f : X) (whole before after : List Event) → i < length fs → f ≡ get_or fs i f →
+    whole ≡ before ++ findings_events options s (map view (drop i fs)) → next ≡ with_finding options s (view f) → after ≡ before ++ finding_events options s (view f) →
+    whole ≡ after ++ findings_events options next (map view (drop (i + 1) fs))
+unfolding findings_events
+events_step view options s next i fs f whole before after below at is goes grown =
+    let rest = findings_events options (with_finding options s (view f)) (map view (drop (i + 1) fs)) in
+    is ∙ ap (λ (l : List FindingView). before ++ findings_events options s l) (all_step view i fs f below at)
+    ∙ sym (append_assoc before (finding_events options s (view f)) rest)
+    ∙ ap (λ (xs : List Event). xs ++ rest) (sym grown)
+    ∙ ap (λ (t : TimesState). after ++ findings_events options t (map view (drop (i + 1) fs))) (sym goes)
 
-pub lines_end : {X : Type 0} (view : X → FindingView) (options : ViewOptions) (s : TimesState) (i : ℕ) (fs : List X) (whole text : List ℕ) → length fs ≤ i →
-    whole ≡ text ++ findings_lines options s (map view (drop i fs)) → text ≡ whole
-unfolding findings_lines
-lines_end view options s i fs whole text over is =
+pub events_end : {X : Type 0} (view : X → FindingView) (options : ViewOptions) (s : TimesState) (i : ℕ) (fs : List X) (whole events : List Event) → length fs ≤ i →
+    whole ≡ events ++ findings_events options s (map view (drop i fs)) → events ≡ whole
+unfolding findings_events
+events_end view options s i fs whole events over is =
     let none : map view (drop i fs) ≡ [] = rw (drop_all i fs over) refl in
-    sym (is ∙ ap (λ (l : List FindingView). text ++ findings_lines options s l) none ∙ append-nil text)
+    sym (is ∙ ap (λ (l : List FindingView). events ++ findings_events options s l) none ∙ append-nil events)

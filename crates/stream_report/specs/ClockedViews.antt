@@ -5,8 +5,9 @@ use Rattle.stream_arrival.specs.declared.arrival.Arrival.TheVariants.{Unknown, A
 use Rattle.clocked_packets.specs.Waiting.{QueueState, last_arrival, no_packet, released, stepped, with_held}
 use Rattle.clocked_packets.specs.declared.packet_queue.ClockPid.{ClockPid}
 use Rattle.clocked_packets.specs.declared.packet_queue.ClockPid.TheVariants.{OfFirst, OfProgram}
+use Rattle.events.specs.declared.event.Event.{Event}
 use Rattle.stream_report.specs.Choices.{RequestView}
-use Rattle.stream_report.specs.Seen.{arrival_lines}
+use Rattle.stream_report.specs.Seen.{arrival_events}
 use Rattle.stream_report.specs.Views.{IsView, ViewState, arriving}
 use Rattle.stream_report.specs.Views as views
 use Rattle.stream_report.specs.declared.clocked_view.ClockedView.{ClockedView}
@@ -39,17 +40,17 @@ start request = record { view = views.start request; queue = queue_of request.op
 abbrev pub view_with : ViewState → QueueState → Arrival → ViewState
 view_with v q arrival = views.after_all (arriving v arrival (length q.held)) q.held
 
-abbrev pub lines_with : ViewState → QueueState → Arrival → List ℕ
-lines_with v q arrival = arrival_lines v.seen arrival (length q.held) ++ views.lines_all (arriving v arrival (length q.held)) q.held
+abbrev pub events_with : ViewState → QueueState → Arrival → List Event
+events_with v q arrival = arrival_events v.seen arrival (length q.held) ++ views.events_all (arriving v arrival (length q.held)) q.held
 
 -- if they do
 unfoldable pub view_after : ViewState → QueueState → Option Arrival → ViewState
 view_after v q None = v
 view_after v q (Some arrival) = view_with v q arrival
 
-unfoldable pub lines_after : ViewState → QueueState → Option Arrival → List ℕ
-lines_after v q None = []
-lines_after v q (Some arrival) = lines_with v q arrival
+unfoldable pub events_after : ViewState → QueueState → Option Arrival → List Event
+events_after v q None = []
+events_after v q (Some arrival) = events_with v q arrival
 
 unfoldable pub held_after : QueueState → Option Arrival → List (List ℕ)
 held_after q None = q.held
@@ -64,37 +65,37 @@ unfoldable pub after_in : ViewState → Option QueueState → List ℕ → Clock
 after_in v None bytes = record { view = views.after_packet v bytes; queue = None }
 after_in v (Some q) bytes = record { view = view_after v (stepped q bytes) (released q bytes); queue = Some (queue_after q bytes) }
 
-unfoldable pub lines_in : ViewState → Option QueueState → List ℕ → List ℕ
-lines_in v None bytes = views.lines_at v bytes
-lines_in v (Some q) bytes = lines_after v (stepped q bytes) (released q bytes)
+unfoldable pub events_in : ViewState → Option QueueState → List ℕ → List Event
+events_in v None bytes = views.events_at v bytes
+events_in v (Some q) bytes = events_after v (stepped q bytes) (released q bytes)
 
 abbrev pub after_packet : ClockedState → List ℕ → ClockedState
 after_packet s bytes = after_in s.view s.queue bytes
 
-abbrev pub lines_at : ClockedState → List ℕ → List ℕ
-lines_at s bytes = lines_in s.view s.queue bytes
+abbrev pub events_at : ClockedState → List ℕ → List Event
+events_at s bytes = events_in s.view s.queue bytes
 
 -- after packets
 unfoldable pub after_all : ClockedState → List (List ℕ) → ClockedState
 after_all s [] = s
 after_all s (bytes ∷ packets) = after_all (after_packet s bytes) packets
 
-unfoldable pub lines_all : ClockedState → List (List ℕ) → List ℕ
-lines_all s [] = []
-lines_all s (bytes ∷ packets) = lines_at s bytes ++ lines_all (after_packet s bytes) packets
+unfoldable pub events_all : ClockedState → List (List ℕ) → List Event
+events_all s [] = []
+events_all s (bytes ∷ packets) = events_at s bytes ++ events_all (after_packet s bytes) packets
 
--- 3. At the end: those that wait are viewed, and then the last lines come
+-- 3. At the end: those that wait are viewed, and then the last events come
 
 unfoldable pub last_view : ViewState → Option QueueState → ViewState
 last_view v None = v
 last_view v (Some q) = view_with v q (last_arrival q)
 
-unfoldable pub last_lines : ViewState → Option QueueState → List ℕ
-last_lines v None = []
-last_lines v (Some q) = lines_with v q (last_arrival q)
+unfoldable pub last_events : ViewState → Option QueueState → List Event
+last_events v None = []
+last_events v (Some q) = events_with v q (last_arrival q)
 
-abbrev pub end_lines : ClockedState → ℕ → List ℕ
-end_lines s left = last_lines s.view s.queue ++ views.end_lines (last_view s.view s.queue) left
+abbrev pub end_events : ClockedState → ℕ → List Event
+end_events s left = last_events s.view s.queue ++ views.end_events (last_view s.view s.queue) left
 
 -- nothing is wrong
 abbrev pub is_good : ClockedState → ℕ → Bool

@@ -10,6 +10,7 @@ use Rattle.stream_buffers.specs.Held.{Held, IsHeld, main_most, transport_most, u
 use Rattle.stream_buffers.specs.declared.entering.TheConstants.{TRANSPORT_BYTES}
 use Rattle.stream_buffers.specs.Entering.{EnteredView, after, entered}
 use Rattle.stream_buffers.specs.declared.arriving.Arriving.{Arriving}
+use Rattle.events.specs.declared.event.Event.{Event}
 use Rattle.stream_report.specs.declared.view_options.ViewOptions.{ViewOptions}
 use Rattle.stream_report.specs.declared.clocks.TheConstants.{LONGEST_STAY}
 use Rattle.stream_report.specs.declared.clocks.Beginning.{Beginning}
@@ -17,10 +18,10 @@ use Rattle.stream_report.specs.declared.clocks.Beginning.TheVariants.{Nothing, U
 use Rattle.stream_report.specs.declared.stream_entry.StreamEntry.{StreamEntry}
 use Rattle.stream_report.specs.declared.tally.Tally.{Tally}
 use Rattle.stream_report.specs.Clocks.{ahead_of, beginning_of, due_at}
-use Rattle.stream_report.specs.EntryLines.{ahead_lines, closing_lines, ended_lines}
-use Rattle.stream_report.specs.HeldLines.{tally_lines}
+use Rattle.stream_report.specs.EntryEvents.{ahead_events, closing_events, ended_events}
+use Rattle.stream_report.specs.HeldEvents.{tally_events}
 use Rattle.stream_report.specs.Tallies.{with_excesses, with_packet, with_unit_if}
-use Rattle.stream_report.specs.declared.entry_lines.Place.{Place}
+use Rattle.stream_report.specs.declared.entry_events.Place.{Place}
 
 pub record EntryState : Type 0 where
   pub pid : ℕ
@@ -109,25 +110,25 @@ entry_after options index window clock e packet = record {
 abbrev pub closed : ℕ → EntryState → Tally
 closed window e = with_unit_if e.tally window (unit_before e.held)
 
--- 4. Its lines
+-- 4. What is found of it
 
 abbrev pub place_at : ℕ → EntryState → Place
 place_at packet e = record { pid = e.pid; packet = packet; rx = e.held.rx; size = e.held.main.size }
 
 -- those of a packet: what begins with it, and what ends
-abbrev pub entry_lines : ViewOptions → ℕ → Option PcrSample → EntryState → PacketView → List ℕ
-entry_lines options index clock e packet =
-    ahead_lines options (place_at index e) (ahead_by clock (beginning_in e.counter packet))
-    ++ ended_lines options (place_at index e) (entered_at options index clock e packet)
+abbrev pub entry_events : ViewOptions → ℕ → Option PcrSample → EntryState → PacketView → List Event
+entry_events options index clock e packet =
+    ahead_events (place_at index e) (ahead_by clock (beginning_in e.counter packet))
+    ++ ended_events options (place_at index e) (entered_at options index clock e packet)
 
 -- those of a window
-abbrev pub units_of : ViewOptions → ℕ → EntryState → List ℕ
-units_of options window e = tally_lines options window (place_at 0 e) e.tally
+abbrev pub units_of : ViewOptions → ℕ → EntryState → List Event
+units_of options window e = tally_events options window (place_at 0 e) e.tally
 
 -- those at the end
-abbrev pub end_lines : ViewOptions → ℕ → ℕ → EntryState → List ℕ
-end_lines options packets window e =
-    tally_lines options window (place_at packets e) (closed window e) ++ closing_lines options (place_at packets e) e.held (closed window e)
+abbrev pub end_events : ViewOptions → ℕ → ℕ → EntryState → List Event
+end_events options packets window e =
+    tally_events options window (place_at packets e) (closed window e) ++ closing_events options (place_at packets e) e.held (closed window e)
 
 -- neither buffer held more than its size, and no unit was late
 abbrev pub is_good : EntryState → Bool

@@ -1,5 +1,5 @@
 -- What is kept of a stream beside its buffers.
-use Rattle.std.specs.Prelude.{ℕ, ◌+◌, ◌-◌, ◌^◌, min, nat_lt, Bool, false, if◌then◌else◌, List, [], ◌∷◌, ◌++◌, codes, Option, None}
+use Rattle.std.specs.Prelude.{ℕ, ◌+◌, ◌-◌, ◌^◌, min, nat_lt, Bool, false, if◌then◌else◌, List, [], ◌∷◌, ◌++◌, Option, None}
 use Rattle.ts_packet.specs.Views.{PacketView}
 use Rattle.ts_packet.specs.PcrBytes.{has_pcr}
 use Rattle.pid_windows.specs.Windows.{WindowView, no_packet, one_more, taken}
@@ -19,16 +19,17 @@ use Rattle.table_intervals.specs.declared.intervals.TableTiming.TheVariants as t
 use Rattle.stream_arrival.specs.Arrivals.{moment_on}
 use Rattle.stream_arrival.specs.declared.arrival.Arrival.{Arrival}
 use Rattle.stream_arrival.specs.declared.arrival.Arrival.TheVariants.{Unknown, AtRate, OnLines}
+use Rattle.events.specs.declared.event.Event.{Event}
+use Rattle.events.specs.declared.event.Event.TheVariants as found
 use Rattle.stream_report.specs.declared.view_options.ViewOptions.{ViewOptions}
 use Rattle.stream_report.specs.Clocks.{ClockEntries, clocks_after, no_clocks}
-use Rattle.stream_report.specs.ClockLines.{clock_lines, errors_in, report_lines_if}
+use Rattle.stream_report.specs.ClockEvents.{clock_events, errors_in, report_events_if}
 use Rattle.stream_report.specs.Choices.{ChoiceView}
-use Rattle.stream_report.specs.ReferenceLines.{reference_lines}
-use Rattle.stream_report.specs.SystemLines.{excess_lines}
-use Rattle.stream_report.specs.TableLines.{TablesState, no_tables, table_lines}
-use Rattle.stream_report.specs.TableLines as tables
-use Rattle.stream_report.specs.ReportLines.{line_of, number_field}
-use Rattle.stream_report.specs.WindowLines.{pid_lines, window_of}
+use Rattle.stream_report.specs.ReferenceEvents.{reference_events}
+use Rattle.stream_report.specs.SystemEvents.{excess_events}
+use Rattle.stream_report.specs.TableEvents.{TablesState, no_tables, table_events}
+use Rattle.stream_report.specs.TableEvents as tables
+use Rattle.stream_report.specs.WindowEvents.{pid_events, window_of}
 
 -- the number of packets, and of those that are refused or have transport_error_indicator; the window of the last packet that is
 -- not; the packets of each PID; the last clock reference of each, and what all of them came to, by the rate, with the number of
@@ -90,7 +91,7 @@ origin_after (OnLines lines) origin arrival = origin
 abbrev pub with_arrival : ViewOptions → Arrival → ViewOptions
 with_arrival options arrival = record options { arrival = arrival; origin = origin_after options.arrival options.origin arrival }
 
--- so many packets that come next have no moment: that is an error, with a line
+-- so many packets that come next have no moment: that is an error
 unfoldable pub unclocked : Arrival → ℕ → Bool
 unclocked Unknown count = nat_lt 0 count
 unclocked (AtRate rate) count = false
@@ -102,18 +103,17 @@ arriving s arrival count = record s {
   errors = min (s.errors + (if unclocked arrival count then 1 else 0)) (2 ^ 64 - 1);
 }
 
--- `unclocked packet I packets N`
-abbrev pub unclocked_line : SeenState → ℕ → List ℕ
-unclocked_line s count = line_of s.options.json (codes "unclocked") (number_field (codes "packet") s.packets ∷ number_field (codes "packets") count ∷ [])
+abbrev pub unclocked_event : SeenState → ℕ → Event
+unclocked_event s count = found.Unclocked (record { packet = s.packets; packets = count })
 
-abbrev pub arrival_lines : SeenState → Arrival → ℕ → List ℕ
-arrival_lines s arrival count = if unclocked arrival count then unclocked_line s count else []
+abbrev pub arrival_events : SeenState → Arrival → ℕ → List Event
+arrival_events s arrival count = if unclocked arrival count then unclocked_event s count ∷ [] else []
 
 -- a packet that can't be read, or says that it is wrong
 abbrev pub without : SeenState → SeenState
 without s = record s { packets = one_more s.packets; refused = one_more s.refused }
 
--- one that can: its clock reference, with the lines of its errors, and then it enters the buffers of programs' tables and its PID is counted
+-- one that can: its clock reference, with its errors, and then it enters the buffers of programs' tables and its PID is counted
 abbrev pub report_on : SeenState → PacketView → Option PcrReport
 report_on s packet = report_at s.watches s.packets packet
 
@@ -124,8 +124,8 @@ with_clock s packet = record s {
   errors = min (s.errors + errors_in (report_on s packet)) (2 ^ 64 - 1);
 }
 
-abbrev pub clock_errors : SeenState → PacketView → List ℕ
-clock_errors s packet = report_lines_if s.options packet.header.pid (report_on s packet)
+abbrev pub clock_errors : SeenState → PacketView → List Event
+clock_errors s packet = report_events_if packet.header.pid (report_on s packet)
 
 abbrev pub next_window : SeenState → ℕ
 next_window s = window_of s.options s.packets
@@ -138,28 +138,26 @@ counted s packet = record s {
   totals = taken s.totals 0 packet.header.pid (has_pcr packet.adaptation);
 }
 
--- the lines of the excesses of programs' tables that end with it
-abbrev pub system_excesses : SeenState → ChoiceView → PacketView → List ℕ
+-- the excesses of programs' tables that end with it
+abbrev pub system_excesses : SeenState → ChoiceView → PacketView → List Event
 system_excesses s choice packet =
-    excess_lines s.options choice s.packets (programs.excesses_at s.options.arrival s.packets s.named packet.header.pid s.systems)
+    excess_events s.options choice s.packets (programs.excesses_at s.options.arrival s.packets s.named packet.header.pid s.systems)
 
--- the sections of tables in 188 bytes, and the lines of those that begin too late
+-- the sections of tables in 188 bytes, and those that begin too late
 abbrev pub with_sections : SeenState → List ℕ → SeenState
 with_sections s bytes = record s { tables = tables.with_packet s.options s.tables bytes }
 
-abbrev pub section_lines : SeenState → List ℕ → List ℕ
-section_lines s bytes = tables.packet_lines s.options s.tables bytes
+abbrev pub section_events : SeenState → List ℕ → List Event
+section_events s bytes = tables.packet_events s.options s.tables bytes
 
 -- what 188 bytes name counts from the next packet on
 abbrev pub with_named : SeenState → List ℕ → SeenState
 with_named s bytes = record s { named = naming.taken s.named bytes; services = naming_services.taken s.services (naming.taken s.named bytes) bytes }
 
 -- at the end: clock references by PID, tables, all packets by PID, and which of these are not named or have none
-abbrev pub pid_ends : SeenState → List ℕ
-pid_ends s = clock_lines s.options s.watches
-    ++ (table_lines s.options s.tables ++ (pid_lines s.options s.totals ++ reference_lines s.options s.named s.totals))
+abbrev pub pid_ends : SeenState → List Event
+pid_ends s = clock_events s.watches ++ (table_events s.tables ++ (pid_events s.totals ++ reference_events s.named s.totals))
 
--- the last line: `end packets N refused N left N`, with the bytes that are left after the last whole packet
-abbrev pub end_line : SeenState → ℕ → List ℕ
-end_line s left = line_of s.options.json (codes "end")
-    (number_field (codes "packets") s.packets ∷ number_field (codes "refused") s.refused ∷ number_field (codes "left") left ∷ [])
+-- the end, with the bytes that are left after the last whole packet
+abbrev pub end_event : SeenState → ℕ → Event
+end_event s left = found.End (record { packets = s.packets; refused = s.refused; left = left })

@@ -12,14 +12,15 @@ use Rattle.stream_programs.specs.Streams.{FoundStreamView}
 use Rattle.named_streams.specs.NamedStreams.{NamedView, stream_of}
 use Rattle.named_streams.specs.NamedStreams as naming
 use Rattle.stream_buffers.specs.Held.{empty}
+use Rattle.events.specs.declared.event.Event.{Event}
 use Rattle.stream_report.specs.declared.stream_entry.StreamEntry.{StreamEntry}
 use Rattle.stream_report.specs.declared.stream_table.StreamTable.{StreamTable}
 use Rattle.stream_report.specs.declared.view_options.ViewOptions.{ViewOptions}
 use Rattle.stream_report.specs.Choices.{ChoiceView, buffers_for, chosen}
 use Rattle.stream_report.specs.Clocks.{ClockEntries, clock_of}
-use Rattle.stream_report.specs.Entries.{EntryState, IsEntry, end_lines, entry_after, entry_lines, units_of}
+use Rattle.stream_report.specs.Entries.{EntryState, IsEntry, end_events, entry_after, entry_events, units_of}
 use Rattle.stream_report.specs.Entries.{is_good as entry_is_good}
-use Rattle.stream_report.specs.EntryLines.{stream_line}
+use Rattle.stream_report.specs.EntryEvents.{stream_event}
 use Rattle.stream_report.specs.Tallies.{none_counted}
 
 -- which streams are viewed, the place of each PID, and the streams
@@ -87,12 +88,12 @@ begun_if options named t packet (Some stream) =
 abbrev pub begun : ViewOptions → NamedView → TableState → PacketView → TableState
 begun options named t packet = begun_if options named t packet (beginning named t packet)
 
-unfoldable pub begin_lines_if : ViewOptions → ℕ → TableState → PacketView → Option FoundStreamView → List ℕ
-begin_lines_if options index t packet None = []
-begin_lines_if options index t packet (Some stream) = stream_line options index stream (coding_by stream packet) (stream_buffers t stream packet)
+unfoldable pub begin_events_if : ℕ → TableState → PacketView → Option FoundStreamView → List Event
+begin_events_if index t packet None = []
+begin_events_if index t packet (Some stream) = stream_event index stream (coding_by stream packet) (stream_buffers t stream packet) ∷ []
 
-abbrev pub begin_lines : ViewOptions → ℕ → NamedView → TableState → PacketView → List ℕ
-begin_lines options index named t packet = begin_lines_if options index t packet (beginning named t packet)
+abbrev pub begin_events : ℕ → NamedView → TableState → PacketView → List Event
+begin_events index named t packet = begin_events_if index t packet (beginning named t packet)
 
 -- 2. A packet enters the buffers of its PID, if there are any
 
@@ -111,16 +112,16 @@ taken_if options index window clocks t packet (Some place) = taken_at options in
 abbrev pub taken : ViewOptions → ℕ → ℕ → ClockEntries → TableState → PacketView → TableState
 taken options index window clocks t packet = taken_if options index window clocks t packet (lookup (nat_eq packet.header.pid) t.places)
 
-unfoldable pub lines_in : ViewOptions → ℕ → ClockEntries → PacketView → Option EntryState → List ℕ
-lines_in options index clocks packet None = []
-lines_in options index clocks packet (Some e) = entry_lines options index (clock_of clocks e.clock_pid) e packet
+unfoldable pub events_in : ViewOptions → ℕ → ClockEntries → PacketView → Option EntryState → List Event
+events_in options index clocks packet None = []
+events_in options index clocks packet (Some e) = entry_events options index (clock_of clocks e.clock_pid) e packet
 
-unfoldable pub lines_if : ViewOptions → ℕ → ClockEntries → TableState → PacketView → Option ℕ → List ℕ
-lines_if options index clocks t packet None = []
-lines_if options index clocks t packet (Some place) = lines_in options index clocks packet (slice_get t.entries place)
+unfoldable pub events_if : ViewOptions → ℕ → ClockEntries → TableState → PacketView → Option ℕ → List Event
+events_if options index clocks t packet None = []
+events_if options index clocks t packet (Some place) = events_in options index clocks packet (slice_get t.entries place)
 
-abbrev pub lines_of : ViewOptions → ℕ → ClockEntries → TableState → PacketView → List ℕ
-lines_of options index clocks t packet = lines_if options index clocks t packet (lookup (nat_eq packet.header.pid) t.places)
+abbrev pub events_of : ViewOptions → ℕ → ClockEntries → TableState → PacketView → List Event
+events_of options index clocks t packet = events_if options index clocks t packet (lookup (nat_eq packet.header.pid) t.places)
 
 -- 3. All streams
 
@@ -128,11 +129,11 @@ lines_of options index clocks t packet = lines_if options index clocks t packet 
 abbrev pub has_stream : TableState → ℕ → Bool
 has_stream t pid = is_some (lookup (nat_eq pid) t.places)
 
-abbrev pub table_units : ViewOptions → ℕ → TableState → List ℕ
+abbrev pub table_units : ViewOptions → ℕ → TableState → List Event
 table_units options window t = flat_map (units_of options window) t.entries
 
-abbrev pub table_end : ViewOptions → ℕ → ℕ → TableState → List ℕ
-table_end options packets window t = flat_map (end_lines options packets window) t.entries
+abbrev pub table_end : ViewOptions → ℕ → ℕ → TableState → List Event
+table_end options packets window t = flat_map (end_events options packets window) t.entries
 
 abbrev pub is_good : TableState → Bool
 is_good t = list_all entry_is_good t.entries

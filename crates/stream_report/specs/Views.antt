@@ -1,18 +1,19 @@
--- A stream packet by packet: what is kept of it, and the lines that each packet settles.
+-- A stream packet by packet: what is kept of it, and the events that each packet settles.
 use Rattle.std.specs.Prelude.{◌≡◌, ℕ, ◌==◌, Bool, false, if◌then◌else◌, List, [], ◌∷◌, ◌++◌, Result, Ok, Err}
 use Rattle.ts_packet.specs.declared.packet.PacketError.{PacketError}
 use Rattle.ts_packet.specs.Views.{PacketView}
 use Rattle.ts_packet.specs.Reading.{packet_at}
 use Rattle.ts_packet.specs.Packets.{null_packet}
+use Rattle.events.specs.declared.event.Event.{Event}
 use Rattle.stream_report.specs.declared.view.View.{View}
 use Rattle.stream_arrival.specs.declared.arrival.Arrival.{Arrival}
 use Rattle.stream_report.specs.Choices.{RequestView}
-use Rattle.stream_report.specs.Seen.{SeenState, clock_errors, counted, section_lines, end_line, next_window, nothing_seen, pid_ends, system_excesses, with_clock}
+use Rattle.stream_report.specs.Seen.{SeenState, clock_errors, counted, section_events, end_event, next_window, nothing_seen, pid_ends, system_excesses, with_clock}
 use Rattle.stream_report.specs.Seen as seeing
-use Rattle.stream_report.specs.StreamTables.{IsTable, TableState, begin_lines, begun, has_stream, lines_of, no_streams, table_end, table_units, taken}
+use Rattle.stream_report.specs.StreamTables.{IsTable, TableState, begin_events, begun, has_stream, events_of, no_streams, table_end, table_units, taken}
 use Rattle.stream_report.specs.StreamTables as tables
-use Rattle.stream_report.specs.SystemLines.{all_fit, system_lines}
-use Rattle.stream_report.specs.WindowLines.{window_lines}
+use Rattle.stream_report.specs.SystemEvents.{all_fit, system_events}
+use Rattle.stream_report.specs.WindowEvents.{window_events}
 use Rattle.system_tables.specs.Programs.{known}
 
 -- what is kept: what was seen, and the streams whose buffers have begun
@@ -59,30 +60,30 @@ unfoldable pub after_read : ViewState → Result PacketView PacketError → View
 after_read s (Err error) = without s
 after_read s (Ok packet) = if packet.header.transport_error_indicator then without s else with_packet s packet
 
--- the lines of the last packet's window: bit rates by PID, and units by stream
-abbrev pub all_window_lines : ViewState → List ℕ
-all_window_lines s = window_lines s.seen.options s.seen.named s.seen.services.names s.seen.window ++ table_units s.seen.options s.seen.window.number s.table
+-- what is found in the last packet's window: bit rates by PID, and units by stream
+abbrev pub all_window_events : ViewState → List Event
+all_window_events s = window_events s.seen.options s.seen.named s.seen.services.names s.seen.window ++ table_units s.seen.options s.seen.window.number s.table
 
 -- a packet of another window settles them
-abbrev pub last_window : ViewState → List ℕ
-last_window s = if s.seen.window.number == next_window s.seen then [] else all_window_lines s
+abbrev pub last_window : ViewState → List Event
+last_window s = if s.seen.window.number == next_window s.seen then [] else all_window_events s
 
 -- and then those of the errors of its clock reference, of buffers that begin with it, and of what ends with it: of streams, and of
 -- programs' tables
-abbrev pub buffer_lines_at : ViewState → PacketView → List ℕ
-buffer_lines_at s packet = begin_lines s.seen.options s.seen.packets s.seen.named s.table packet
-    ++ lines_of s.seen.options s.seen.packets s.seen.clocks (with_begun s packet) packet
+abbrev pub buffer_events_at : ViewState → PacketView → List Event
+buffer_events_at s packet = begin_events s.seen.packets s.seen.named s.table packet
+    ++ events_of s.seen.options s.seen.packets s.seen.clocks (with_begun s packet) packet
 
-abbrev pub system_lines_at : ViewState → PacketView → List ℕ
-system_lines_at s packet = system_excesses s.seen (with_buffers s packet).table.choice packet
+abbrev pub system_events_at : ViewState → PacketView → List Event
+system_events_at s packet = system_excesses s.seen (with_buffers s packet).table.choice packet
 
-abbrev pub packet_lines : ViewState → PacketView → List ℕ
-packet_lines s packet =
-    last_window s ++ (clock_errors s.seen packet ++ (buffer_lines_at (clocked s packet) packet ++ system_lines_at (clocked s packet) packet))
+abbrev pub packet_events : ViewState → PacketView → List Event
+packet_events s packet =
+    last_window s ++ (clock_errors s.seen packet ++ (buffer_events_at (clocked s packet) packet ++ system_events_at (clocked s packet) packet))
 
-unfoldable pub lines_read : ViewState → Result PacketView PacketError → List ℕ
-lines_read s (Err error) = []
-lines_read s (Ok packet) = if packet.header.transport_error_indicator then [] else packet_lines s packet
+unfoldable pub events_read : ViewState → Result PacketView PacketError → List Event
+events_read s (Err error) = []
+events_read s (Ok packet) = if packet.header.transport_error_indicator then [] else packet_events s packet
 
 -- the 188 bytes as tables are looked for in them: a packet of a stream whose buffers have begun counts as a null packet
 unfoldable pub without_stream : ViewState → List ℕ → Result PacketView PacketError → List ℕ
@@ -92,33 +93,33 @@ without_stream s bytes (Ok packet) = if has_stream s.table packet.header.pid the
 abbrev pub with_sections : ViewState → List ℕ → ViewState
 with_sections s bytes = record { seen = seeing.with_sections s.seen (without_stream s bytes (packet_at bytes)); table = s.table }
 
-abbrev pub table_lines_at : ViewState → List ℕ → List ℕ
-table_lines_at s bytes = section_lines s.seen (without_stream s bytes (packet_at bytes))
+abbrev pub table_events_at : ViewState → List ℕ → List Event
+table_events_at s bytes = section_events s.seen (without_stream s bytes (packet_at bytes))
 
--- after 188 bytes, and the lines that they settle; what they name counts from the next on
+-- after 188 bytes, and the events that they settle; what they name counts from the next on
 abbrev pub with_named : ViewState → List ℕ → ViewState
 with_named s bytes = record { seen = seeing.with_named s.seen bytes; table = s.table }
 
 abbrev pub after_packet : ViewState → List ℕ → ViewState
 after_packet s bytes = with_named (with_sections (after_read s (packet_at bytes)) bytes) bytes
 
-abbrev pub lines_at : ViewState → List ℕ → List ℕ
-lines_at s bytes = lines_read s (packet_at bytes) ++ table_lines_at (after_read s (packet_at bytes)) bytes
+abbrev pub events_at : ViewState → List ℕ → List Event
+events_at s bytes = events_read s (packet_at bytes) ++ table_events_at (after_read s (packet_at bytes)) bytes
 
 -- after packets
 unfoldable pub after_all : ViewState → List (List ℕ) → ViewState
 after_all s [] = s
 after_all s (bytes ∷ packets) = after_all (after_packet s bytes) packets
 
-unfoldable pub lines_all : ViewState → List (List ℕ) → List ℕ
-lines_all s [] = []
-lines_all s (bytes ∷ packets) = lines_at s bytes ++ lines_all (after_packet s bytes) packets
+unfoldable pub events_all : ViewState → List (List ℕ) → List Event
+events_all s [] = []
+events_all s (bytes ∷ packets) = events_at s bytes ++ events_all (after_packet s bytes) packets
 
--- the lines at the end of a stream
-abbrev pub end_lines : ViewState → ℕ → List ℕ
-end_lines s left = window_lines s.seen.options s.seen.named s.seen.services.names s.seen.window
+-- the events at the end of a stream
+abbrev pub end_events : ViewState → ℕ → List Event
+end_events s left = window_events s.seen.options s.seen.named s.seen.services.names s.seen.window
     ++ (table_end s.seen.options s.seen.packets s.seen.window.number s.table
-    ++ (system_lines s.seen.options s.table.choice s.seen.packets (known s.seen.systems) ++ (pid_ends s.seen ++ end_line s.seen left)))
+    ++ (system_events s.seen.options s.table.choice s.seen.packets (known s.seen.systems) ++ (pid_ends s.seen ++ end_event s.seen left ∷ [])))
 
 -- nothing is wrong
 abbrev pub is_good : ViewState → ℕ → Bool

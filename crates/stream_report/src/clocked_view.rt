@@ -1,5 +1,5 @@
 //! A stream, packet by packet, whose packets wait until it is known when they arrive.
-ghost use Rattle.std.specs.Prelude.{◌≡◌, ◌++◌, [], IfOk, OnOk, string_bytes};
+ghost use Rattle.std.specs.Prelude.{◌≡◌, ◌++◌, [], IfOk, OnOk};
 ghost use Rattle.clocked_packets.specs.Waiting.{last_arrival, released, stepped, with_held};
 ghost use Rattle.stream_report.specs.ClockedViews as spec;
 ghost use Rattle.stream_report.specs.ClockedViews.{ClockedState, IsClocked};
@@ -8,6 +8,7 @@ ghost use Rattle.stream_report.specs.Views.{IsView, ViewState};
 use crate::view::View;
 use crate::view_request::ViewRequest;
 use clocked_packets::{ClockPid, PacketQueue};
+use events::Event;
 use std::alloc::{AllocError, Global};
 use stream_arrival::Arrival;
 
@@ -46,36 +47,36 @@ fn view_waiting(
     view: &mut View,
     queue: &mut PacketQueue,
     arrival: Arrival,
-    text: &mut String,
+    events: &mut Vec<Event>,
 ) -> Result<(), AllocError>
     ensures view { (v : ViewState) → IsView view.old v → OnOk result (IsView view.new (spec.view_with v queue.old arrival)) }
-    ensures lines { (v : ViewState) → IsView view.old v → OnOk result (string_bytes text.new
-        ≡ string_bytes text.old ++ spec.lines_with v queue.old arrival) }
+    ensures found { (v : ViewState) → IsView view.old v → OnOk result (events.new.items
+        ≡ events.old.items ++ spec.events_with v queue.old arrival) }
     ensures queue { OnOk result (queue.new ≡ with_held queue.old []) }
 {
-    view.arrive(arrival, queue.held().len(), text)?;
-    view.take_all(queue.held(), text)?;
+    view.arrive(arrival, queue.held().len(), events)?;
+    view.take_all(queue.held(), events)?;
     queue.clear();
     Ok(())
 }
 
 // The packets that wait are viewed, if it is known now how they arrive.
-#[tactic(auto, unfolding(crate::specs::ClockedViews::view_after, crate::specs::ClockedViews::lines_after, crate::specs::ClockedViews::held_after))]
+#[tactic(auto, unfolding(crate::specs::ClockedViews::view_after, crate::specs::ClockedViews::events_after, crate::specs::ClockedViews::held_after))]
 fn view_if(
     view: &mut View,
     queue: &mut PacketQueue,
     arrival: Option<Arrival>,
-    text: &mut String,
+    events: &mut Vec<Event>,
 ) -> Result<(), AllocError>
     ensures view { (v : ViewState) → IsView view.old v →
         OnOk result (IsView view.new (spec.view_after v queue.old arrival)) }
-    ensures lines { (v : ViewState) → IsView view.old v → OnOk result (string_bytes text.new
-        ≡ string_bytes text.old ++ spec.lines_after v queue.old arrival) }
+    ensures found { (v : ViewState) → IsView view.old v → OnOk result (events.new.items
+        ≡ events.old.items ++ spec.events_after v queue.old arrival) }
     ensures queue { OnOk result (queue.new ≡ with_held queue.old (spec.held_after queue.old arrival)) }
 {
     match arrival {
         None => Ok(()),
-        Some(arrival) => view_waiting(view, queue, arrival, text),
+        Some(arrival) => view_waiting(view, queue, arrival, events),
     }
 }
 
@@ -84,16 +85,16 @@ fn take_waiting(
     view: &mut View,
     queue: &mut PacketQueue,
     bytes: &[u8; 188],
-    text: &mut String,
+    events: &mut Vec<Event>,
 ) -> Result<(), AllocError>
     ensures view { (v : ViewState) → IsView view.old v → OnOk result
         (IsView view.new (spec.view_after v (stepped queue.old bytes.now) (released queue.old bytes.now))) }
-    ensures lines { (v : ViewState) → IsView view.old v → OnOk result (string_bytes text.new
-        ≡ string_bytes text.old ++ spec.lines_after v (stepped queue.old bytes.now) (released queue.old bytes.now)) }
+    ensures found { (v : ViewState) → IsView view.old v → OnOk result (events.new.items
+        ≡ events.old.items ++ spec.events_after v (stepped queue.old bytes.now) (released queue.old bytes.now)) }
     ensures queue { OnOk result (queue.new ≡ spec.queue_after queue.old bytes.now) }
 {
     let arrival = queue.take(bytes)?;
-    view_if(view, queue, arrival, text)?;
+    view_if(view, queue, arrival, events)?;
     queue.push(bytes)
 }
 
@@ -109,59 +110,63 @@ impl ClockedView {
         }
     }
 
-    /// The next packet: the lines that are settled with it are appended to the text.
-    #[tactic(auto, unfolding(crate::specs::ClockedViews::after_in, crate::specs::ClockedViews::lines_in))]
-    pub fn take(&mut self, bytes: &[u8; 188], text: &mut String) -> Result<(), AllocError>
+    /// The next packet: the events that are settled with it are appended.
+    #[tactic(auto, unfolding(crate::specs::ClockedViews::after_in, crate::specs::ClockedViews::events_in))]
+    pub fn take(&mut self, bytes: &[u8; 188], events: &mut Vec<Event>) -> Result<(), AllocError>
         ensures view { (s : ClockedState) → IsClocked self.old s →
             OnOk result (IsClocked self.new (spec.after_packet s bytes.now)) }
-        ensures lines { (s : ClockedState) → IsClocked self.old s →
-            OnOk result (string_bytes text.new ≡ string_bytes text.old ++ spec.lines_at s bytes.now) }
+        ensures found { (s : ClockedState) → IsClocked self.old s →
+            OnOk result (events.new.items ≡ events.old.items ++ spec.events_at s bytes.now) }
     {
         match &mut self.queue {
-            None => self.view.take(bytes, text),
-            Some(queue) => take_waiting(&mut self.view, queue, bytes, text),
+            None => self.view.take(bytes, events),
+            Some(queue) => take_waiting(&mut self.view, queue, bytes, events),
         }
     }
 
     /// The next packets.
-    #[tactic(auto, unfolding(crate::specs::ClockedViews::after_all, crate::specs::ClockedViews::lines_all))]
-    pub fn take_all(&mut self, packets: &[[u8; 188]], text: &mut String) -> Result<(), AllocError>
+    #[tactic(auto, unfolding(crate::specs::ClockedViews::after_all, crate::specs::ClockedViews::events_all))]
+    pub fn take_all(
+        &mut self,
+        packets: &[[u8; 188]],
+        events: &mut Vec<Event>,
+    ) -> Result<(), AllocError>
         ensures view { (s : ClockedState) → IsClocked self.old s →
             OnOk result (IsClocked self.new (spec.after_all s packets.now)) }
-        ensures lines { (s : ClockedState) → IsClocked self.old s →
-            OnOk result (string_bytes text.new ≡ string_bytes text.old ++ spec.lines_all s packets.now) }
+        ensures found { (s : ClockedState) → IsClocked self.old s →
+            OnOk result (events.new.items ≡ events.old.items ++ spec.events_all s packets.now) }
     {
         for packet in packets {
-            self.take(packet, text)?;
+            self.take(packet, events)?;
         }
         Ok(())
     }
 
     // The packets that wait at the end.
-    #[tactic(auto, unfolding(crate::specs::ClockedViews::last_view, crate::specs::ClockedViews::last_lines))]
-    fn view_last(&mut self, text: &mut String) -> Result<(), AllocError>
+    #[tactic(auto, unfolding(crate::specs::ClockedViews::last_view, crate::specs::ClockedViews::last_events))]
+    fn view_last(&mut self, events: &mut Vec<Event>) -> Result<(), AllocError>
         ensures view { (s : ClockedState) → IsClocked self.old s →
             OnOk result (IsView self.new.view (spec.last_view s.view s.queue)) }
-        ensures lines { (s : ClockedState) → IsClocked self.old s →
-            OnOk result (string_bytes text.new ≡ string_bytes text.old ++ spec.last_lines s.view s.queue) }
+        ensures found { (s : ClockedState) → IsClocked self.old s →
+            OnOk result (events.new.items ≡ events.old.items ++ spec.last_events s.view s.queue) }
     {
         match &mut self.queue {
             None => Ok(()),
             Some(queue) => {
                 let arrival = queue.last_arrival();
-                view_waiting(&mut self.view, queue, arrival, text)
+                view_waiting(&mut self.view, queue, arrival, events)
             }
         }
     }
 
-    /// The stream ends, `left` bytes after its last whole packet: the last lines are appended to the text. Whether nothing is wrong in it.
-    pub fn end(&mut self, left: usize, text: &mut String) -> Result<bool, AllocError>
-        ensures lines { (s : ClockedState) → IsClocked self.old s →
-            OnOk result (string_bytes text.new ≡ string_bytes text.old ++ spec.end_lines s left) }
+    /// The stream ends, `left` bytes after its last whole packet: the last events are appended. Whether nothing is wrong in it.
+    pub fn end(&mut self, left: usize, events: &mut Vec<Event>) -> Result<bool, AllocError>
+        ensures found { (s : ClockedState) → IsClocked self.old s →
+            OnOk result (events.new.items ≡ events.old.items ++ spec.end_events s left) }
         ensures good { (s : ClockedState) → IsClocked self.old s → IfOk result (λ good. good ≡ spec.is_good s left) }
     {
-        self.view_last(text)?;
-        self.view.end(left, text)?;
+        self.view_last(events)?;
+        self.view.end(left, events)?;
         Ok(self.view.is_good(left))
     }
 }

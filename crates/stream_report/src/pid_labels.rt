@@ -3,33 +3,16 @@ ghost use Rattle.std.specs.Prelude.{◌≡◌, option_map};
 ghost use Rattle.named_streams.specs.NamedStreams.{stream_of};
 ghost use Rattle.stream_report.specs.PidLabels as spec;
 
-use crate::entry_lines::coding_word;
+use events::PidName;
 use named_streams::NamedStreams;
 use stream_coding::coding_of;
 use stream_programs::{FoundProgram, FoundPrograms, FoundStream};
 
-/// The program of a PID, if it is of one, and a word for what its packets carry.
+/// The program of a PID, if it is of one, and what its packets carry.
 #[derive(Clone, Copy)]
 pub(crate) struct PidLabel {
     pub program: Option<u16>,
-    pub coding: &'static str,
-}
-
-// The word of a PID that is fixed.
-#[tactic(auto, unfolding(crate::specs::PidLabels::fixed_word))]
-fn fixed_word(pid: u16) -> Option<&'static str>
-    ensures { option_map (λ word. word.now) result ≡ spec.fixed_word pid }
-{
-    match pid {
-        0 => Some("pat"),
-        1 => Some("cat"),
-        16 => Some("nit"),
-        17 => Some("sdt"),
-        18 => Some("eit"),
-        20 => Some("tdt"),
-        8191 => Some("null"),
-        _ => None,
-    }
+    pub coding: PidName,
 }
 
 // The first program whose map has the PID.
@@ -60,12 +43,12 @@ fn of_clock(pid: u16, programs: &[FoundProgram]) -> Option<u16>
 
 #[tactic(auto, unfolding(crate::specs::PidLabels::by_program))]
 fn by_program(map: Option<u16>, clock: Option<u16>) -> PidLabel
-    ensures { spec.label_view result ≡ spec.by_program map clock }
+    ensures { result ≡ spec.by_program map clock }
 {
     let coding = match (map, clock) {
-        (Some(_), _) => "pmt",
-        (None, Some(_)) => "pcr",
-        (None, None) => "other",
+        (Some(_), _) => PidName::Pmt,
+        (None, Some(_)) => PidName::Pcr,
+        (None, None) => PidName::Other,
     };
     PidLabel {
         program: map.or(clock),
@@ -75,7 +58,7 @@ fn by_program(map: Option<u16>, clock: Option<u16>) -> PidLabel
 
 #[tactic(auto, unfolding(crate::specs::PidLabels::in_programs))]
 fn in_programs(pid: u16, found: Option<&FoundPrograms>) -> PidLabel
-    ensures { spec.label_view result ≡ spec.in_programs pid (option_map (λ found. found.now) found.entry) }
+    ensures { result ≡ spec.in_programs pid (option_map (λ found. found.now) found.entry) }
 {
     match found {
         None => by_program(None, None),
@@ -84,18 +67,18 @@ fn in_programs(pid: u16, found: Option<&FoundPrograms>) -> PidLabel
 }
 
 fn of_stream(stream: &FoundStream) -> PidLabel
-    ensures { spec.label_view result ≡ spec.of_stream stream.now }
+    ensures { result ≡ spec.of_stream stream.now }
 {
     let coding = coding_of(stream.stream_type, &stream.descriptors, &[]);
     PidLabel {
         program: Some(stream.program),
-        coding: coding_word(coding),
+        coding: PidName::of_coding(coding),
     }
 }
 
 #[tactic(auto, unfolding(crate::specs::PidLabels::in_tables))]
 fn in_tables(named: &NamedStreams, pid: u16) -> PidLabel
-    ensures { spec.label_view result ≡ spec.in_tables named.now pid (stream_of named.now pid) }
+    ensures { result ≡ spec.in_tables named.now pid (stream_of named.now pid) }
 {
     match named.stream(pid) {
         None => in_programs(pid, named.found()),
@@ -106,9 +89,9 @@ fn in_tables(named: &NamedStreams, pid: u16) -> PidLabel
 /// The label of a PID, by the tables that are known.
 #[tactic(auto, unfolding(crate::specs::PidLabels::label_by))]
 pub(crate) fn label_of(named: &NamedStreams, pid: u16) -> PidLabel
-    ensures { spec.label_view result ≡ spec.label_of named.now pid }
+    ensures { result ≡ spec.label_of named.now pid }
 {
-    match fixed_word(pid) {
+    match PidName::fixed(pid) {
         None => in_tables(named, pid),
         Some(coding) => PidLabel {
             program: None,

@@ -1,21 +1,21 @@
 //! What is kept of a stream beside its buffers.
-ghost use Rattle.std.specs.Prelude.{◌≡◌, [], ◌++◌, OnOk, string_bytes};
+ghost use Rattle.std.specs.Prelude.{◌≡◌, [], ◌++◌, OnOk};
 ghost use Rattle.bit_fields.specs.Reading.{Gives};
 ghost use Rattle.ts_packet.specs.Packets.{null_packet};
 ghost use Rattle.ts_packet.specs.Reading.{packet_at};
 ghost use Rattle.ts_packet.specs.Views.{packet_view};
 ghost use Rattle.stream_report.specs.Seen as spec;
-ghost use Rattle.stream_report.specs.WindowLines.{window_lines};
+ghost use Rattle.stream_report.specs.WindowEvents.{window_events};
 
-use crate::clock_lines::{errors_in, write_clocks, write_report};
+use crate::clock_events::{errors_in, push_clocks, push_report};
 use crate::clocks::Clocks;
-use crate::lines::{number, write_line};
-use crate::reference_lines::write_references;
-use crate::system_lines::write_excesses;
+use crate::reference_events::push_references;
+use crate::system_events::push_excesses;
 use crate::table_watch::TableWatch;
 use crate::view_choice::ViewChoice;
 use crate::view_options::ViewOptions;
-use crate::window_lines::{window_of, write_pids, write_window};
+use crate::window_events::{push_pids, push_window, window_of};
+use events::{Event, ReportEnd, UnclockedPackets};
 use named_streams::NamedStreams;
 use pcr_errors::{PcrTiming, PcrWatches};
 use pid_windows::PidWindow;
@@ -154,36 +154,34 @@ impl Seen {
         }
     }
 
-    /// `count` packets that come next arrive so: the line that they have no moment is appended, where they have none.
+    /// `count` packets that come next arrive so: that they have no moment is appended, if they have none.
     pub fn arrive(
         &mut self,
         arrival: Arrival,
         count: usize,
-        text: &mut String,
+        events: &mut Vec<Event>,
     ) -> Result<(), AllocError>
         ensures seen { OnOk result (self.new ≡ spec.arriving self.old arrival count) }
-        ensures lines { OnOk result (string_bytes text.new
-            ≡ string_bytes text.old ++ spec.arrival_lines self.old arrival count) }
+        ensures found { OnOk result (events.new.items
+            ≡ events.old.items ++ spec.arrival_events self.old arrival count) }
     {
         let options = with_arrival(&self.options, arrival);
         let unclocked = unclocked(&arrival, count);
         if unclocked {
-            self.write_unclocked(count, text)?;
+            events.push(self.unclocked_event(count))?;
         }
         self.options = options;
         self.errors = self.errors.saturating_add(u64::from(unclocked));
         Ok(())
     }
 
-    // Appends the line of packets that have no moment.
-    fn write_unclocked(&self, count: usize, text: &mut String) -> Result<(), AllocError>
-        ensures { OnOk result (string_bytes text.new ≡ string_bytes text.old ++ spec.unclocked_line self.now count) }
+    fn unclocked_event(&self, count: usize) -> Event
+        ensures { result ≡ spec.unclocked_event self.now count }
     {
-        let fields = [
-            number("packet", u128::from(self.packets)),
-            number("packets", count as u128),
-        ];
-        write_line(text, self.options.json, "unclocked", &fields)
+        Event::Unclocked(UnclockedPackets {
+            packet: self.packets,
+            packets: count as u64,
+        })
     }
 
     /// A packet that can't be read, or says that it is wrong.
@@ -194,16 +192,20 @@ impl Seen {
         self.refused = self.refused.saturating_add(1);
     }
 
-    /// The clock reference of a packet, if it has one: the lines of its errors are appended.
-    pub fn take_clock(&mut self, packet: &Packet<'_>, text: &mut String) -> Result<(), AllocError>
+    /// The clock reference of a packet, if it has one: its errors are appended.
+    pub fn take_clock(
+        &mut self,
+        packet: &Packet<'_>,
+        events: &mut Vec<Event>,
+    ) -> Result<(), AllocError>
         ensures seen { OnOk result (self.new ≡ spec.with_clock self.old (packet_view packet.now)) }
-        ensures lines { OnOk result (string_bytes text.new
-            ≡ string_bytes text.old ++ spec.clock_errors self.old (packet_view packet.now)) }
+        ensures found { OnOk result (events.new.items
+            ≡ events.old.items ++ spec.clock_errors self.old (packet_view packet.now)) }
     {
         self.clocks
             .take(&self.options.arrival, self.packets, packet)?;
         let report = self.watches.take(self.packets, packet)?;
-        write_report(text, &self.options, packet.header.pid, &report)?;
+        push_report(events, packet.header.pid, &report)?;
         self.errors = self.errors.saturating_add(errors_in(&report));
         Ok(())
     }
@@ -215,19 +217,19 @@ impl Seen {
         window_of(&self.options, self.packets)
     }
 
-    /// A packet that is not known to be wrong, in this window, enters the buffers of programs' tables, and is counted: the lines of the excesses that end
+    /// A packet that is not known to be wrong, in this window, enters the buffers of programs' tables, and is counted: the excesses that end
     /// with it are appended, of programs that are viewed.
     pub fn count(
         &mut self,
         window: u64,
         choice: &ViewChoice,
         packet: &Packet<'_>,
-        text: &mut String,
+        events: &mut Vec<Event>,
     ) -> Result<(), AllocError>
         requires { window ≡ spec.next_window self.old }
         ensures seen { OnOk result (self.new ≡ spec.counted self.old (packet_view packet.now)) }
-        ensures lines { OnOk result (string_bytes text.new
-            ≡ string_bytes text.old ++ spec.system_excesses self.old choice.now (packet_view packet.now)) }
+        ensures found { OnOk result (events.new.items
+            ≡ events.old.items ++ spec.system_excesses self.old choice.now (packet_view packet.now)) }
     {
         let pid = packet.header.pid;
         let pcr = has_pcr(packet);
@@ -239,32 +241,32 @@ impl Seen {
             pid,
             &mut excesses,
         )?;
-        write_excesses(text, &self.options, choice, self.packets, &excesses)?;
+        push_excesses(events, &self.options, choice, self.packets, &excesses)?;
         self.window.take(window, pid, pcr)?;
         self.totals.take(0, pid, pcr)?;
         self.packets = self.packets.saturating_add(1);
         Ok(())
     }
 
-    /// The sections of tables in 188 bytes, which were read: the lines of those that begin too late are appended.
+    /// The sections of tables in 188 bytes, which were read: those that begin too late are appended.
     pub fn take_sections<'a>(
         &mut self,
         bytes: &'a [u8; 188],
         read: &Result<Packet<'a>, PacketError>,
-        text: &mut String,
+        events: &mut Vec<Event>,
     ) -> Result<(), AllocError>
         requires { Gives packet_view read.now (packet_at bytes.now) }
         ensures seen { OnOk result (self.new ≡ spec.with_sections self.old bytes.now) }
-        ensures lines { OnOk result (string_bytes text.new
-            ≡ string_bytes text.old ++ spec.section_lines self.old bytes.now) }
+        ensures found { OnOk result (events.new.items
+            ≡ events.old.items ++ spec.section_events self.old bytes.now) }
     {
-        self.tables.take(&self.options, bytes, read, text)
+        self.tables.take(&self.options, bytes, read, events)
     }
 
     /// The null packet, which has no section.
     pub fn pass_null(&mut self)
         ensures seen { self.new ≡ spec.with_sections self.old null_packet }
-        ensures lines { spec.section_lines self.old null_packet ≡ [] }
+        ensures found { spec.section_events self.old null_packet ≡ [] }
     {
         self.tables.pass_null();
     }
@@ -277,14 +279,14 @@ impl Seen {
         self.services.take(&self.named, bytes)
     }
 
-    /// Appends the lines of the last packet's window.
-    pub fn write_window(&self, text: &mut String) -> Result<(), AllocError>
-        ensures { OnOk result (string_bytes text.new ≡ string_bytes text.old
-            ++ window_lines self.now.options self.now.named self.now.services.names self.now.window) }
+    /// Appends what comes of each PID in the last packet's window.
+    pub fn push_window(&self, events: &mut Vec<Event>) -> Result<(), AllocError>
+        ensures { OnOk result (events.new.items ≡ events.old.items
+            ++ window_events self.now.options self.now.named self.now.services.names self.now.window) }
     {
-        write_window(
+        push_window(
             self.alloc,
-            text,
+            events,
             &self.options,
             &self.named,
             &self.services,
@@ -292,25 +294,24 @@ impl Seen {
         )
     }
 
-    /// Appends the lines of clock references by PID, of tables, of all packets by PID, and of PIDs that are not named or have no packet.
-    pub fn write_pid_ends(&self, text: &mut String) -> Result<(), AllocError>
-        ensures { OnOk result (string_bytes text.new ≡ string_bytes text.old ++ spec.pid_ends self.now) }
+    /// Appends what is found of clock references by PID, of tables, of all packets by PID, and of PIDs that are not named or have no packet.
+    pub fn push_pid_ends(&self, events: &mut Vec<Event>) -> Result<(), AllocError>
+        ensures { OnOk result (events.new.items ≡ events.old.items ++ spec.pid_ends self.now) }
     {
-        write_clocks(text, &self.options, &self.watches)?;
-        self.tables.write_end(text, &self.options)?;
-        write_pids(text, &self.options, &self.totals)?;
-        write_references(self.alloc, text, &self.options, &self.named, &self.totals)
+        push_clocks(events, &self.watches)?;
+        self.tables.push_end(events)?;
+        push_pids(events, &self.totals)?;
+        push_references(self.alloc, events, &self.named, &self.totals)
     }
 
-    /// Appends the last line.
-    pub fn write_end(&self, left: usize, text: &mut String) -> Result<(), AllocError>
-        ensures { OnOk result (string_bytes text.new ≡ string_bytes text.old ++ spec.end_line self.now left) }
+    /// The end of the stream, `left` bytes after its last whole packet.
+    pub fn end_event(&self, left: usize) -> Event
+        ensures { result ≡ spec.end_event self.now left }
     {
-        let fields = [
-            number("packets", u128::from(self.packets)),
-            number("refused", u128::from(self.refused)),
-            number("left", left as u128),
-        ];
-        write_line(text, self.options.json, "end", &fields)
+        Event::End(ReportEnd {
+            packets: self.packets,
+            refused: self.refused,
+            left: left as u64,
+        })
     }
 }

@@ -1,15 +1,16 @@
 //! A stream that the tables name, from the first packet of its buffers on.
-ghost use Rattle.std.specs.Prelude.{◌≡◌, ◌++◌, OnOk, string_bytes};
+ghost use Rattle.std.specs.Prelude.{◌≡◌, ◌++◌, OnOk};
 ghost use Rattle.stream_buffers.specs.Entering.{entered_view};
 ghost use Rattle.ts_packet.specs.Views.{packet_view};
 ghost use Rattle.stream_report.specs.Entries as spec;
 ghost use Rattle.stream_report.specs.Entries.{EntryState, IsEntry};
 
 use crate::clocks::{Beginning, LONGEST_STAY, ahead_of, beginning_of, due_at};
-use crate::entry_lines::{Place, write_ahead_if, write_closing, write_ended};
-use crate::held_lines::write_window_if;
+use crate::entry_events::{Place, push_ahead_if, push_closing, push_ended};
+use crate::held_events::push_window_if;
 use crate::tally::Tally;
 use crate::view_options::ViewOptions;
+use events::Event;
 use packet_arrival::{PCR_PERIOD, PcrSample};
 use std::alloc::AllocError;
 use stream_buffers::{Arriving, Entered, StreamBuffers, TRANSPORT_BYTES};
@@ -154,7 +155,7 @@ fn add_entered(tally: &mut Tally, window: u64, unread: bool, entered: &Entered)
 }
 
 impl StreamEntry {
-    /// Where a line of it is told at a packet.
+    /// Where an event of it is found at a packet.
     pub fn place(&self, packet: u64) -> Place
         ensures { (e : EntryState) → IsEntry self.now e → result ≡ spec.place_at packet e }
     {
@@ -166,7 +167,7 @@ impl StreamEntry {
         }
     }
 
-    /// A packet of the stream, in a window: the lines that it settles.
+    /// A packet of the stream, in a window: what is found with it is appended.
     pub fn take(
         &mut self,
         options: &ViewOptions,
@@ -174,12 +175,12 @@ impl StreamEntry {
         window: u64,
         clock: &Option<PcrSample>,
         packet: &Packet<'_>,
-        text: &mut String,
+        events: &mut Vec<Event>,
     ) -> Result<(), AllocError>
         ensures entry { (e : EntryState) → IsEntry self.old e → OnOk result
             (IsEntry self.new (spec.entry_after options.now index window clock.now e (packet_view packet.now))) }
-        ensures lines { (e : EntryState) → IsEntry self.old e → OnOk result (string_bytes text.new
-            ≡ string_bytes text.old ++ spec.entry_lines options.now index clock.now e (packet_view packet.now)) }
+        ensures found { (e : EntryState) → IsEntry self.old e → OnOk result (events.new.items
+            ≡ events.old.items ++ spec.entry_events options.now index clock.now e (packet_view packet.now)) }
     {
         let place = self.place(index);
         let beginning = beginning_in(self.counter, packet);
@@ -195,8 +196,8 @@ impl StreamEntry {
         let mut entered = Entered::new();
         self.buffers
             .enter_into(&options.arrival, &arriving, &mut entered)?;
-        write_ahead_if(text, options, &place, ahead_by(clock, beginning))?;
-        write_ended(text, options, &place, &entered)?;
+        push_ahead_if(events, &place, ahead_by(clock, beginning))?;
+        push_ended(events, options, &place, &entered)?;
         self.counter = counter_after(self.counter, packet);
         add_entered(&mut self.tally, window, is_unread(beginning), &entered);
         Ok(())
@@ -211,34 +212,34 @@ impl StreamEntry {
         tally
     }
 
-    /// Appends its lines of a window: what its buffers held, and the units that ended, if some did.
-    pub fn write_units(
+    /// Appends what is found of it in a window: what its buffers held, and the units that ended, if some did.
+    pub fn push_units(
         &self,
-        text: &mut String,
+        events: &mut Vec<Event>,
         options: &ViewOptions,
         window: u64,
     ) -> Result<(), AllocError>
-        ensures { (e : EntryState) → IsEntry self.now e → OnOk result (string_bytes text.new
-            ≡ string_bytes text.old ++ spec.units_of options.now window e) }
+        ensures { (e : EntryState) → IsEntry self.now e → OnOk result (events.new.items
+            ≡ events.old.items ++ spec.units_of options.now window e) }
     {
-        write_window_if(text, options, window, &self.place(0), &self.tally)
+        push_window_if(events, options, window, &self.place(0), &self.tally)
     }
 
-    /// Appends its lines at the end, after so many packets, the last of them in a window.
-    pub fn write_end(
+    /// Appends what is found of it at the end, after `packets` packets, the last of them in a window.
+    pub fn push_end(
         &self,
-        text: &mut String,
+        events: &mut Vec<Event>,
         options: &ViewOptions,
         packets: u64,
         window: u64,
     ) -> Result<(), AllocError>
-        ensures { (e : EntryState) → IsEntry self.now e → OnOk result (string_bytes text.new
-            ≡ string_bytes text.old ++ spec.end_lines options.now packets window e) }
+        ensures { (e : EntryState) → IsEntry self.now e → OnOk result (events.new.items
+            ≡ events.old.items ++ spec.end_events options.now packets window e) }
     {
         let tally = self.closed(window);
         let place = self.place(packets);
-        write_window_if(text, options, window, &place, &tally)?;
-        write_closing(text, options, &place, &self.buffers, &tally)
+        push_window_if(events, options, window, &place, &tally)?;
+        push_closing(events, options, &place, &self.buffers, &tally)
     }
 
     /// Whether neither buffer held more than its size, and no unit was late.

@@ -1,20 +1,21 @@
 //! The streams whose buffers have begun.
-ghost use Rattle.std.specs.Prelude.{◌≡◌, ◌++◌, ◌≤◌, List, OnOk, flat_map, nat_eq, option_map, string_bytes};
+ghost use Rattle.std.specs.Prelude.{◌≡◌, ◌++◌, ◌≤◌, List, OnOk, flat_map, nat_eq, option_map};
 ghost use Rattle.std.specs.List.{list_all};
 ghost use Rattle.std.specs.Map.{lookup};
 ghost use Rattle.ts_packet.specs.Views.{packet_view};
 ghost use Rattle.stream_report.specs.Choices as choices;
 ghost use Rattle.stream_report.specs.StreamTables as spec;
-ghost use Rattle.stream_report.specs.Entries.{EntryState, IsEntry, end_lines, units_of};
+ghost use Rattle.stream_report.specs.Entries.{EntryState, IsEntry, end_events, units_of};
 ghost use Rattle.stream_report.specs.Entries.{is_good as entry_is_good};
 ghost use Rattle.stream_report.specs.StreamTables.{AreEntries, IsTable, TableState};
 
 use crate::clocks::Clocks;
-use crate::entry_lines::write_stream;
+use crate::entry_events::stream_event;
 use crate::stream_entry::StreamEntry;
 use crate::tally::Tally;
 use crate::view_choice::ViewChoice;
 use crate::view_options::ViewOptions;
+use events::Event;
 use named_streams::NamedStreams;
 use pid_map::PidMap;
 use std::alloc::{AllocError, Global};
@@ -97,33 +98,33 @@ fn new_entry(
     }
 }
 
-fn write_all_units(
-    text: &mut String,
+fn push_all_units(
+    events: &mut Vec<Event>,
     options: &ViewOptions,
     window: u64,
     entries: &[StreamEntry],
 ) -> Result<(), AllocError>
-    ensures { (es : List EntryState) → AreEntries entries.now es → OnOk result (string_bytes text.new
-        ≡ string_bytes text.old ++ flat_map (units_of options.now window) es) }
+    ensures { (es : List EntryState) → AreEntries entries.now es → OnOk result (events.new.items
+        ≡ events.old.items ++ flat_map (units_of options.now window) es) }
 {
     for entry in entries {
-        entry.write_units(text, options, window)?;
+        entry.push_units(events, options, window)?;
     }
     Ok(())
 }
 
-fn write_all_ends(
-    text: &mut String,
+fn push_all_ends(
+    events: &mut Vec<Event>,
     options: &ViewOptions,
     packets: u64,
     window: u64,
     entries: &[StreamEntry],
 ) -> Result<(), AllocError>
-    ensures { (es : List EntryState) → AreEntries entries.now es → OnOk result (string_bytes text.new
-        ≡ string_bytes text.old ++ flat_map (end_lines options.now packets window) es) }
+    ensures { (es : List EntryState) → AreEntries entries.now es → OnOk result (events.new.items
+        ≡ events.old.items ++ flat_map (end_events options.now packets window) es) }
 {
     for entry in entries {
-        entry.write_end(text, options, packets, window)?;
+        entry.push_end(events, options, packets, window)?;
     }
     Ok(())
 }
@@ -184,33 +185,33 @@ impl StreamTable {
 
     /// The buffers of a packet's stream begin with it, if the packet is the first that begins a PES packet of a stream that
     /// is named, of a program that is viewed.
-    #[tactic(auto, unfolding(crate::specs::StreamTables::begun_if, crate::specs::StreamTables::begin_lines_if))]
+    #[tactic(auto, unfolding(crate::specs::StreamTables::begun_if, crate::specs::StreamTables::begin_events_if))]
     pub fn begin(
         &mut self,
         options: &ViewOptions,
         index: u64,
         named: &NamedStreams,
         packet: &Packet<'_>,
-        text: &mut String,
+        events: &mut Vec<Event>,
     ) -> Result<(), AllocError>
         ensures table { (t : TableState) → IsTable self.old t → OnOk result
             (IsTable self.new (spec.begun options.now named.now t (packet_view packet.now))) }
-        ensures lines { (t : TableState) → IsTable self.old t → OnOk result (string_bytes text.new
-            ≡ string_bytes text.old ++ spec.begin_lines options.now index named.now t (packet_view packet.now)) }
+        ensures found { (t : TableState) → IsTable self.old t → OnOk result (events.new.items
+            ≡ events.old.items ++ spec.begin_events index named.now t (packet_view packet.now)) }
     {
         let Some(stream) = self.beginning(named, packet) else {
             return Ok(());
         };
         let coding = coding_by(stream, packet);
         let buffers = self.choice.buffers_for(packet.header.pid, coding);
-        write_stream(text, options, index, stream, coding, buffers)?;
+        events.push(stream_event(index, stream, coding, buffers))?;
         let clock_pid = named.clock_pid(stream.program);
         let entry = new_entry(self.alloc, options, packet.header.pid, clock_pid, buffers);
         self.add(packet.header.pid, entry)
     }
 
     /// The packet at an index enters the buffers of its PID, if there are any.
-    #[tactic(auto, unfolding(crate::specs::StreamTables::taken_at, crate::specs::StreamTables::taken_if, crate::specs::StreamTables::lines_in, crate::specs::StreamTables::lines_if))]
+    #[tactic(auto, unfolding(crate::specs::StreamTables::taken_at, crate::specs::StreamTables::taken_if, crate::specs::StreamTables::events_in, crate::specs::StreamTables::events_if))]
     pub fn take(
         &mut self,
         options: &ViewOptions,
@@ -218,12 +219,12 @@ impl StreamTable {
         window: u64,
         clocks: &Clocks,
         packet: &Packet<'_>,
-        text: &mut String,
+        events: &mut Vec<Event>,
     ) -> Result<(), AllocError>
         ensures table { (t : TableState) → IsTable self.old t → OnOk result
             (IsTable self.new (spec.taken options.now index window clocks.now t (packet_view packet.now))) }
-        ensures lines { (t : TableState) → IsTable self.old t → OnOk result (string_bytes text.new
-            ≡ string_bytes text.old ++ spec.lines_of options.now index clocks.now t (packet_view packet.now)) }
+        ensures found { (t : TableState) → IsTable self.old t → OnOk result (events.new.items
+            ≡ events.old.items ++ spec.events_of options.now index clocks.now t (packet_view packet.now)) }
     {
         let Some(place) = place_of(&mut self.places, packet.header.pid) else {
             return Ok(());
@@ -232,7 +233,7 @@ impl StreamTable {
             return Ok(());
         };
         let clock = clocks.last(entry.clock_pid);
-        entry.take(options, index, window, &clock, packet, text)
+        entry.take(options, index, window, &clock, packet, events)
     }
 
     /// Whether the buffers of a PID have begun.
@@ -242,31 +243,31 @@ impl StreamTable {
         self.places.contains(pid)
     }
 
-    /// Appends a line for each stream of which a unit ended in a window.
-    pub fn write_units(
+    /// Appends what is found of each stream in a window.
+    pub fn push_units(
         &self,
-        text: &mut String,
+        events: &mut Vec<Event>,
         options: &ViewOptions,
         window: u64,
     ) -> Result<(), AllocError>
-        ensures { (t : TableState) → IsTable self.now t → OnOk result (string_bytes text.new
-            ≡ string_bytes text.old ++ spec.table_units options.now window t) }
+        ensures { (t : TableState) → IsTable self.now t → OnOk result (events.new.items
+            ≡ events.old.items ++ spec.table_units options.now window t) }
     {
-        write_all_units(text, options, window, &self.entries)
+        push_all_units(events, options, window, &self.entries)
     }
 
-    /// Appends the lines of all streams at the end of a stream of `packets` packets, the last of them in a window.
-    pub fn write_end(
+    /// Appends what is found of all streams at the end of a stream of `packets` packets, the last of them in a window.
+    pub fn push_end(
         &self,
-        text: &mut String,
+        events: &mut Vec<Event>,
         options: &ViewOptions,
         packets: u64,
         window: u64,
     ) -> Result<(), AllocError>
-        ensures { (t : TableState) → IsTable self.now t → OnOk result (string_bytes text.new
-            ≡ string_bytes text.old ++ spec.table_end options.now packets window t) }
+        ensures { (t : TableState) → IsTable self.now t → OnOk result (events.new.items
+            ≡ events.old.items ++ spec.table_end options.now packets window t) }
     {
-        write_all_ends(text, options, packets, window, &self.entries)
+        push_all_ends(events, options, packets, window, &self.entries)
     }
 
     /// Whether no buffer held more than its size, and no unit was late.

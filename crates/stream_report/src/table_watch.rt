@@ -1,16 +1,16 @@
 //! The sections of tables, packet by packet.
-ghost use Rattle.std.specs.Prelude.{◌≡◌, ◌==◌, [], ◌++◌, OnOk, Some, map, string_bytes};
+ghost use Rattle.std.specs.Prelude.{◌≡◌, ◌==◌, [], ◌++◌, OnOk, Some, map};
 ghost use Rattle.bit_fields.specs.Reading.{Gives};
 ghost use Rattle.ts_packet.specs.Packets.{null_packet};
 ghost use Rattle.ts_packet.specs.Reading.{packet_at};
 ghost use Rattle.ts_packet.specs.Views.{packet_view};
 ghost use Rattle.demux.specs.Shown.{finding_view};
-ghost use Rattle.stream_report.specs.TableLines as spec;
+ghost use Rattle.stream_report.specs.TableEvents as spec;
 
 use crate::clocks::first_byte;
-use crate::lines::{number, write_line};
 use crate::view_options::ViewOptions;
 use demux::{Demux, Finding};
+use events::{Event, TableFault, TableTotals};
 use std::alloc::{AllocError, Global};
 use std::marker::Model;
 use stream_arrival::Arrival;
@@ -28,7 +28,7 @@ pub struct TableTimes {
 }
 
 impl Model for TableTimes {
-    ghost use Rattle.stream_report.specs.TableLines.{TimesState};
+    ghost use Rattle.stream_report.specs.TableEvents.{TimesState};
 
     ghost Value = { TimesState };
 
@@ -44,7 +44,7 @@ pub struct TableWatch {
 }
 
 impl Model for TableWatch {
-    ghost use Rattle.stream_report.specs.TableLines.{TablesState, TakesPackets};
+    ghost use Rattle.stream_report.specs.TableEvents.{TablesState, TakesPackets};
 
     ghost Value = { TablesState };
 
@@ -53,38 +53,29 @@ impl Model for TableWatch {
     ghost invariant = { λ t. TakesPackets t.demux };
 }
 
-fn write_error(
-    text: &mut String,
-    options: &ViewOptions,
-    error: &TableError,
-) -> Result<(), AllocError>
-    ensures { OnOk result (string_bytes text.new ≡ string_bytes text.old ++ spec.error_line options.now error.now) }
+fn error_event(error: &TableError) -> Event
+    ensures { result ≡ spec.error_event error.now }
 {
-    let fields = [
-        number("pid", u128::from(error.section.pid)),
-        number("table", u128::from(error.section.table_id)),
-        number("packet", u128::from(error.section.packet)),
-        number("value", error.value),
-        number("limit", u128::from(error.limit)),
-    ];
-    write_line(text, options.json, "table_repetition", &fields)
+    Event::TableRepetition(TableFault {
+        pid: error.section.pid,
+        table: error.section.table_id,
+        packet: error.section.packet,
+        value: error.value,
+        limit: error.limit,
+    })
 }
 
-#[tactic(auto, unfolding(crate::specs::TableLines::error_lines))]
-fn write_error_if(
-    text: &mut String,
-    options: &ViewOptions,
-    error: &Option<TableError>,
-) -> Result<(), AllocError>
-    ensures { OnOk result (string_bytes text.new ≡ string_bytes text.old ++ spec.error_lines options.now error.now) }
+#[tactic(auto, unfolding(crate::specs::TableEvents::error_events))]
+fn push_error_if(events: &mut Vec<Event>, error: &Option<TableError>) -> Result<(), AllocError>
+    ensures { OnOk result (events.new.items ≡ events.old.items ++ spec.error_events error.now) }
 {
-    match error {
-        None => Ok(()),
-        Some(error) => write_error(text, options, error),
+    if let Some(error) = error {
+        events.push(error_event(error))?;
     }
+    Ok(())
 }
 
-#[tactic(auto, unfolding(crate::specs::TableLines::more_errors))]
+#[tactic(auto, unfolding(crate::specs::TableEvents::more_errors))]
 fn more_errors(errors: u64, error: &Option<TableError>) -> u64
     ensures { result ≡ spec.more_errors errors error.now }
 {
@@ -95,7 +86,7 @@ fn more_errors(errors: u64, error: &Option<TableError>) -> u64
 }
 
 // A section with its place in time.
-#[tactic(auto, unfolding(crate::specs::TableLines::placed))]
+#[tactic(auto, unfolding(crate::specs::TableEvents::placed))]
 fn placed(arrival: &Arrival, section: SectionBegin) -> Option<SectionBegin>
     ensures { result ≡ spec.placed arrival.now section }
 {
@@ -118,37 +109,36 @@ fn section_in(options: &ViewOptions, finding: &Finding<'_>) -> Option<SectionBeg
 }
 
 impl TableTimes {
-    #[tactic(auto, unfolding(crate::specs::TableLines::begin_lines))]
+    #[tactic(auto, unfolding(crate::specs::TableEvents::begin_events))]
     fn take_section(
         &mut self,
-        options: &ViewOptions,
         section: SectionBegin,
-        text: &mut String,
+        events: &mut Vec<Event>,
     ) -> Result<(), AllocError>
         ensures times { OnOk result (self.new ≡ spec.with_section self.old section) }
-        ensures lines { OnOk result (string_bytes text.new
-            ≡ string_bytes text.old ++ spec.begin_lines options.now self.old (Some section)) }
+        ensures found { OnOk result (events.new.items
+            ≡ events.old.items ++ spec.begin_events self.old (Some section)) }
     {
         let error = self.intervals.take(section)?;
-        write_error_if(text, options, &error)?;
+        push_error_if(events, &error)?;
         self.errors = more_errors(self.errors, &error);
         Ok(())
     }
 
-    #[tactic(auto, unfolding(crate::specs::TableLines::with_begin, crate::specs::TableLines::begin_lines))]
+    #[tactic(auto, unfolding(crate::specs::TableEvents::with_begin, crate::specs::TableEvents::begin_events))]
     fn take(
         &mut self,
         options: &ViewOptions,
         finding: &Finding<'_>,
-        text: &mut String,
+        events: &mut Vec<Event>,
     ) -> Result<(), AllocError>
         ensures times { OnOk result (self.new ≡ spec.with_finding options.now self.old (finding_view finding.now)) }
-        ensures lines { OnOk result (string_bytes text.new
-            ≡ string_bytes text.old ++ spec.finding_lines options.now self.old (finding_view finding.now)) }
+        ensures found { OnOk result (events.new.items
+            ≡ events.old.items ++ spec.finding_events options.now self.old (finding_view finding.now)) }
     {
         match section_in(options, finding) {
             None => Ok(()),
-            Some(section) => self.take_section(options, section, text),
+            Some(section) => self.take_section(section, events),
         }
     }
 
@@ -156,39 +146,32 @@ impl TableTimes {
         &mut self,
         options: &ViewOptions,
         findings: &[Finding<'_>],
-        text: &mut String,
+        events: &mut Vec<Event>,
     ) -> Result<(), AllocError>
         ensures times { OnOk result (self.new ≡ spec.with_findings options.now self.old (map finding_view findings.now)) }
-        ensures lines { OnOk result (string_bytes text.new
-            ≡ string_bytes text.old ++ spec.findings_lines options.now self.old (map finding_view findings.now)) }
+        ensures found { OnOk result (events.new.items
+            ≡ events.old.items ++ spec.findings_events options.now self.old (map finding_view findings.now)) }
     {
         for finding in findings {
-            self.take(options, finding, text)?;
+            self.take(options, finding, events)?;
         }
         Ok(())
     }
 }
 
-fn write_table(
-    text: &mut String,
-    options: &ViewOptions,
-    timing: TableTiming,
-    key: u32,
-    places: &SectionPlaces,
-) -> Result<(), AllocError>
-    ensures { OnOk result (string_bytes text.new ≡ string_bytes text.old ++ spec.table_line options.now timing (key, places.now)) }
+fn table_event(timing: TableTiming, key: u32, places: &SectionPlaces) -> Event
+    ensures { result ≡ spec.table_event timing (key, places.now) }
 {
     let pid = (pid_of(key) % 65536) as u16;
-    let table_id = table_id_of(key);
-    let fields = [
-        number("pid", u128::from(pid)),
-        number("table", u128::from(table_id)),
-        number("sections", u128::from(places.sections)),
-        number("interval", time_between(timing, places.greatest)),
-        number("packet", u128::from(places.at)),
-        number("limit", u128::from(limit_of(pid, table_id).unwrap_or(0))),
-    ];
-    write_line(text, options.json, "table", &fields)
+    let table = table_id_of(key);
+    Event::Table(TableTotals {
+        pid,
+        table,
+        sections: places.sections,
+        interval: time_between(timing, places.greatest),
+        packet: places.at,
+        limit: limit_of(pid, table).unwrap_or(0),
+    })
 }
 
 impl TableWatch {
@@ -206,30 +189,30 @@ impl TableWatch {
         }
     }
 
-    /// The next packet, which was read: the lines of sections that begin too late are appended, once these are found.
+    /// The next packet, which was read: sections that begin too late are appended, once these are found.
     pub fn take<'a>(
         &mut self,
         options: &ViewOptions,
         bytes: &'a [u8; 188],
         read: &Result<Packet<'a>, PacketError>,
-        text: &mut String,
+        events: &mut Vec<Event>,
     ) -> Result<(), AllocError>
         requires { Gives packet_view read.now (packet_at bytes.now) }
         ensures tables { OnOk result (self.new ≡ spec.with_packet options.now self.old bytes.now) }
-        ensures lines { OnOk result (string_bytes text.new
-            ≡ string_bytes text.old ++ spec.packet_lines options.now self.old bytes.now) }
+        ensures found { OnOk result (events.new.items
+            ≡ events.old.items ++ spec.packet_events options.now self.old bytes.now) }
     {
         let mut found = Vec::new(self.alloc);
         let Ok(()) = self.demux.take_read(bytes, read, &mut found) else {
             return Err(AllocError);
         };
-        self.times.take_all(options, found.as_slice(), text)
+        self.times.take_all(options, found.as_slice(), events)
     }
 
     /// The null packet: no section begins in it.
     pub fn pass_null(&mut self)
         ensures tables { (options : ViewOptions) → self.new ≡ spec.with_packet options self.old null_packet }
-        ensures lines { (options : ViewOptions) → spec.packet_lines options self.old null_packet ≡ [] }
+        ensures found { (options : ViewOptions) → spec.packet_events options self.old null_packet ≡ [] }
     {
         self.demux.skip();
     }
@@ -241,13 +224,13 @@ impl TableWatch {
         self.times.errors == 0
     }
 
-    /// Appends a line for each table.
-    pub fn write_end(&self, text: &mut String, options: &ViewOptions) -> Result<(), AllocError>
-        ensures { OnOk result (string_bytes text.new ≡ string_bytes text.old ++ spec.table_lines options.now self.now) }
+    /// Appends what the sections of each table came to.
+    pub fn push_end(&self, events: &mut Vec<Event>) -> Result<(), AllocError>
+        ensures { OnOk result (events.new.items ≡ events.old.items ++ spec.table_events self.now) }
     {
         let intervals = &self.times.intervals;
         for (key, places) in intervals.entries() {
-            write_table(text, options, intervals.timing(), *key, places)?;
+            events.push(table_event(intervals.timing(), *key, places))?;
         }
         Ok(())
     }

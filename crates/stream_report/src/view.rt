@@ -1,17 +1,18 @@
 //! A stream, packet by packet, each with its arrival.
-ghost use Rattle.std.specs.Prelude.{◌≡◌, ◌++◌, OnOk, Result, string_bytes};
+ghost use Rattle.std.specs.Prelude.{◌≡◌, ◌++◌, OnOk, Result};
 ghost use Rattle.bit_fields.specs.Reading.{Gives};
 ghost use Rattle.ts_packet.specs.Reading.{packet_at};
 ghost use Rattle.ts_packet.specs.Views.{PacketView, packet_view};
 ghost use Rattle.ts_packet.specs.declared.packet.PacketError.{PacketError};
-ghost use Rattle.stream_report.specs.Seen.{arrival_lines, next_window};
+ghost use Rattle.stream_report.specs.Seen.{arrival_events, next_window};
 ghost use Rattle.stream_report.specs.Views as spec;
 ghost use Rattle.stream_report.specs.Views.{IsView, ViewState};
 
 use crate::seen::Seen;
 use crate::stream_table::StreamTable;
-use crate::system_lines::{all_fit, write_systems};
+use crate::system_events::{all_fit, push_systems};
 use crate::view_request::ViewRequest;
+use events::Event;
 use std::alloc::{AllocError, Global};
 use stream_arrival::Arrival;
 use ts_packet::{Packet, PacketError, read_packet};
@@ -41,35 +42,35 @@ impl View {
         &mut self,
         arrival: Arrival,
         count: usize,
-        text: &mut String,
+        events: &mut Vec<Event>,
     ) -> Result<(), AllocError>
         ensures view { (s : ViewState) → IsView self.old s → OnOk result (IsView self.new (spec.arriving s arrival count)) }
-        ensures lines { (s : ViewState) → IsView self.old s → OnOk result (string_bytes text.new
-            ≡ string_bytes text.old ++ arrival_lines s.seen arrival count) }
+        ensures found { (s : ViewState) → IsView self.old s → OnOk result (events.new.items
+            ≡ events.old.items ++ arrival_events s.seen arrival count) }
     {
-        self.seen.arrive(arrival, count, text)
+        self.seen.arrive(arrival, count, events)
     }
 
-    // Appends the lines of the last packet's window.
-    fn write_window(&self, text: &mut String) -> Result<(), AllocError>
-        ensures { (s : ViewState) → IsView self.now s → OnOk result (string_bytes text.new
-            ≡ string_bytes text.old ++ spec.all_window_lines s) }
+    // Appends what is found in the last packet's window.
+    fn push_window(&self, events: &mut Vec<Event>) -> Result<(), AllocError>
+        ensures { (s : ViewState) → IsView self.now s → OnOk result (events.new.items
+            ≡ events.old.items ++ spec.all_window_events s) }
     {
-        self.seen.write_window(text)?;
+        self.seen.push_window(events)?;
         self.table
-            .write_units(text, &self.seen.options, self.seen.window.number())
+            .push_units(events, &self.seen.options, self.seen.window.number())
     }
 
-    // The lines of the last packet's window, if a packet of this window lies in another one.
-    fn end_window(&self, window: u64, text: &mut String) -> Result<(), AllocError>
+    // Appends the same, if a packet of this window lies in another one.
+    fn end_window(&self, window: u64, events: &mut Vec<Event>) -> Result<(), AllocError>
         requires { window ≡ next_window self.now.seen }
-        ensures { (s : ViewState) → IsView self.now s → OnOk result (string_bytes text.new
-            ≡ string_bytes text.old ++ spec.last_window s) }
+        ensures { (s : ViewState) → IsView self.now s → OnOk result (events.new.items
+            ≡ events.old.items ++ spec.last_window s) }
     {
         if self.seen.window.number() == window {
             return Ok(());
         }
-        self.write_window(text)
+        self.push_window(events)
     }
 
     // A packet of a PID, in this window, in the buffers of its stream.
@@ -77,49 +78,49 @@ impl View {
         &mut self,
         window: u64,
         packet: &Packet<'_>,
-        text: &mut String,
+        events: &mut Vec<Event>,
     ) -> Result<(), AllocError>
         requires { window ≡ next_window self.old.seen }
         ensures seen { self.new.seen ≡ self.old.seen }
         ensures view { (s : ViewState) → IsView self.old s → OnOk result
             (IsView self.new (spec.with_buffers s (packet_view packet.now))) }
-        ensures lines { (s : ViewState) → IsView self.old s → OnOk result
-            (string_bytes text.new ≡ string_bytes text.old ++ spec.buffer_lines_at s (packet_view packet.now)) }
+        ensures found { (s : ViewState) → IsView self.old s → OnOk result
+            (events.new.items ≡ events.old.items ++ spec.buffer_events_at s (packet_view packet.now)) }
     {
         let seen = &self.seen;
         let index = seen.packets;
         self.table
-            .begin(&seen.options, index, &seen.named, packet, text)?;
+            .begin(&seen.options, index, &seen.named, packet, events)?;
         self.table
-            .take(&seen.options, index, window, &seen.clocks, packet, text)
+            .take(&seen.options, index, window, &seen.clocks, packet, events)
     }
 
     // A packet that is not known to be wrong.
-    fn count(&mut self, packet: &Packet<'_>, text: &mut String) -> Result<(), AllocError>
+    fn count(&mut self, packet: &Packet<'_>, events: &mut Vec<Event>) -> Result<(), AllocError>
         ensures view { (s : ViewState) → IsView self.old s → OnOk result
             (IsView self.new (spec.with_packet s (packet_view packet.now))) }
-        ensures lines { (s : ViewState) → IsView self.old s → OnOk result
-            (string_bytes text.new ≡ string_bytes text.old ++ spec.packet_lines s (packet_view packet.now)) }
+        ensures found { (s : ViewState) → IsView self.old s → OnOk result
+            (events.new.items ≡ events.old.items ++ spec.packet_events s (packet_view packet.now)) }
     {
         let window = self.seen.next_window();
-        self.end_window(window, text)?;
-        self.seen.take_clock(packet, text)?;
-        self.buffer(window, packet, text)?;
-        self.seen.count(window, self.table.choice(), packet, text)
+        self.end_window(window, events)?;
+        self.seen.take_clock(packet, events)?;
+        self.buffer(window, packet, events)?;
+        self.seen.count(window, self.table.choice(), packet, events)
     }
 
     // A packet as it was read.
-    #[tactic(auto, unfolding(crate::specs::Views::after_read, crate::specs::Views::lines_read))]
+    #[tactic(auto, unfolding(crate::specs::Views::after_read, crate::specs::Views::events_read))]
     fn note(
         &mut self,
         read: &Result<Packet<'_>, PacketError>,
-        text: &mut String,
+        events: &mut Vec<Event>,
     ) -> Result<(), AllocError>
         ensures view { (s : ViewState) (packet : Result PacketView PacketError) → IsView self.old s →
             Gives packet_view read.now packet → OnOk result (IsView self.new (spec.after_read s packet)) }
-        ensures lines { (s : ViewState) (packet : Result PacketView PacketError) → IsView self.old s →
+        ensures found { (s : ViewState) (packet : Result PacketView PacketError) → IsView self.old s →
             Gives packet_view read.now packet →
-            OnOk result (string_bytes text.new ≡ string_bytes text.old ++ spec.lines_read s packet) }
+            OnOk result (events.new.items ≡ events.old.items ++ spec.events_read s packet) }
     {
         match read {
             Err(_) => {
@@ -131,7 +132,7 @@ impl View {
                     self.seen.refuse();
                     return Ok(());
                 }
-                self.count(packet, text)
+                self.count(packet, events)
             }
         }
     }
@@ -142,72 +143,77 @@ impl View {
         &mut self,
         bytes: &'a [u8; 188],
         read: &Result<Packet<'a>, PacketError>,
-        text: &mut String,
+        events: &mut Vec<Event>,
     ) -> Result<(), AllocError>
         requires { Gives packet_view read.now (packet_at bytes.now) }
         ensures view { (s : ViewState) → IsView self.old s →
             OnOk result (IsView self.new (spec.with_sections s bytes.now)) }
-        ensures lines { (s : ViewState) → IsView self.old s → OnOk result (string_bytes text.new
-            ≡ string_bytes text.old ++ spec.table_lines_at s bytes.now) }
+        ensures found { (s : ViewState) → IsView self.old s → OnOk result (events.new.items
+            ≡ events.old.items ++ spec.table_events_at s bytes.now) }
     {
         match read {
-            Err(_) => self.seen.take_sections(bytes, read, text),
+            Err(_) => self.seen.take_sections(bytes, read, events),
             Ok(packet) => {
                 if self.table.has_stream(packet.header.pid) {
                     self.seen.pass_null();
                     Ok(())
                 } else {
-                    self.seen.take_sections(bytes, read, text)
+                    self.seen.take_sections(bytes, read, events)
                 }
             }
         }
     }
 
-    /// The next packet: the lines that it settles are appended to the text.
-    pub fn take(&mut self, bytes: &[u8; 188], text: &mut String) -> Result<(), AllocError>
+    /// The next packet: the events that it settles are appended.
+    pub fn take(&mut self, bytes: &[u8; 188], events: &mut Vec<Event>) -> Result<(), AllocError>
         ensures view { (s : ViewState) → IsView self.old s → OnOk result (IsView self.new (spec.after_packet s bytes.now)) }
-        ensures lines { (s : ViewState) → IsView self.old s →
-            OnOk result (string_bytes text.new ≡ string_bytes text.old ++ spec.lines_at s bytes.now) }
+        ensures found { (s : ViewState) → IsView self.old s →
+            OnOk result (events.new.items ≡ events.old.items ++ spec.events_at s bytes.now) }
     {
         let read = read_packet(bytes);
-        self.note(&read, text)?;
-        self.watch_tables(bytes, &read, text)?;
+        self.note(&read, events)?;
+        self.watch_tables(bytes, &read, events)?;
         self.seen.name(bytes)
     }
 
     /// The next packets.
-    #[tactic(auto, unfolding(crate::specs::Views::after_all, crate::specs::Views::lines_all))]
-    pub fn take_all(&mut self, packets: &[[u8; 188]], text: &mut String) -> Result<(), AllocError>
+    #[tactic(auto, unfolding(crate::specs::Views::after_all, crate::specs::Views::events_all))]
+    pub fn take_all(
+        &mut self,
+        packets: &[[u8; 188]],
+        events: &mut Vec<Event>,
+    ) -> Result<(), AllocError>
         ensures view { (s : ViewState) → IsView self.old s → OnOk result (IsView self.new (spec.after_all s packets.now)) }
-        ensures lines { (s : ViewState) → IsView self.old s →
-            OnOk result (string_bytes text.new ≡ string_bytes text.old ++ spec.lines_all s packets.now) }
+        ensures found { (s : ViewState) → IsView self.old s →
+            OnOk result (events.new.items ≡ events.old.items ++ spec.events_all s packets.now) }
     {
         for packet in packets {
-            self.take(packet, text)?;
+            self.take(packet, events)?;
         }
         Ok(())
     }
 
-    /// The stream ends, `left` bytes after its last whole packet: the last lines are appended to the text.
-    pub fn end(&self, left: usize, text: &mut String) -> Result<(), AllocError>
+    /// The stream ends, `left` bytes after its last whole packet: the last events are appended.
+    pub fn end(&self, left: usize, events: &mut Vec<Event>) -> Result<(), AllocError>
         ensures { (s : ViewState) → IsView self.now s →
-            OnOk result (string_bytes text.new ≡ string_bytes text.old ++ spec.end_lines s left) }
+            OnOk result (events.new.items ≡ events.old.items ++ spec.end_events s left) }
     {
         let seen = &self.seen;
         let options = &seen.options;
         let window = seen.window.number();
-        seen.write_window(text)?;
+        seen.push_window(events)?;
         self.table
-            .write_end(text, options, self.seen.packets, window)?;
-        write_systems(
-            text,
+            .push_end(events, options, self.seen.packets, window)?;
+        push_systems(
+            events,
             options,
             self.table.choice(),
             self.seen.packets,
             self.seen.systems.programs(),
         )?;
-        self.seen.write_pid_ends(text)?;
-        self.seen.write_end(left, text)
+        self.seen.push_pid_ends(events)?;
+        events.push(self.seen.end_event(left))?;
+        Ok(())
     }
 
     /// Whether nothing is wrong in a stream that ends, `left` bytes after its last whole packet.

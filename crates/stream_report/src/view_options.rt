@@ -10,6 +10,4 @@ pub struct ViewOptions {
     pub origin: u64,
     /// The length of a window in milliseconds; of 0, one.
     pub window: u32,
-    /// Whether each line is a JSON object.
-    pub json: bool,
 }

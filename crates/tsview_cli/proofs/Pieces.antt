@@ -1,12 +1,15 @@
 -- A stream that is viewed piece by piece, whole packets in each but the last.
-use Rattle.std.proofs.Common.{◌≡◌, ℕ, zero, suc, ◌+◌, ◌*◌, ◌/◌, ◌%◌, ◌<◌, min, List, [], ◌∷◌, ◌++◌, length, take, drop, refl, sym, ap, subst, ◌∙◌, arith, append_assoc, length-append, Option, Some, None, Result, Ok, Err, inl, inr}
+use Rattle.std.proofs.Common.{◌≡◌, ℕ, zero, suc, ◌+◌, ◌*◌, ◌/◌, ◌%◌, ◌<◌, min, Bool, List, [], ◌∷◌, ◌++◌, length, take, drop, refl, sym, ap, subst, ◌∙◌, arith, append_assoc, length-append, Option, Some, None, Result, Ok, Err, inl, inr}
 use Rattle.std.proofs.KnownBytes.{Appends-nil, Appends-trans}
+use Rattle.std.proofs.lemmas.Grind.{flat_map-append}
 use Rattle.std.proofs.lemmas.List.{length-drop, length-take-le, take-append-drop}
 use Rattle.std.specs.Io.KnownBytes.{Appends}
 use Rattle.ts_packet.specs.PidList.{cut_packets}
 use Rattle.ts_packet.proofs.Listing.{first_cut}
 use Rattle.stream_report.specs.declared.clocked_view.ClockedView.{ClockedView}
-use Rattle.stream_report.specs.ClockedViews.{IsClocked, ClockedState, after_all, after_packet, lines_all, lines_at}
+use Rattle.events.specs.EventLines.{event_line, lines_of}
+use Rattle.events.specs.declared.event.Event.{Event}
+use Rattle.stream_report.specs.ClockedViews.{IsClocked, ClockedState, after_all, after_packet, events_all, events_at}
 use Rattle.counted_io.specs.Device.{Failed, IsFront}
 use Rattle.devices.specs.Devices.{Port, Device, between}
 use Rattle.devices.specs.Lines.{Stopped, WritesLine}
@@ -15,7 +18,7 @@ use Rattle.devices.specs.declared.halt.Halt.{Halt}
 use Rattle.std.specs.Prelude.{IfOk, IfErr}
 use Rattle.devices.specs.declared.halt.Halt.TheVariants.{Read, Write, Memory}
 use Rattle.devices.proofs.TakenInput.{IsAfter, TakesFront}
-use Rattle.tsview_cli.specs.Viewing.{BeginsWith, Breaks, Seen}
+use Rattle.tsview_cli.specs.Viewing.{BeginsWith, Breaks, Seen, StopsNext, lines_all}
 
 -- 1. Bytes that are whole packets, and bytes after them
 
@@ -40,19 +43,24 @@ unfolding after_all
 after_both s [] more = refl
 after_both s (packet ∷ packets) more = after_both (after_packet s packet) packets more
 
-lines_both : (s : ClockedState) (packets more : List (List ℕ)) → lines_all s (packets ++ more) ≡ lines_all s packets ++ lines_all (after_all s packets) more
-unfolding after_all lines_all
-lines_both s [] more = refl
-lines_both s (packet ∷ packets) more =
-    ap (λ (l : List ℕ). lines_at s packet ++ l) (lines_both (after_packet s packet) packets more)
-    ∙ sym (append_assoc (lines_at s packet) (lines_all (after_packet s packet) packets) (lines_all (after_all (after_packet s packet) packets) more))
+events_both : (s : ClockedState) (packets more : List (List ℕ)) → events_all s (packets ++ more) ≡ events_all s packets ++ events_all (after_all s packets) more
+unfolding after_all events_all
+events_both s [] more = refl
+events_both s (packet ∷ packets) more =
+    ap (λ (l : List Event). events_at s packet ++ l) (events_both (after_packet s packet) packets more)
+    ∙ sym (append_assoc (events_at s packet) (events_all (after_packet s packet) packets) (events_all (after_all (after_packet s packet) packets) more))
+
+lines_both : (json : Bool) (s : ClockedState) (packets more : List (List ℕ)) →
+    lines_all json s (packets ++ more) ≡ lines_all json s packets ++ lines_all json (after_all s packets) more
+lines_both json s packets more =
+    ap (lines_of json) (events_both s packets more) ∙ flat_map-append (event_line json) (events_all s packets) (events_all (after_all s packets) more)
 
 -- the lines of both
-lines_joined : (first : ClockedState) (bytes piece : List ℕ) → length bytes % 188 ≡ 0 →
-    lines_all first (cut_packets (bytes ++ piece)) ≡ lines_all first (cut_packets bytes) ++ lines_all (after_all first (cut_packets bytes)) (cut_packets piece)
-lines_joined first bytes piece whole =
+lines_joined : (json : Bool) (first : ClockedState) (bytes piece : List ℕ) → length bytes % 188 ≡ 0 →
+    lines_all json first (cut_packets (bytes ++ piece)) ≡ lines_all json first (cut_packets bytes) ++ lines_all json (after_all first (cut_packets bytes)) (cut_packets piece)
+lines_joined json first bytes piece whole =
     let count : length bytes ≡ 188 * (length bytes / 188) = omega (arith, whole) in
-    ap (lines_all first) (cut_both (length bytes / 188) bytes piece count) ∙ lines_both first (cut_packets bytes) (cut_packets piece)
+    ap (lines_all json first) (cut_both (length bytes / 188) bytes piece count) ∙ lines_both json first (cut_packets bytes) (cut_packets piece)
 
 kept_joined : (first : ClockedState) (bytes piece : List ℕ) → length bytes % 188 ≡ 0 →
     after_all first (cut_packets (bytes ++ piece)) ≡ after_all (after_all first (cut_packets bytes)) (cut_packets piece)
@@ -62,28 +70,28 @@ kept_joined first bytes piece whole =
 
 -- 2. Pieces that were viewed
 
-pub seen_none : (first : ClockedState) (view : ClockedView) (port : Port) → IsClocked view first → Seen first (between port port) view []
-unfolding after_all lines_all
-seen_none first view port k = record { kept = k; written = Appends-nil port.bytes; clean = refl }
+pub seen_none : (json : Bool) (first : ClockedState) (view : ClockedView) (port : Port) → IsClocked view first → Seen json first (between port port) view []
+unfolding after_all events_all
+seen_none json first view port k = record { kept = k; written = Appends-nil port.bytes; clean = refl }
 
-pub seen_more : (first : ClockedState) (before now : ClockedView) (old mid new : Port) (bytes piece : List ℕ) → ((s : ClockedState) → IsClocked before s → IsClocked now (after_all s (cut_packets piece))) →
-    ((s : ClockedState) → IsClocked before s → Appends mid.bytes new.bytes (lines_all s (cut_packets piece))) → new.failed ≡ mid.failed → length bytes % 188 ≡ 0 →
-    Seen first (between old mid) before bytes → Seen first (between old new) now (bytes ++ piece)
-seen_more first before now old mid new bytes piece kept written clean whole s =
+pub seen_more : (json : Bool) (first : ClockedState) (before now : ClockedView) (old mid new : Port) (bytes piece : List ℕ) → ((s : ClockedState) → IsClocked before s → IsClocked now (after_all s (cut_packets piece))) →
+    ((s : ClockedState) → IsClocked before s → Appends mid.bytes new.bytes (lines_all json s (cut_packets piece))) → new.failed ≡ mid.failed → length bytes % 188 ≡ 0 →
+    Seen json first (between old mid) before bytes → Seen json first (between old new) now (bytes ++ piece)
+seen_more json first before now old mid new bytes piece kept written clean whole s =
     let t : ClockedState = after_all first (cut_packets bytes) in
     record {
       kept = subst (IsClocked now) (sym (kept_joined first bytes piece whole)) (kept t s.kept);
-      written = subst (Appends old.bytes new.bytes) (sym (lines_joined first bytes piece whole))
-          (Appends-trans old.bytes mid.bytes new.bytes (lines_all first (cut_packets bytes)) (lines_all t (cut_packets piece)) s.written (written t s.kept));
+      written = subst (Appends old.bytes new.bytes) (sym (lines_joined json first bytes piece whole))
+          (Appends-trans old.bytes mid.bytes new.bytes (lines_all json first (cut_packets bytes)) (lines_all json t (cut_packets piece)) s.written (written t s.kept));
       clean = clean ∙ s.clean;
     }
 
 -- with the lines of a piece that were written
-pub seen_then : (first : ClockedState) (before now : ClockedView) (begin middle end : Port) (text piece : List ℕ) → ((s : ClockedState) → IsClocked before s → text ≡ lines_all s (cut_packets piece)) →
+pub seen_then : (json : Bool) (first : ClockedState) (before now : ClockedView) (begin middle end : Port) (text piece : List ℕ) → ((s : ClockedState) → IsClocked before s → text ≡ lines_all json s (cut_packets piece)) →
     ((s : ClockedState) → IsClocked before s → IsClocked now (after_all s (cut_packets piece))) → Appends middle.bytes end.bytes text → end.failed ≡ middle.failed → (bytes : List ℕ) →
-    length bytes % 188 ≡ 0 → Seen first (between begin middle) before bytes → Seen first (between begin end) now (bytes ++ piece)
-seen_then first before now begin middle end text piece is kept written clean bytes whole s =
-    seen_more first before now begin middle end bytes piece kept (λ t k. subst (Appends middle.bytes end.bytes) (is t k) written) clean whole s
+    length bytes % 188 ≡ 0 → Seen json first (between begin middle) before bytes → Seen json first (between begin end) now (bytes ++ piece)
+seen_then json first before now begin middle end text piece is kept written clean bytes whole s =
+    seen_more json first before now begin middle end bytes piece kept (λ t k. subst (Appends middle.bytes end.bytes) (is t k) written) clean whole s
 
 -- 3. Where it ends early
 
@@ -101,22 +109,29 @@ begins : (old mid : Port) (bytes : List ℕ) → IsAfter old mid bytes → Begin
 begins old mid bytes after xs e = let h = after xs e in (h.0, h.1)
 
 -- the reader failed
-pub read_failed : (first : ClockedState) (before : ClockedView) (old mid new : Port) (output : Device) (size : ℕ) → TakesFront (Seen first output before) 188 old mid size →
-    Failed mid.failed new.failed → Breaks first (between old new) output Read
-read_failed first before old mid new output size f failed = record {
+pub read_failed : (json : Bool) (first : ClockedState) (before : ClockedView) (old mid new : Port) (output : Device) (size : ℕ) → TakesFront (Seen json first output before) 188 old mid size →
+    Failed mid.failed new.failed → Breaks json first (between old new) output Read
+read_failed json first before old mid new output size f failed = record {
   bytes = f.bytes;
   front = begins old mid f.bytes f.known;
   at = (f.taken.written, inl (subst (λ (n : ℕ). Failed n new.failed) f.clean failed));
 }
 
 -- there was no memory for the lines of a piece
-pub no_memory : (first : ClockedState) (before : ClockedView) (old mid new : Port) (output : Device) (size : ℕ) → TakesFront (Seen first output before) 188 old mid size →
-    new.failed ≡ mid.failed → Breaks first (between old new) output Memory
-no_memory first before old mid new output size f clean = record {
+pub no_memory : (json : Bool) (first : ClockedState) (before : ClockedView) (old mid new : Port) (output : Device) (size : ℕ) → TakesFront (Seen json first output before) 188 old mid size →
+    new.failed ≡ mid.failed → Breaks json first (between old new) output Memory
+no_memory json first before old mid new output size f clean = record {
   bytes = f.bytes;
   front = begins old mid f.bytes f.known;
   at = (f.taken.written, clean ∙ f.clean);
 }
+
+-- no next piece was viewed
+pub next_stopped : (json : Bool) (first : ClockedState) (before : ClockedView) (old mid new : Port) (output : Device) (size : ℕ) (halt : Halt) →
+    TakesFront (Seen json first output before) 188 old mid size → StopsNext (between mid new) halt → Breaks json first (between old new) output halt
+next_stopped json first before old mid new output size Read f failed = read_failed json first before old mid new output size f failed
+next_stopped json first before old mid new output size Write f never = absurd never
+next_stopped json first before old mid new output size Memory f clean = no_memory json first before old mid new output size f clean
 
 -- the input is too long
 long_if : (known : Option (List ℕ)) (bytes : List ℕ) → longest_input < length bytes → ((xs : List ℕ) → known ≡ Some xs → (left : List ℕ) × (xs ≡ bytes ++ left)) → IsLong known
@@ -126,18 +141,18 @@ long_if (Some xs) bytes s h =
     let all : length xs ≡ length bytes + length k.0 = ap length k.1 ∙ length-append bytes k.0 in
     omega (arith, all, s)
 
-pub too_long : (first : ClockedState) (before : ClockedView) (old mid : Port) (output : Device) (size : ℕ) → TakesFront (Seen first output before) 188 old mid size → longest_input < size →
-    Breaks first (between old mid) output Read
-too_long first before old mid output size f long = record {
+pub too_long : (json : Bool) (first : ClockedState) (before : ClockedView) (old mid : Port) (output : Device) (size : ℕ) → TakesFront (Seen json first output before) 188 old mid size → longest_input < size →
+    Breaks json first (between old mid) output Read
+too_long json first before old mid output size f long = record {
   bytes = f.bytes;
   front = begins old mid f.bytes f.known;
   at = (f.taken.written, inr (long_if old.bytes f.bytes (subst (λ (n : ℕ). longest_input < n) f.size_is long) (begins old mid f.bytes f.known)));
 }
 
 -- and within its last piece
-pub too_long_then : (first : ClockedState) (now : ClockedView) (old mid new : Port) (output : Device) (bytes piece : List ℕ) (n : ℕ) → IsAfter old mid bytes → ReadsFront (between mid new) piece n →
-    Seen first output now (bytes ++ take n piece) → ReadsInput (between old new) (Err Read) → Breaks first (between old new) output Read
-too_long_then first now old mid new output bytes piece n known r s why = record {
+pub too_long_then : (json : Bool) (first : ClockedState) (now : ClockedView) (old mid new : Port) (output : Device) (bytes piece : List ℕ) (n : ℕ) → IsAfter old mid bytes → ReadsFront (between mid new) piece n →
+    Seen json first output now (bytes ++ take n piece) → ReadsInput (between old new) (Err Read) → Breaks json first (between old new) output Read
+too_long_then json first now old mid new output bytes piece n known r s why = record {
   bytes = bytes ++ take n piece;
   front = after_more old mid new bytes piece n known r.known;
   at = (s.written, why);
@@ -150,16 +165,16 @@ take_past (x ∷ xs) ys n =
     let e : length (x ∷ xs) + n ≡ suc (length xs + n) = omega arith in
     rw e (ap (λ (l : List ℕ). x ∷ l) (take_past xs ys n))
 
-pub write_failed : (first : ClockedState) (before : ClockedView) (old mid new : Port) (begin middle end : Port) (size n : ℕ) (text piece : List ℕ) →
-    TakesFront (Seen first (between begin middle) before) 188 old mid size → ReadsFront (between mid new) piece n →
-    ((s : ClockedState) → IsClocked before s → text ≡ lines_all s (cut_packets (take n piece))) → Stopped text (between middle end) → Failed middle.failed end.failed →
-    Breaks first (between old new) (between begin end) Write
-write_failed first before old mid new begin middle end size n text piece f r is stopped failed =
+pub write_failed : (json : Bool) (first : ClockedState) (before : ClockedView) (old mid new : Port) (begin middle end : Port) (size n : ℕ) (text piece : List ℕ) →
+    TakesFront (Seen json first (between begin middle) before) 188 old mid size → ReadsFront (between mid new) piece n →
+    ((s : ClockedState) → IsClocked before s → text ≡ lines_all json s (cut_packets (take n piece))) → Stopped text (between middle end) → Failed middle.failed end.failed →
+    Breaks json first (between old new) (between begin end) Write
+write_failed json first before old mid new begin middle end size n text piece f r is stopped failed =
     let bytes = f.bytes ++ take n piece in
-    let a = lines_all first (cut_packets f.bytes) in
-    let lines : a ++ text ≡ lines_all first (cut_packets bytes) =
-    ap (λ (l : List ℕ). a ++ l) (is (after_all first (cut_packets f.bytes)) f.taken.kept) ∙ sym (lines_joined first f.bytes (take n piece) f.whole) in
-    let front : a ++ take stopped.taken text ≡ take (length a + stopped.taken) (lines_all first (cut_packets bytes)) =
+    let a = lines_all json first (cut_packets f.bytes) in
+    let lines : a ++ text ≡ lines_all json first (cut_packets bytes) =
+    ap (λ (l : List ℕ). a ++ l) (is (after_all first (cut_packets f.bytes)) f.taken.kept) ∙ sym (lines_joined json first f.bytes (take n piece) f.whole) in
+    let front : a ++ take stopped.taken text ≡ take (length a + stopped.taken) (lines_all json first (cut_packets bytes)) =
     sym (take_past a text stopped.taken) ∙ ap (take (length a + stopped.taken)) lines in
     record {
       bytes = bytes;
@@ -173,14 +188,14 @@ write_failed first before old mid new begin middle end size n text piece f r is 
       );
     }
 
-pub write_stopped : (V : Type 0) (first : ClockedState) (before : ClockedView) (old mid new begin middle end : Port) (size n : ℕ) (text piece : List ℕ) (halt : Halt) →
-    TakesFront (Seen first (between begin middle) before) 188 old mid size → ReadsFront (between mid new) piece n →
-    ((s : ClockedState) → IsClocked before s → text ≡ lines_all s (cut_packets (take n piece))) →
-    WritesLine {V = V} text (between middle end) (Err halt) → Breaks first (between old new) (between begin end) halt
-write_stopped V first before old mid new begin middle end size n text piece Read f r is w = absurd w
-write_stopped V first before old mid new begin middle end size n text piece Write f r is w =
-    write_failed first before old mid new begin middle end size n text piece f r is w.0 w.1
-write_stopped V first before old mid new begin middle end size n text piece Memory f r is w = absurd w
+pub write_stopped : (V : Type 0) (json : Bool) (first : ClockedState) (before : ClockedView) (old mid new begin middle end : Port) (size n : ℕ) (text piece : List ℕ) (halt : Halt) →
+    TakesFront (Seen json first (between begin middle) before) 188 old mid size → ReadsFront (between mid new) piece n →
+    ((s : ClockedState) → IsClocked before s → text ≡ lines_all json s (cut_packets (take n piece))) →
+    WritesLine {V = V} text (between middle end) (Err halt) → Breaks json first (between old new) (between begin end) halt
+write_stopped V json first before old mid new begin middle end size n text piece Read f r is w = absurd w
+write_stopped V json first before old mid new begin middle end size n text piece Write f r is w =
+    write_failed json first before old mid new begin middle end size n text piece f r is w.0 w.1
+write_stopped V json first before old mid new begin middle end size n text piece Memory f r is w = absurd w
 
 -- 4. The end of the input
 
@@ -188,11 +203,11 @@ pub if_ok : (HasTaken : List ℕ → Type 0) (input : Device) (r : Result ℕ Ha
 if_ok HasTaken input (Ok size) t = t
 if_ok HasTaken input (Err halt) t = tt
 
-pub if_err : (HasTaken : List ℕ → Type 0) (first : ClockedState) (now : ClockedView) (old mid new : Port) (output : Device) (size n : ℕ) (piece : List ℕ) (before : ClockedView) (middle : Device) (r : Result ℕ Halt) →
-    TakesFront (Seen first middle before) 188 old mid size → ReadsFront (between mid new) piece n →
-    ((bytes : List ℕ) → length bytes % 188 ≡ 0 → Seen first middle before bytes → Seen first output now (bytes ++ take n piece)) →
-    IfErr r (λ halt. (halt ≡ Read) × (longest_input < size + n)) → TakesInput HasTaken (between old new) r → IfErr r (Breaks first (between old new) output)
-if_err HasTaken first now old mid new output size n piece before middle (Ok whole) f r t e takes = tt
-if_err HasTaken first now old mid new output size n piece before middle (Err halt) f r t e takes =
-    subst (Breaks first (between old new) output) (sym e.0)
-    (too_long_then first now old mid new output f.bytes piece n f.known r (t f.bytes f.whole f.taken) (subst (λ (h : Halt). ReadsInput (between old new) (Err h)) e.0 takes))
+pub if_err : (HasTaken : List ℕ → Type 0) (json : Bool) (first : ClockedState) (now : ClockedView) (old mid new : Port) (output : Device) (size n : ℕ) (piece : List ℕ) (before : ClockedView) (middle : Device) (r : Result ℕ Halt) →
+    TakesFront (Seen json first middle before) 188 old mid size → ReadsFront (between mid new) piece n →
+    ((bytes : List ℕ) → length bytes % 188 ≡ 0 → Seen json first middle before bytes → Seen json first output now (bytes ++ take n piece)) →
+    IfErr r (λ halt. (halt ≡ Read) × (longest_input < size + n)) → TakesInput HasTaken (between old new) r → IfErr r (Breaks json first (between old new) output)
+if_err HasTaken json first now old mid new output size n piece before middle (Ok whole) f r t e takes = tt
+if_err HasTaken json first now old mid new output size n piece before middle (Err halt) f r t e takes =
+    subst (Breaks json first (between old new) output) (sym e.0)
+    (too_long_then json first now old mid new output f.bytes piece n f.known r (t f.bytes f.whole f.taken) (subst (λ (h : Halt). ReadsInput (between old new) (Err h)) e.0 takes))

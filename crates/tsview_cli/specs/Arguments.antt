@@ -1,5 +1,5 @@
 -- What the command line asks for.
-use Rattle.std.specs.Prelude.{ℕ, ◌&&◌, not, Bool, if◌then◌else◌, List, [], ◌∷◌, Option, Some, None, codes, map, option_and_then, option_map}
+use Rattle.std.specs.Prelude.{ℕ, Bool, if◌then◌else◌, List, [], ◌∷◌, Option, Some, None, codes, map, option_and_then, option_map}
 use Rattle.std.specs.Borrow.{Bor}
 use Rattle.clap.specs.Words.{Kinds, Row, Text, fault_of, first_of, matches_of}
 use Rattle.devices.specs.Options.{is_given, number_if_given, number_option}
@@ -35,19 +35,15 @@ arrival_of (Some rate) = AtRate rate
 abbrev pub arrival_in : Option Text → Option Arrival
 arrival_in text = option_map arrival_of (number_if_given least_rate greatest_rate text)
 
-abbrev pub options : Arrival → ℕ → Bool → ViewOptions
-options arrival window json = record { arrival = arrival; origin = 0; window = window; json = json }
-
--- the plain lines of a page
-abbrev pub is_json : List Row → Bool
-is_json rows = is_given (first_of (codes "json") rows) && not (is_given (first_of (codes "page") rows))
+abbrev pub options : Arrival → ℕ → ViewOptions
+options arrival window = record { arrival = arrival; origin = 0; window = window }
 
 -- a rate in bits a second, and a window of 10 ms to an hour, of 1 s where none is given
 unfoldable pub options_of : List Row → Option ViewOptions
 options_of rows =
     option_and_then (λ arrival.
     option_and_then (λ window.
-    Some (options arrival window (is_json rows)))
+    Some (options arrival window))
     (number_option least_window greatest_window 1000 (first_of (codes "window") rows)))
     (arrival_in (first_of (codes "rate") rows))
 
@@ -59,15 +55,15 @@ abbrev pub request : ViewOptions → List ℕ → List PidBuffers → RequestVie
 request options programs buffers = record { options = options; choice = record { programs = programs; buffers = buffers } }
 
 -- the lines of its report, or the page of them
-abbrev pub requested : Bool → RequestView → Request
-requested page request = if page then Page request else Lines request
+abbrev pub requested : Bool → Bool → RequestView → Request
+requested page json request = if page then Page request else Lines request json
 
 unfoldable pub request_of : List Row → Option Request
 request_of rows =
     option_and_then (λ options.
     option_and_then (λ programs.
     option_and_then (λ buffers.
-    Some (requested (is_given (first_of (codes "page") rows)) (request options programs buffers)))
+    Some (requested (is_given (first_of (codes "page") rows)) (is_given (first_of (codes "json") rows)) (request options programs buffers)))
     (buffer_list (first_of (codes "buffers") rows)))
     (number_list greatest_program (first_of (codes "program") rows)))
     (options_of rows)

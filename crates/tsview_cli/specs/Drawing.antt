@@ -1,10 +1,10 @@
--- A page of the lines of a stream, written at its end.
+-- A page of what is found in a stream, written at its end.
 use Rattle.std.specs.Prelude.{◌≡◌, ℕ, if◌then◌else◌, List, [], ◌∷◌, Result, Ok, Err, string_bytes}
 use Rattle.ts_packet.specs.PidList.{cut_packets}
 use Rattle.stream_report.specs.Choices.{RequestView}
-use Rattle.stream_report.specs.ClockedViews.{IsClocked, ClockedState, after_all, after_packet, end_lines, is_good, lines_at, start}
+use Rattle.stream_report.specs.ClockedViews.{IsClocked, ClockedState, after_all, after_packet, end_events, events_at, is_good, start}
 use Rattle.view_page.specs.declared.page.Page.{Page}
-use Rattle.view_page.specs.Pages.{IsPage, PageState, after_text, no_lines}
+use Rattle.view_page.specs.Pages.{IsPage, PageState, after_events, no_events}
 use Rattle.view_page.specs.PageText.{page_text}
 use Rattle.devices.specs.Devices.{Device}
 use Rattle.devices.specs.Outcomes.{Outcome, printed}
@@ -22,11 +22,11 @@ pub record IsDrawn (drawing : Drawing) (s : ClockedState) (p : PageState) : Type
   pub page : IsPage drawing.page p
 
 abbrev pub first_page : RequestView → PageState
-first_page request = no_lines request.options.window
+first_page request = no_events request.options.window
 
--- a packet: the page takes the lines that it settles
+-- a packet: the page takes the events that it settles
 abbrev pub page_after : ClockedState → PageState → List ℕ → PageState
-page_after s p bytes = after_text p (lines_at s bytes)
+page_after s p bytes = after_events p (events_at s bytes)
 
 unfoldable pub drawn : ClockedState → PageState → List (List ℕ) → PageState
 drawn s p [] = p
@@ -37,10 +37,10 @@ TakesPackets packets first now = (s : ClockedState) (p : PageState) → IsDrawn 
 
 -- 2. The page of a stream
 
--- a page is that of all lines, those at its end too
+-- a page is that of all events, those at its end too
 pub record IsWritten (drawn : DrawnPage) (s : ClockedState) (p : PageState) (left : ℕ) : Type 0 where
   pub page : Page
-  pub is : IsPage page (after_text p (end_lines s left))
+  pub is : IsPage page (after_events p (end_events s left))
   pub text_is : string_bytes drawn.text ≡ page_text page
   pub good_is : drawn.good ≡ is_good s left
 
@@ -59,8 +59,8 @@ Draws request input (Err halt) = ReadsInput input (Err halt)
 
 -- 3. A run
 
--- a page is written that is drawn of all lines, and the status is 1 where something is wrong
+-- a page is written that is drawn of all events, and the status is 1 where something is wrong
 pub record DrawsPage (request : RequestView) (bytes : List ℕ) (outcome : Outcome) : Type 0 where
   pub page : Page
-  pub is : IsPage page (after_text (page_of request bytes) (end_lines (kept_of request bytes) (left_in bytes)))
+  pub is : IsPage page (after_events (page_of request bytes) (end_events (kept_of request bytes) (left_in bytes)))
   pub outcome_is : outcome ≡ printed (page_text page) (if is_good (kept_of request bytes) (left_in bytes) then 0 else 1)

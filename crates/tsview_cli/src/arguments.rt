@@ -37,23 +37,21 @@ fn options_of(matches: &ArgMatches<'_>) -> Option<ViewOptions>
 {
     let arrival = arrival_in(text_of(matches, "rate"))?;
     let window = number_option(text_of(matches, "window"), 10, 3_600_000, 1_000)?;
-    let page = is_given(text_of(matches, "page"));
     Some(ViewOptions {
         arrival,
         origin: 0,
         window: window as u32,
-        json: is_given(text_of(matches, "json")) && !page,
     })
 }
 
 // Its lines, or a page of them.
-fn requested(page: bool, request: ViewRequest) -> Request
-    ensures { result ≡ spec.requested page request }
+fn requested(page: bool, json: bool, request: ViewRequest) -> Request
+    ensures { result ≡ spec.requested page json request }
 {
     if page {
         Request::Page(request)
     } else {
-        Request::Lines(request)
+        Request::Lines(request, json)
     }
 }
 
@@ -73,7 +71,8 @@ fn request_of(alloc: Global, matches: &ArgMatches<'_>) -> Result<Option<Request>
     };
     let choice = ViewChoice { programs, buffers };
     let page = is_given(text_of(matches, "page"));
-    Ok(Some(requested(page, ViewRequest { options, choice })))
+    let json = is_given(text_of(matches, "json"));
+    Ok(Some(requested(page, json, ViewRequest { options, choice })))
 }
 
 /// What the words ask for; none where they are a usage error.

@@ -1,15 +1,16 @@
-//! A page of the lines of a stream, written at its end.
+//! A page of what is found in a stream, written at its end.
 ghost use Rattle.std.specs.Prelude.{◌≡◌, ◌%◌, if◌then◌else◌, IfErr, IfOk, OnOk};
 ghost use Rattle.devices.specs.Devices.{reads, writes};
 ghost use Rattle.devices.specs.Runs.{Performs};
 ghost use Rattle.ts_packet.specs.PidList.{cut_packets};
 ghost use Rattle.stream_report.specs.Choices.{RequestView};
-ghost use Rattle.stream_report.specs.ClockedViews.{ClockedState, after_packet, end_lines, is_good, start};
-ghost use Rattle.view_page.specs.Pages.{IsPage, PageState, after_text};
+ghost use Rattle.stream_report.specs.ClockedViews.{ClockedState, after_packet, end_events, is_good, start};
+ghost use Rattle.view_page.specs.Pages.{IsPage, PageState, after_events};
 ghost use Rattle.tsview_cli.specs.Drawing.{Draws, DrawsPage, IsDrawn, IsWritten, TakesPackets, first_page, page_after};
 
 use counted_io::{Sink, Source};
 use devices::{Halt, PieceTaker, report_halt, take_input, write_text};
+use events::Event;
 use std::alloc::{AllocError, Global};
 use stream_report::{ClockedView, ViewRequest};
 use view_page::Page;
@@ -17,12 +18,12 @@ use view_page::Page;
 /// The size of a piece in bytes: 349 packets, somewhat more than 64 KiB, so that it is read past the buffer of standard input.
 const PIECE: usize = 349 * 188;
 
-/// A stream that is viewed, the page of the lines that its packets have settled, and room for those of one.
+/// A stream that is viewed, the page of the events that its packets have settled, and room for those of one.
 #[derive(Drop)]
 pub struct Drawing {
     pub view: ClockedView,
     pub page: Page,
-    text: String,
+    events: Vec<Event>,
 }
 
 impl Drawing {
@@ -34,18 +35,18 @@ impl Drawing {
         Drawing {
             view: ClockedView::new(alloc, request),
             page,
-            text: String::new(alloc),
+            events: Vec::new(alloc),
         }
     }
 
-    // The next packet: the page takes the lines that it settles.
+    // The next packet: the page takes the events that it settles.
     fn take(&mut self, packet: &[u8; 188]) -> Result<(), AllocError>
         ensures { (s : ClockedState) (p : PageState) → IsDrawn self.old s p →
             OnOk result (IsDrawn self.new (after_packet s packet.now) (page_after s p packet.now)) }
     {
-        self.text.clear();
-        self.view.take(packet, &mut self.text)?;
-        self.page.take(self.text.as_str())
+        self.events.clear();
+        self.view.take(packet, &mut self.events)?;
+        self.page.take_all(&self.events)
     }
 
     // The next packets.
@@ -70,16 +71,16 @@ impl Drawing {
         }
     }
 
-    // The lines at the end of a stream, `left` bytes after its last whole packet. Whether nothing is wrong in it.
+    // The events at the end of a stream, `left` bytes after its last whole packet. Whether nothing is wrong in it.
     fn end(&mut self, left: usize) -> Result<bool, AllocError>
         ensures page { (s : ClockedState) (p : PageState) → IsDrawn self.old s p →
-            OnOk result (IsPage self.new.page (after_text p (end_lines s left))) }
+            OnOk result (IsPage self.new.page (after_events p (end_events s left))) }
         ensures good { (s : ClockedState) (p : PageState) → IsDrawn self.old s p →
             IfOk result (λ good. good ≡ is_good s left) }
     {
-        self.text.clear();
-        let good = self.view.end(left, &mut self.text)?;
-        self.page.take(self.text.as_str())?;
+        self.events.clear();
+        let good = self.view.end(left, &mut self.events)?;
+        self.page.take_all(&self.events)?;
         Ok(good)
     }
 }

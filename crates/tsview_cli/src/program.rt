@@ -1,6 +1,6 @@
 //! The program over any reader and two writers.
 
-ghost use Rattle.std.specs.Prelude.{◌≡◌, ◌⊎◌, None, Some, if◌then◌else◌, true, false, codes, map};
+ghost use Rattle.std.specs.Prelude.{◌≡◌, ◌⊎◌, Bool, None, Some, if◌then◌else◌, true, false, codes, map};
 ghost use Rattle.devices.specs.Devices.{reads, writes};
 ghost use Rattle.devices.specs.Lines.{Reports};
 ghost use Rattle.devices.specs.Runs.{LacksMemory, Performs};
@@ -67,14 +67,15 @@ fn status_of(good: bool) -> u8
 fn view_stream<R: Source, W: Sink, E: Sink>(
     alloc: Global,
     request: ViewRequest,
+    json: bool,
     input: &mut R,
     output: &mut W,
     faults: &mut E,
 ) -> u8
-    ensures { Views request (reads R.Source input.old input.new) (writes W.Sink output.old output.new)
+    ensures { Views request json (reads R.Source input.old input.new) (writes W.Sink output.old output.new)
         (writes E.Sink faults.old faults.new) result }
 {
-    match view_input(alloc, request, input, output) {
+    match view_input(alloc, request, json, input, output) {
         Ok(good) => status_of(good),
         Err(halt) => report_halt(faults, halt),
     }
@@ -89,10 +90,10 @@ fn run_on_stream<R: Source, W: Sink, E: Sink>(
     faults: &mut E,
 ) -> u8
     // A transport stream, as it comes, to the lines of its report.
-    ensures view { (r : RequestView) → asked words.now ≡ Some (Request.Lines r) →
-        Views r (reads R.Source input.old input.new) (writes W.Sink output.old output.new)
+    ensures view { (r : RequestView) (json : Bool) → asked words.now ≡ Some (Request.Lines r json) →
+        Views r json (reads R.Source input.old input.new) (writes W.Sink output.old output.new)
         (writes E.Sink faults.old faults.new) result }
-    // A transport stream to the page of its lines.
+    // A transport stream to the page of what is found in it.
     ensures page { (r : RequestView) → asked words.now ≡ Some (Request.Page r) →
         Performs (DrawsPage r) (reads R.Source input.old input.new) (writes W.Sink output.old output.new)
         (writes E.Sink faults.old faults.new) result }
@@ -109,7 +110,9 @@ fn run_on_stream<R: Source, W: Sink, E: Sink>(
         (writes E.Sink faults.old faults.new) result }
 {
     match read_arguments(alloc, words) {
-        Ok(Some(Request::Lines(request))) => view_stream(alloc, request, input, output, faults),
+        Ok(Some(Request::Lines(request, json))) => {
+            view_stream(alloc, request, json, input, output, faults)
+        }
         Ok(Some(Request::Page(request))) => draw_stream(alloc, request, input, output, faults),
         Ok(None) => {
             answer_other_words(alloc, "tsview", KnownWords, words, usage(), output, faults)
@@ -118,8 +121,8 @@ fn run_on_stream<R: Source, W: Sink, E: Sink>(
     }
 }
 
-/// The whole program: it reads the input piece by piece, writes the lines that a piece settles before it reads the next, or
-/// draws a page of them and writes that at the end; or draws a page of the plan in a job. It returns the exit status: 0 good, 1
+/// The whole program: it reads the input piece by piece, writes the lines of what a piece settles before it reads the next, or
+/// draws a page of it and writes that at the end; or draws a page of the plan in a job. It returns the exit status: 0 good, 1
 /// something is wrong in the stream or the job, 2 a usage error, 3 a device failed or out of memory.
 pub fn run<R: Source, W: Sink, E: Sink>(
     alloc: Global,
@@ -133,10 +136,11 @@ pub fn run<R: Source, W: Sink, E: Sink>(
         Performs DrawsPlan (reads R.Source input.old input.new)
         (writes W.Sink output.old output.new) (writes E.Sink faults.old faults.new) result }
     // A transport stream, as it comes, to the lines of its report.
-    ensures view { is_plan (map (λ s. s.now) words.now) ≡ false → (r : RequestView) → asked words.now ≡ Some (Request.Lines r) →
-        Views r (reads R.Source input.old input.new) (writes W.Sink output.old output.new)
+    ensures view { is_plan (map (λ s. s.now) words.now) ≡ false → (r : RequestView) (json : Bool) →
+        asked words.now ≡ Some (Request.Lines r json) →
+        Views r json (reads R.Source input.old input.new) (writes W.Sink output.old output.new)
         (writes E.Sink faults.old faults.new) result }
-    // A transport stream to the page of its lines.
+    // A transport stream to the page of what is found in it.
     ensures page { is_plan (map (λ s. s.now) words.now) ≡ false → (r : RequestView) → asked words.now ≡ Some (Request.Page r) →
         Performs (DrawsPage r) (reads R.Source input.old input.new) (writes W.Sink output.old output.new)
         (writes E.Sink faults.old faults.new) result }

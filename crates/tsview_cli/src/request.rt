@@ -2,9 +2,9 @@
 
 use stream_report::ViewRequest;
 
-/// The lines of the report, or the page that is drawn of its plain lines.
+/// The lines of what is found, each a JSON object if so, or the page that is drawn of it.
 #[derive(Drop)]
 pub enum Request {
-    Lines(ViewRequest),
+    Lines(ViewRequest, bool),
     Page(ViewRequest),
 }

@@ -1,34 +1,83 @@
-//! The input, read piece by piece, and the lines that each piece settles.
-ghost use Rattle.std.specs.Prelude.{◌≡◌, ◌%◌, ◌<◌, ◌≤◌, ◌^◌, ◌++◌, [], IfOk, IfErr, OnOk, Ok, length, string_bytes};
+//! The input, read piece by piece, and the lines of the events that each piece settles.
+ghost use Rattle.std.specs.Prelude.{◌≡◌, ◌%◌, ◌<◌, ◌≤◌, ◌++◌, [], IfOk, IfErr, OnOk, Ok, length, take, string_bytes};
 ghost use Rattle.ts_packet.specs.PidList.{cut_packets};
-ghost use Rattle.stream_report.specs.ClockedViews.{ClockedState, IsClocked, after_all, end_lines, is_good, lines_all, start};
+ghost use Rattle.stream_report.specs.ClockedViews.{ClockedState, IsClocked, after_all, is_good, start};
 ghost use Rattle.devices.specs.Devices.{reads, writes};
 ghost use Rattle.devices.specs.Lines.{WritesLine};
-ghost use Rattle.devices.specs.WholeInput.{TakesInput};
+ghost use Rattle.devices.specs.WholeInput.{ReadsFront, TakesInput};
 ghost use Rattle.stream_report.specs.Choices.{RequestView};
-ghost use Rattle.tsview_cli.specs.Viewing.{Breaks, Seen, Sees};
+ghost use Rattle.tsview_cli.specs.Viewing.{Breaks, Seen, Sees, StopsNext, end_lines, lines_all, longest_piece};
 
 use counted_io::{Sink, Source};
 use devices::{Halt, LONGEST_INPUT, new_piece, read_piece, size_within, write_text};
-use std::alloc::Global;
+use events::write_events;
+use std::alloc::{AllocError, Global};
 use stream_report::{ClockedView, ViewRequest};
 
 /// The size of a piece in bytes: 349 packets, somewhat more than 64 KiB, so that it is read past the buffer of standard input.
 const PIECE: usize = 349 * 188;
 
+// Views packets: the lines of the events that they settle are appended to the text.
+fn view_packets(
+    alloc: Global,
+    json: bool,
+    view: &mut ClockedView,
+    packets: &[[u8; 188]],
+    text: &mut String,
+) -> Result<(), AllocError>
+    ensures view { (s : ClockedState) → IsClocked view.old s →
+        OnOk result (IsClocked view.new (after_all s packets.now)) }
+    ensures lines { (s : ClockedState) → IsClocked view.old s → OnOk result (string_bytes text.new
+        ≡ string_bytes text.old ++ lines_all json s packets.now) }
+{
+    let mut events = Vec::new(alloc);
+    view.take_all(packets, &mut events)?;
+    write_events(alloc, text, json, &events)
+}
+
 // Views the next piece: the lines that it settles are appended to the text.
-fn view_piece(view: &mut ClockedView, piece: &[u8], text: &mut String) -> Result<(), Halt>
+fn view_piece(
+    alloc: Global,
+    json: bool,
+    view: &mut ClockedView,
+    piece: &[u8],
+    text: &mut String,
+) -> Result<(), Halt>
     ensures view { (s : ClockedState) → IsClocked view.old s →
         OnOk result (IsClocked view.new (after_all s (cut_packets piece.now))) }
     ensures lines { (s : ClockedState) → IsClocked view.old s → OnOk result (string_bytes text.new
-        ≡ string_bytes text.old ++ lines_all s (cut_packets piece.now)) }
+        ≡ string_bytes text.old ++ lines_all json s (cut_packets piece.now)) }
     ensures memory { IfErr result (λ halt. halt ≡ Halt.Memory) }
 {
     let (packets, _) = piece.as_chunks::<188>();
-    match view.take_all(packets, text) {
+    match view_packets(alloc, json, view, packets, text) {
         Ok(()) => Ok(()),
         Err(_) => Err(Halt::Memory),
     }
+}
+
+// Reads the next piece of the input, and views it: the lines that it settles wait in the text. Returns its size.
+fn view_next<R: Source>(
+    alloc: Global,
+    json: bool,
+    input: &mut R,
+    piece: &mut [u8],
+    view: &mut ClockedView,
+    text: &mut String,
+) -> Result<usize, Halt>
+    requires bound { length piece.old ≤ longest_piece }
+    // No line that is settled waits to be written.
+    requires out { string_bytes text.old ≡ [] }
+    ensures read { IfOk result (λ n. ReadsFront (reads R.Source input.old input.new) piece.new n) }
+    ensures view { (s : ClockedState) → IsClocked view.old s →
+        IfOk result (λ n. IsClocked view.new (after_all s (cut_packets (take n piece.new)))) }
+    ensures lines { (s : ClockedState) → IsClocked view.old s →
+        IfOk result (λ n. string_bytes text.new ≡ lines_all json s (cut_packets (take n piece.new))) }
+    ensures err { IfErr result (StopsNext (reads R.Source input.old input.new)) }
+{
+    let n = read_piece(input, piece)?;
+    view_piece(alloc, json, view, &piece[..n], text)?;
+    Ok(n)
 }
 
 // Writes the text, and forgets it.
@@ -43,6 +92,8 @@ fn write_settled<W: Sink>(text: &mut String, output: &mut W) -> Result<(), Halt>
 
 // Views the input to its end, and returns its size.
 fn view_pieces<R: Source, W: Sink>(
+    alloc: Global,
+    json: bool,
     input: &mut R,
     output: &mut W,
     piece: &mut [u8],
@@ -50,20 +101,19 @@ fn view_pieces<R: Source, W: Sink>(
     text: &mut String,
 ) -> Result<usize, Halt>
     requires some { 0 < length piece.old }
-    requires bound { length piece.old ≤ 2 ^ 32 }
+    requires bound { length piece.old ≤ longest_piece }
     requires whole { length piece.old % 188 ≡ 0 }
     requires text { string_bytes text.old ≡ [] }
     ensures ok { (s : ClockedState) → IsClocked view.old s →
-        IfOk result (λ size. TakesInput (Seen s (writes W.Sink output.old output.new) view.new)
+        IfOk result (λ size. TakesInput (Seen json s (writes W.Sink output.old output.new) view.new)
         (reads R.Source input.old input.new) (Ok size)) }
-    ensures err { (s : ClockedState) → IsClocked view.old s → IfErr result (Breaks s (reads R.Source input.old input.new)
+    ensures err { (s : ClockedState) → IsClocked view.old s → IfErr result (Breaks json s (reads R.Source input.old input.new)
         (writes W.Sink output.old output.new)) }
     ensures text { OnOk result (string_bytes text.new ≡ []) }
 {
     let mut size = 0;
     while size <= LONGEST_INPUT {
-        let n = read_piece(input, piece)?;
-        view_piece(view, &piece[..n], text)?;
+        let n = view_next(alloc, json, input, piece, view, text)?;
         match write_settled(text, output) {
             Ok(()) => {}
             Err(halt) => return Err(halt),
@@ -77,13 +127,37 @@ fn view_pieces<R: Source, W: Sink>(
 }
 
 // Appends the lines at the end of a stream. Whether nothing is wrong in it.
-fn end_view(view: &mut ClockedView, left: usize, text: &mut String) -> Result<bool, Halt>
+fn write_end(
+    alloc: Global,
+    json: bool,
+    view: &mut ClockedView,
+    left: usize,
+    text: &mut String,
+) -> Result<bool, AllocError>
     ensures lines { (s : ClockedState) → IsClocked view.old s →
-        OnOk result (string_bytes text.new ≡ string_bytes text.old ++ end_lines s left) }
+        OnOk result (string_bytes text.new ≡ string_bytes text.old ++ end_lines json s left) }
+    ensures good { (s : ClockedState) → IsClocked view.old s → IfOk result (λ good. good ≡ is_good s left) }
+{
+    let mut events = Vec::new(alloc);
+    let good = view.end(left, &mut events)?;
+    write_events(alloc, text, json, &events)?;
+    Ok(good)
+}
+
+// The same, if there is memory for it.
+fn end_view(
+    alloc: Global,
+    json: bool,
+    view: &mut ClockedView,
+    left: usize,
+    text: &mut String,
+) -> Result<bool, Halt>
+    ensures lines { (s : ClockedState) → IsClocked view.old s →
+        OnOk result (string_bytes text.new ≡ string_bytes text.old ++ end_lines json s left) }
     ensures good { (s : ClockedState) → IsClocked view.old s → IfOk result (λ good. good ≡ is_good s left) }
     ensures memory { IfErr result (λ halt. halt ≡ Halt.Memory) }
 {
-    match view.end(left, text) {
+    match write_end(alloc, json, view, left, text) {
         Ok(good) => Ok(good),
         Err(_) => Err(Halt::Memory),
     }
@@ -91,6 +165,8 @@ fn end_view(view: &mut ClockedView, left: usize, text: &mut String) -> Result<bo
 
 // Views the input to its end, and writes its last lines.
 fn view_whole<R: Source, W: Sink>(
+    alloc: Global,
+    json: bool,
     input: &mut R,
     output: &mut W,
     piece: &mut [u8],
@@ -98,17 +174,17 @@ fn view_whole<R: Source, W: Sink>(
     text: &mut String,
 ) -> Result<bool, Halt>
     requires some { 0 < length piece.old }
-    requires bound { length piece.old ≤ 2 ^ 32 }
+    requires bound { length piece.old ≤ longest_piece }
     requires whole { length piece.old % 188 ≡ 0 }
     requires text { string_bytes text.old ≡ [] }
     ensures { (r : RequestView) → IsClocked view.old (start r) →
-        Sees r (reads R.Source input.old input.new) (writes W.Sink output.old output.new) result }
+        Sees r json (reads R.Source input.old input.new) (writes W.Sink output.old output.new) result }
 {
-    let size = match view_pieces(input, output, piece, view, text) {
+    let size = match view_pieces(alloc, json, input, output, piece, view, text) {
         Ok(size) => size,
         Err(halt) => return Err(halt),
     };
-    let good = match end_view(view, size % 188, text) {
+    let good = match end_view(alloc, json, view, size % 188, text) {
         Ok(good) => good,
         Err(halt) => return Err(halt),
     };
@@ -122,10 +198,11 @@ fn view_whole<R: Source, W: Sink>(
 pub(crate) fn view_input<R: Source, W: Sink>(
     alloc: Global,
     request: ViewRequest,
+    json: bool,
     input: &mut R,
     output: &mut W,
 ) -> Result<bool, Halt>
-    ensures { Sees request (reads R.Source input.old input.new) (writes W.Sink output.old output.new) result }
+    ensures { Sees request json (reads R.Source input.old input.new) (writes W.Sink output.old output.new) result }
 {
     let mut piece = match new_piece(alloc, PIECE) {
         Ok(piece) => piece,
@@ -133,7 +210,7 @@ pub(crate) fn view_input<R: Source, W: Sink>(
     };
     let mut view = ClockedView::new(alloc, request);
     let mut text = String::new(alloc);
-    let result = view_whole(input, output, &mut piece, &mut view, &mut text);
+    let result = view_whole(alloc, json, input, output, &mut piece, &mut view, &mut text);
     // By a call: at the end of a function the drop of each part would be a step of its proof.
     drop(view);
     result

@@ -1,18 +1,13 @@
--- The cells of a row, each made of the fields of a line.
-use Rattle.std.specs.Prelude.{ℕ, ◌*◌, ◌/◌, ◌^◌, ◌==◌, min, max, nat_lt, Bool, false, if◌then◌else◌, List, ◌++◌, codes, decimal, flat_map, Option, Some, None}
+-- The cells of a row.
+use Rattle.std.specs.Prelude.{ℕ, ◌-◌, ◌*◌, ◌/◌, ◌^◌, ◌==◌, min, max, nat_lt, Bool, false, if◌then◌else◌, List, ◌++◌, codes, decimal, flat_map, Option, Some, None}
 use Rattle.page_charts.specs.Numbers.{tenths}
 use Rattle.page_charts.specs.PidLabels.{LabelsState, label_text}
-use Rattle.view_page.specs.declared.cells.Limit.{Limit}
-use Rattle.view_page.specs.declared.cells.Limit.TheVariants.{Field, FieldIfAny, Fixed}
 use Rattle.view_page.specs.declared.cells.CellUnit.{CellUnit}
 use Rattle.view_page.specs.declared.cells.CellUnit.TheVariants.{Same, Ticks}
 use Rattle.view_page.specs.declared.cells.CellWord.{CellWord}
 use Rattle.view_page.specs.declared.cells.CellWord.TheVariants.{Transport, Main, TransportExcess, MainExcess, SystemExcess, SystemMainExcess, LateUnit, FarAhead, PcrRepetition, PcrDiscontinuity, PcrAccuracy, TableRepetition, Unclocked, Bytes, Packets, Millis, Nanos, Unreferenced, Missing, Nothing}
 use Rattle.view_page.specs.declared.cells.Cell.{Cell}
-use Rattle.view_page.specs.declared.cells.Cell.TheVariants.{Number, Checked, Bar, Word, Carried}
-use Rattle.view_page.specs.declared.cells.Cell.TheVariants as cells
-use Rattle.view_page.specs.declared.fields.FieldName.TheVariants as fields
-use Rattle.view_page.specs.Fields.{number_in, short_in}
+use Rattle.view_page.specs.declared.cells.Cell.TheVariants.{Number, Checked, Bar, Word, Carried, Program}
 
 unfoldable pub word_text : CellWord → List ℕ
 word_text Transport = codes "transport"
@@ -36,14 +31,13 @@ word_text Unreferenced = codes "has packets, and the first tables do not name it
 word_text Missing = codes "has no packet, and the first tables name it"
 word_text Nothing = codes ""
 
+-- numbers stop at 2^64 - 1
+abbrev pub short : ℕ → ℕ
+short n = min n (2 ^ 64 - 1)
+
+-- a limit of 0 is none
 abbrev pub limit_if : ℕ → Option ℕ
 limit_if n = if n == 0 then None else Some n
-
--- the limit of a line, if it has one
-unfoldable pub limit_in : Limit → List (List ℕ) → Option ℕ
-limit_in (Field name) words = Some (number_in name words)
-limit_in (FieldIfAny name) words = limit_if (number_in name words)
-limit_in (Fixed limit) words = Some limit
 
 unfoldable pub is_over : ℕ → Option ℕ → Bool
 is_over value None = false
@@ -87,14 +81,13 @@ program_cell number = codes "<td>program " ++ decimal number
 unfoldable pub carried_cell : LabelsState → ℕ → List ℕ
 carried_cell labels pid = codes "<td class=\"word\">" ++ label_text labels pid
 
--- a cell of a line of these words
-unfoldable pub cell : LabelsState → List (List ℕ) → Cell → List ℕ
-cell labels words (Number name unit) = checked (number_in name words) None unit
-cell labels words (Checked name limit unit) = checked (number_in name words) (limit_in limit words) unit
-cell labels words (Bar name limit) = bar (number_in name words) (limit_in limit words)
-cell labels words (Word word) = word_cell (word_text word)
-cell labels words (Carried name) = carried_cell labels (short_in name words)
-cell labels words cells.Program = program_cell (number_in fields.Program words)
+unfoldable pub cell : LabelsState → Cell → List ℕ
+cell labels (Number number unit) = checked number None unit
+cell labels (Checked number limit unit) = checked number limit unit
+cell labels (Bar number limit) = bar number limit
+cell labels (Word word) = word_cell (word_text word)
+cell labels (Carried pid) = carried_cell labels pid
+cell labels (Program number) = program_cell number
 
-abbrev pub row : LabelsState → List (List ℕ) → List Cell → List ℕ
-row labels words cells = codes "<tr>" ++ (flat_map (cell labels words) cells ++ codes "\n")
+abbrev pub row : LabelsState → List Cell → List ℕ
+row labels cells = codes "<tr>" ++ (flat_map (cell labels) cells ++ codes "\n")

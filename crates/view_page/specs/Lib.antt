@@ -1,8 +1,7 @@
-pub mod ReportLines
-pub mod Fields
-pub mod ServiceNames
+pub mod HtmlTexts
 pub mod PageLabels
 pub mod Cells
+pub mod RowCells
 pub mod RowTexts
 pub mod Rows
 pub mod Values

@@ -7,7 +7,7 @@ use Rattle.page_charts.specs.Charts.{chart}
 use Rattle.page_charts.specs.Frames.{frame}
 use Rattle.page_charts.specs.PidCurves.{greatest_value}
 use Rattle.view_page.specs.declared.page.Page.{Page}
-use Rattle.view_page.specs.declared.page.ReportEnd.{ReportEnd}
+use Rattle.events.specs.declared.event.ReportEnd.{ReportEnd}
 use Rattle.view_page.specs.declared.page_text.TheConstants.{APART, BACK, BUFFERS, CLOCKS, FAULTS, FRONT, MAINS, PIDS, RATES, SLACKS, STREAMS, SYSTEMS, TABLES, TRANSPORTS}
 use Rattle.page_charts.specs.PidLabels.{LabelsState}
 use Rattle.view_page.specs.Cells.{carried_cell}

@@ -1,77 +1,80 @@
--- The rows that a line of a report adds.
+-- The rows that an event adds.
 use Rattle.std.specs.Prelude.{ℕ, ◌+◌, ◌-◌, ◌^◌, min, nat_lt, if◌then◌else◌, List, [], ◌∷◌, ◌++◌, flat_map}
+use Rattle.events.specs.declared.event.Event.{Event}
+use Rattle.events.specs.declared.event.Event.TheVariants.{Stream, Window, Held, Units, Excess, MainExcess, SystemExcess, SystemMainExcess, Late, Ahead, PcrRepetition, PcrDiscontinuity, PcrAccuracy, TableRepetition, Unclocked, Transport, Main, System, Clock, Table, Pid, Unreferenced, Missing, End}
+use Rattle.events.specs.declared.event.StreamBegin.{StreamBegin}
 use Rattle.view_page.specs.declared.cells.Cell.{Cell}
-use Rattle.view_page.specs.declared.report_lines.LineKind.{LineKind}
-use Rattle.view_page.specs.declared.report_lines.LineKind.TheVariants.{Stream, Window, Held, Units, Excess, MainExcess, SystemExcess, SystemMainExcess, Late, Ahead, PcrRepetition, PcrDiscontinuity, PcrAccuracy, TableRepetition, Unclocked, Transport, Main, System, Clock, Table, Pid, Unreferenced, Missing, End, Other}
-use Rattle.view_page.specs.declared.rows.TheConstants.{AHEAD, CLOCK, EXCESS, LATE, MAIN, MAIN_EXCESS, MISSING, MOST_FAULTS, PCR_ACCURACY, PCR_DISCONTINUITY, PCR_REPETITION, PID, STREAM, SYSTEM, SYSTEM_EXCESS, SYSTEM_MAIN_EXCESS, TABLE, TABLE_REPETITION, TRANSPORT, UNCLOCKED, UNREFERENCED}
+use Rattle.view_page.specs.declared.cells.CellWord.TheVariants as words
+use Rattle.view_page.specs.declared.rows.TheConstants.{MOST_FAULTS}
 use Rattle.view_page.specs.Cells.{cell, row}
+use Rattle.view_page.specs.RowCells.{ahead_cells, clock_cells, clock_place_cells, clock_time_cells, excess_cells, late_cells, main_cells, pid_cells, program_excess_cells, reference_cells, stream_cells, system_cells, table_cells, table_fault_cells, transport_cells, unclocked_cells}
 use Rattle.page_charts.specs.PidLabels.{LabelsState}
-use Rattle.view_page.specs.Fields.{pid_in}
 use Rattle.view_page.specs.RowTexts.{RowTexts}
 
 abbrev pub no_rows : RowTexts
 no_rows = record { streams = []; buffers = []; systems = []; clocks = []; tables = []; pids = []; apart = []; faults = []; count = 0 }
 
 -- a fault has a row if fewer than 100 have come before it; their number stops at 2^64 - 1
-abbrev pub with_fault : LabelsState → RowTexts → List (List ℕ) → List Cell → RowTexts
-with_fault labels r words cells = record r {
-  faults = if nat_lt r.count MOST_FAULTS then r.faults ++ row labels words cells else r.faults;
+abbrev pub with_fault : LabelsState → RowTexts → List Cell → RowTexts
+with_fault labels r cells = record r {
+  faults = if nat_lt r.count MOST_FAULTS then r.faults ++ row labels cells else r.faults;
   count = min (r.count + 1) (2 ^ 64 - 1);
 }
 
-unfoldable pub with_fault_line : LabelsState → RowTexts → LineKind → List (List ℕ) → RowTexts
-with_fault_line labels r Excess words = with_fault labels r words EXCESS
-with_fault_line labels r MainExcess words = with_fault labels r words MAIN_EXCESS
-with_fault_line labels r SystemExcess words = with_fault labels r words SYSTEM_EXCESS
-with_fault_line labels r SystemMainExcess words = with_fault labels r words SYSTEM_MAIN_EXCESS
-with_fault_line labels r Late words = with_fault labels r words LATE
-with_fault_line labels r Ahead words = with_fault labels r words AHEAD
-with_fault_line labels r PcrRepetition words = with_fault labels r words PCR_REPETITION
-with_fault_line labels r PcrDiscontinuity words = with_fault labels r words PCR_DISCONTINUITY
-with_fault_line labels r PcrAccuracy words = with_fault labels r words PCR_ACCURACY
-with_fault_line labels r TableRepetition words = with_fault labels r words TABLE_REPETITION
-with_fault_line labels r Unclocked words = with_fault labels r words UNCLOCKED
-with_fault_line labels r Stream words = r
-with_fault_line labels r Window words = r
-with_fault_line labels r Held words = r
-with_fault_line labels r Units words = r
-with_fault_line labels r Transport words = r
-with_fault_line labels r Main words = r
-with_fault_line labels r System words = r
-with_fault_line labels r Clock words = r
-with_fault_line labels r Table words = r
-with_fault_line labels r Pid words = r
-with_fault_line labels r Unreferenced words = r
-with_fault_line labels r Missing words = r
-with_fault_line labels r End words = r
-with_fault_line labels r Other words = r
+unfoldable pub with_fault_event : LabelsState → RowTexts → Event → RowTexts
+with_fault_event labels r (Stream e) = r
+with_fault_event labels r (Window e) = r
+with_fault_event labels r (Held e) = r
+with_fault_event labels r (Units e) = r
+with_fault_event labels r (Excess e) = with_fault labels r (excess_cells words.TransportExcess e)
+with_fault_event labels r (MainExcess e) = with_fault labels r (excess_cells words.MainExcess e)
+with_fault_event labels r (SystemExcess e) = with_fault labels r (program_excess_cells words.SystemExcess e)
+with_fault_event labels r (SystemMainExcess e) = with_fault labels r (program_excess_cells words.SystemMainExcess e)
+with_fault_event labels r (Late e) = with_fault labels r (late_cells e)
+with_fault_event labels r (Ahead e) = with_fault labels r (ahead_cells e)
+with_fault_event labels r (PcrRepetition e) = with_fault labels r (clock_time_cells words.PcrRepetition e)
+with_fault_event labels r (PcrDiscontinuity e) = with_fault labels r (clock_time_cells words.PcrDiscontinuity e)
+with_fault_event labels r (PcrAccuracy e) = with_fault labels r (clock_place_cells e)
+with_fault_event labels r (TableRepetition e) = with_fault labels r (table_fault_cells e)
+with_fault_event labels r (Unclocked e) = with_fault labels r (unclocked_cells e)
+with_fault_event labels r (Transport e) = r
+with_fault_event labels r (Main e) = r
+with_fault_event labels r (System e) = r
+with_fault_event labels r (Clock e) = r
+with_fault_event labels r (Table e) = r
+with_fault_event labels r (Pid e) = r
+with_fault_event labels r (Unreferenced e) = r
+with_fault_event labels r (Missing e) = r
+with_fault_event labels r (End e) = r
 
-abbrev pub with_stream : LabelsState → RowTexts → List (List ℕ) → RowTexts
-with_stream labels r words = record r { streams = r.streams ++ record { pid = pid_in words; cells = flat_map (cell labels words) STREAM } ∷ [] }
+abbrev pub with_stream : LabelsState → RowTexts → StreamBegin → RowTexts
+with_stream labels r e = record r { streams = r.streams ++ record { pid = e.pid; cells = flat_map (cell labels) (stream_cells e) } ∷ [] }
 
-unfoldable pub with_line : LabelsState → RowTexts → LineKind → List (List ℕ) → RowTexts
-with_line labels r Stream words = with_stream labels r words
-with_line labels r Transport words = record r { buffers = r.buffers ++ row labels words TRANSPORT }
-with_line labels r Main words = record r { buffers = r.buffers ++ row labels words MAIN }
-with_line labels r System words = record r { systems = r.systems ++ row labels words SYSTEM }
-with_line labels r Clock words = record r { clocks = r.clocks ++ row labels words CLOCK }
-with_line labels r Table words = record r { tables = r.tables ++ row labels words TABLE }
-with_line labels r Pid words = record r { pids = r.pids ++ row labels words PID }
-with_line labels r Unreferenced words = record r { apart = r.apart ++ row labels words UNREFERENCED }
-with_line labels r Missing words = record r { apart = r.apart ++ row labels words MISSING }
-with_line labels r Window words = with_fault_line labels r Window words
-with_line labels r Held words = with_fault_line labels r Held words
-with_line labels r Units words = with_fault_line labels r Units words
-with_line labels r Excess words = with_fault_line labels r Excess words
-with_line labels r MainExcess words = with_fault_line labels r MainExcess words
-with_line labels r SystemExcess words = with_fault_line labels r SystemExcess words
-with_line labels r SystemMainExcess words = with_fault_line labels r SystemMainExcess words
-with_line labels r Late words = with_fault_line labels r Late words
-with_line labels r Ahead words = with_fault_line labels r Ahead words
-with_line labels r PcrRepetition words = with_fault_line labels r PcrRepetition words
-with_line labels r PcrDiscontinuity words = with_fault_line labels r PcrDiscontinuity words
-with_line labels r PcrAccuracy words = with_fault_line labels r PcrAccuracy words
-with_line labels r TableRepetition words = with_fault_line labels r TableRepetition words
-with_line labels r Unclocked words = with_fault_line labels r Unclocked words
-with_line labels r End words = with_fault_line labels r End words
-with_line labels r Other words = with_fault_line labels r Other words
+abbrev pub with_buffer : LabelsState → RowTexts → List Cell → RowTexts
+with_buffer labels r cells = record r { buffers = r.buffers ++ row labels cells }
+
+unfoldable pub with_event : LabelsState → RowTexts → Event → RowTexts
+with_event labels r (Stream e) = with_stream labels r e
+with_event labels r (Window e) = with_fault_event labels r (Window e)
+with_event labels r (Held e) = with_fault_event labels r (Held e)
+with_event labels r (Units e) = with_fault_event labels r (Units e)
+with_event labels r (Excess e) = with_fault_event labels r (Excess e)
+with_event labels r (MainExcess e) = with_fault_event labels r (MainExcess e)
+with_event labels r (SystemExcess e) = with_fault_event labels r (SystemExcess e)
+with_event labels r (SystemMainExcess e) = with_fault_event labels r (SystemMainExcess e)
+with_event labels r (Late e) = with_fault_event labels r (Late e)
+with_event labels r (Ahead e) = with_fault_event labels r (Ahead e)
+with_event labels r (PcrRepetition e) = with_fault_event labels r (PcrRepetition e)
+with_event labels r (PcrDiscontinuity e) = with_fault_event labels r (PcrDiscontinuity e)
+with_event labels r (PcrAccuracy e) = with_fault_event labels r (PcrAccuracy e)
+with_event labels r (TableRepetition e) = with_fault_event labels r (TableRepetition e)
+with_event labels r (Unclocked e) = with_fault_event labels r (Unclocked e)
+with_event labels r (Transport e) = with_buffer labels r (transport_cells e)
+with_event labels r (Main e) = with_buffer labels r (main_cells e)
+with_event labels r (System e) = record r { systems = r.systems ++ row labels (system_cells e) }
+with_event labels r (Clock e) = record r { clocks = r.clocks ++ row labels (clock_cells e) }
+with_event labels r (Table e) = record r { tables = r.tables ++ row labels (table_cells e) }
+with_event labels r (Pid e) = record r { pids = r.pids ++ row labels (pid_cells e) }
+with_event labels r (Unreferenced e) = record r { apart = r.apart ++ row labels (reference_cells words.Unreferenced e) }
+with_event labels r (Missing e) = record r { apart = r.apart ++ row labels (reference_cells words.Missing e) }
+with_event labels r (End e) = with_fault_event labels r (End e)

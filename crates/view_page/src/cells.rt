@@ -1,21 +1,12 @@
-//! The cells of a row, each made of the fields of a line.
-ghost use Rattle.std.specs.Prelude.{◌≡◌, ◌++◌, OnOk, flat_map, map, string_bytes};
+//! The cells of a row.
+ghost use Rattle.std.specs.Prelude.{◌≡◌, ◌++◌, OnOk, flat_map, string_bytes};
 ghost use Rattle.view_page.specs.Cells as spec;
 
-use crate::fields::{FieldName, number_in, short_in};
 use page_charts::{PidLabels, write_label, write_tenths};
 use std::alloc::AllocError;
 use std::fmt::Write;
 
-/// What a number is not to exceed: a field, a field that says nothing where it is 0, or this.
-#[derive(Clone, Copy)]
-pub enum Limit {
-    Field(FieldName),
-    FieldIfAny(FieldName),
-    Fixed(u64),
-}
-
-/// The unit of a number in a line, and in its cell: the same, or ticks of 27 MHz as ms.
+/// The unit of a number, and in its cell: the same, or ticks of 27 MHz as ms.
 #[derive(Clone, Copy)]
 pub enum CellUnit {
     Same,
@@ -47,16 +38,33 @@ pub enum CellWord {
     Nothing,
 }
 
-/// A cell: a number, one that is marked where it exceeds its limit, a bar of it beside its limit, a word, what the PID of a field
-/// carries, or a program.
+/// A cell: a number, one that is marked if it exceeds its limit, a bar of it beside its limit, a word, what a PID carries, or a
+/// program.
 #[derive(Clone, Copy)]
 pub enum Cell {
-    Number(FieldName, CellUnit),
-    Checked(FieldName, Limit, CellUnit),
-    Bar(FieldName, Limit),
+    Number(u64, CellUnit),
+    Checked(u64, Option<u64>, CellUnit),
+    Bar(u64, Option<u64>),
     Word(CellWord),
-    Carried(FieldName),
-    Program,
+    Carried(u16),
+    Program(u16),
+}
+
+/// A number that stops at 2^64 - 1.
+pub(crate) fn short(number: u128) -> u64
+    ensures { result ≡ spec.short number }
+{
+    number.min(u128::from(u64::MAX)) as u64
+}
+
+/// A limit, if there is one: 0 is none.
+pub(crate) fn limit_if(limit: u64) -> Option<u64>
+    ensures { result ≡ spec.limit_if limit }
+{
+    match limit {
+        0 => None,
+        limit => Some(limit),
+    }
 }
 
 #[tactic(auto, unfolding(crate::specs::Cells::word_text))]
@@ -84,21 +92,6 @@ fn word_text(word: CellWord) -> &'static str
         CellWord::Unreferenced => "has packets, and the first tables do not name it",
         CellWord::Missing => "has no packet, and the first tables name it",
         CellWord::Nothing => "",
-    }
-}
-
-// The limit of a line, if it has one.
-#[tactic(auto, unfolding(crate::specs::Cells::limit_in))]
-fn limit_in(limit: Limit, words: &[&str]) -> Option<u64>
-    ensures { result ≡ spec.limit_in limit (map (λ s. s.now) words.now) }
-{
-    match limit {
-        Limit::Field(name) => Some(number_in(name, words)),
-        Limit::FieldIfAny(name) => match number_in(name, words) {
-            0 => None,
-            limit => Some(limit),
-        },
-        Limit::Fixed(limit) => Some(limit),
     }
 }
 
@@ -185,7 +178,7 @@ fn write_word(text: &mut String, word: &str) -> Result<(), AllocError>
     write!(text, "<td class=\"word\">{word}")
 }
 
-fn write_program(text: &mut String, number: u64) -> Result<(), AllocError>
+fn write_program(text: &mut String, number: u16) -> Result<(), AllocError>
     ensures { OnOk result (string_bytes text.new ≡ string_bytes text.old ++ spec.program_cell number) }
 {
     write!(text, "<td>program {number}")
@@ -203,56 +196,44 @@ pub(crate) fn write_carried(
     write_label(text, labels, pid)
 }
 
-// A cell of a line of these words.
 #[tactic(auto, unfolding(crate::specs::Cells::cell))]
-fn write_cell(
-    text: &mut String,
-    labels: &PidLabels,
-    words: &[&str],
-    cell: Cell,
-) -> Result<(), AllocError>
-    ensures { OnOk result (string_bytes text.new
-        ≡ string_bytes text.old ++ spec.cell labels.now (map (λ s. s.now) words.now) cell) }
+fn write_cell(text: &mut String, labels: &PidLabels, cell: Cell) -> Result<(), AllocError>
+    ensures { OnOk result (string_bytes text.new ≡ string_bytes text.old ++ spec.cell labels.now cell) }
 {
     match cell {
-        Cell::Number(name, unit) => write_checked(text, number_in(name, words), None, unit),
-        Cell::Checked(name, limit, unit) => {
-            write_checked(text, number_in(name, words), limit_in(limit, words), unit)
-        }
-        Cell::Bar(name, limit) => write_bar(text, number_in(name, words), limit_in(limit, words)),
+        Cell::Number(number, unit) => write_checked(text, number, None, unit),
+        Cell::Checked(number, limit, unit) => write_checked(text, number, limit, unit),
+        Cell::Bar(number, limit) => write_bar(text, number, limit),
         Cell::Word(word) => write_word(text, word_text(word)),
-        Cell::Carried(name) => write_carried(text, labels, short_in(name, words)),
-        Cell::Program => write_program(text, number_in(FieldName::Program, words)),
+        Cell::Carried(pid) => write_carried(text, labels, pid),
+        Cell::Program(number) => write_program(text, number),
     }
 }
 
-/// Appends cells of a line of these words.
+/// Appends cells.
 pub(crate) fn write_cells(
     text: &mut String,
     labels: &PidLabels,
-    words: &[&str],
     cells: &[Cell],
 ) -> Result<(), AllocError>
     ensures { OnOk result (string_bytes text.new
-        ≡ string_bytes text.old ++ flat_map (spec.cell labels.now (map (λ s. s.now) words.now)) cells.now) }
+        ≡ string_bytes text.old ++ flat_map (spec.cell labels.now) cells.now) }
 {
     for cell in cells {
-        write_cell(text, labels, words, *cell)?;
+        write_cell(text, labels, *cell)?;
     }
     Ok(())
 }
 
-/// Appends the row of a line of these words.
+/// Appends a row of these cells.
 pub(crate) fn write_row(
     text: &mut String,
     labels: &PidLabels,
-    words: &[&str],
     cells: &[Cell],
 ) -> Result<(), AllocError>
-    ensures { OnOk result (string_bytes text.new
-        ≡ string_bytes text.old ++ spec.row labels.now (map (λ s. s.now) words.now) cells.now) }
+    ensures { OnOk result (string_bytes text.new ≡ string_bytes text.old ++ spec.row labels.now cells.now) }
 {
     text.push_str("<tr>")?;
-    write_cells(text, labels, words, cells)?;
+    write_cells(text, labels, cells)?;
     text.push_str("\n")
 }

@@ -1,28 +1,19 @@
-//! A page, drawn of a report's lines while they come.
-ghost use Rattle.std.specs.Prelude.{◌≡◌, ◌++◌, List, OnOk, map, string_bytes};
-ghost use Rattle.view_page.specs.Pages.{IsPage, PageState, after_line, after_lines, after_text, after_words, no_lines, with_end};
+//! A page, drawn of the events of a stream while they come.
+ghost use Rattle.std.specs.Prelude.{◌≡◌, ◌++◌, OnOk, string_bytes};
+ghost use Rattle.view_page.specs.Pages.{IsPage, PageState, after_event, after_events, no_events, with_end};
 ghost use Rattle.view_page.specs.PageText.{page_text};
 
-use crate::fields::{FieldName, number_in};
 use crate::page_labels::take_label;
 use crate::page_text::write_page;
-use crate::report_lines::{LineKind, kind_in, lines_of, words_of};
 use crate::rows::Rows;
 use crate::values::Values;
+use events::{Event, ReportEnd};
 use page_charts::PidLabels;
 use std::alloc::{AllocError, Global};
 
-/// What the last line of a report says: packets, those refused, and the bytes left after the last whole one.
-#[derive(Clone, Copy)]
-pub struct ReportEnd {
-    pub packets: u64,
-    pub refused: u64,
-    pub left: u64,
-}
-
-/// A page of a report whose windows have so many milliseconds, as far as its lines have come.
+/// A page of a stream whose windows have `millis` milliseconds, as far as its events have come.
 ///
-/// After an `AllocError` it is that of no report: drop it.
+/// After an `AllocError` it is that of no stream: drop it.
 #[derive(Drop)]
 pub struct Page {
     alloc: Global,
@@ -34,9 +25,9 @@ pub struct Page {
 }
 
 impl Page {
-    /// No line has come.
+    /// No event has come.
     pub fn new(alloc: Global, millis: u32) -> Page
-        ensures { IsPage result (no_lines millis) }
+        ensures { IsPage result (no_events millis) }
     {
         Page {
             alloc,
@@ -52,62 +43,35 @@ impl Page {
         }
     }
 
-    // The last line, if it is that.
+    // The end of the stream, if an event is that.
     #[tactic(auto, unfolding(crate::specs::Pages::end_after))]
-    fn take_end(&mut self, kind: LineKind, words: &[&str])
-        ensures { (s : PageState) → IsPage self.old s →
-            IsPage self.new (with_end s kind (map (λ s. s.now) words.now)) }
+    fn take_end(&mut self, event: &Event)
+        ensures { (s : PageState) → IsPage self.old s → IsPage self.new (with_end s event.now) }
     {
-        if let LineKind::End = kind {
-            self.end = ReportEnd {
-                packets: number_in(FieldName::Packets, words),
-                refused: number_in(FieldName::Refused, words),
-                left: number_in(FieldName::Left, words),
-            };
+        if let Event::End(end) = event {
+            self.end = *end;
         }
     }
 
-    // A line and its words.
-    fn take_words(&mut self, line: &str, words: &[&str]) -> Result<(), AllocError>
-        ensures { (s : PageState) → IsPage self.old s →
-            OnOk result (IsPage self.new (after_words s line.now (map (λ s. s.now) words.now))) }
+    /// An event.
+    pub fn take(&mut self, event: &Event) -> Result<(), AllocError>
+        ensures { (s : PageState) → IsPage self.old s → OnOk result (IsPage self.new (after_event s event.now)) }
     {
-        let kind = kind_in(words);
-        self.rows.take(&self.labels, kind, words)?;
-        self.values.take(kind, words)?;
-        take_label(self.alloc, &mut self.labels, kind, line, words)?;
-        self.take_end(kind, words);
+        self.rows.take(&self.labels, event)?;
+        self.values.take(event)?;
+        take_label(self.alloc, &mut self.labels, event)?;
+        self.take_end(event);
         Ok(())
     }
 
-    // A line.
-    fn take_line(&mut self, line: &str) -> Result<(), AllocError>
-        ensures { (s : PageState) → IsPage self.old s → OnOk result (IsPage self.new (after_line s line.now)) }
+    /// Events.
+    pub fn take_all(&mut self, events: &[Event]) -> Result<(), AllocError>
+        ensures { (s : PageState) → IsPage self.old s → OnOk result (IsPage self.new (after_events s events.now)) }
     {
-        let words = words_of(self.alloc, line)?;
-        self.take_words(line, &words)
-    }
-
-    // Lines.
-    fn take_lines(&mut self, lines: &[&str]) -> Result<(), AllocError>
-        ensures { (s : PageState) → IsPage self.old s →
-            OnOk result (IsPage self.new (after_lines s (map (λ s. s.now) lines.now))) }
-    {
-        for line in lines {
-            self.take_line(line)?;
+        for event in events {
+            self.take(event)?;
         }
         Ok(())
-    }
-
-    /// A text of whole lines.
-    pub fn take(&mut self, text: &str) -> Result<(), AllocError>
-        ensures { (s : PageState) → IsPage self.old s → OnOk result (IsPage self.new (after_text s text.now)) }
-    {
-        if text.is_empty() {
-            return Ok(());
-        }
-        let lines = lines_of(self.alloc, text)?;
-        self.take_lines(&lines)
     }
 
     /// Appends the page.

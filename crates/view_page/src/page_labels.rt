@@ -1,78 +1,72 @@
-//! What PIDs carry, as the lines of windows come.
-ghost use Rattle.std.specs.Prelude.{◌≡◌, OnOk, map, option_map, string_bytes};
+//! What PIDs carry, as what comes of them in windows says.
+ghost use Rattle.std.specs.Prelude.{◌≡◌, OnOk, option_map, string_bytes};
 ghost use Rattle.view_page.specs.PageLabels as spec;
 
-use crate::fields::{FieldName, coding_in, pid_in, short_in};
-use crate::report_lines::LineKind;
-use crate::service_name::service_in;
+use crate::html_text::html_text;
+use events::{Event, WindowFigures};
 use page_charts::{PidLabels, PidProgram};
 use std::alloc::{AllocError, Global};
 
-// The program of a line, 0 where it has none.
-fn program_in(words: &[&str]) -> u16
-    ensures { result ≡ spec.program_in (map (λ s. s.now) words.now) }
-{
-    short_in(FieldName::Program, words)
-}
-
-// The name of a program's service, if the line has it.
+// The name of a program's service, if it is known.
 #[tactic(auto, unfolding(crate::specs::PageLabels::with_name))]
-fn take_name(labels: &mut PidLabels, program: u16, name: Option<String>) -> Result<(), AllocError>
-    ensures { OnOk result (labels.new ≡ spec.with_name program (option_map string_bytes name) labels.old) }
+fn take_name(
+    alloc: Global,
+    labels: &mut PidLabels,
+    program: u16,
+    name: &Option<String>,
+) -> Result<(), AllocError>
+    ensures { OnOk result (labels.new ≡ spec.with_name program (option_map string_bytes name.now) labels.old) }
 {
     match name {
         None => Ok(()),
-        Some(name) => labels.take_service(program, name),
+        Some(name) => labels.take_service(program, html_text(alloc, name.as_str())?),
     }
 }
 
-// `window` with a program.
+// A PID of a program.
 fn take_named(
     alloc: Global,
     labels: &mut PidLabels,
-    line: &str,
-    words: &[&str],
+    window: &WindowFigures,
+    program: u16,
 ) -> Result<(), AllocError>
-    ensures { OnOk result (labels.new ≡ spec.with_named labels.old line.now (map (λ s. s.now) words.now)) }
+    ensures { OnOk result (labels.new ≡ spec.with_named labels.old window.now program) }
 {
-    let program = program_in(words);
     let carried = PidProgram {
         program,
-        name: coding_in(words),
+        name: window.coding,
     };
-    labels.take(pid_in(words), carried)?;
-    take_name(labels, program, service_in(alloc, line)?)
+    labels.take(window.pid, carried)?;
+    take_name(alloc, labels, program, &window.service)
 }
 
 // `window`.
 fn take_window(
     alloc: Global,
     labels: &mut PidLabels,
-    line: &str,
-    words: &[&str],
+    window: &WindowFigures,
 ) -> Result<(), AllocError>
-    ensures { OnOk result (labels.new ≡ spec.with_window labels.old line.now (map (λ s. s.now) words.now)) }
+    ensures { OnOk result (labels.new ≡ spec.with_window labels.old window.now) }
 {
-    if program_in(words) == 0 {
+    let program = window.program.unwrap_or(0);
+    if program == 0 {
         Ok(())
     } else {
-        take_named(alloc, labels, line, words)
+        take_named(alloc, labels, window, program)
     }
 }
 
-/// A line and its words.
-#[tactic(auto, unfolding(crate::specs::PageLabels::with_line))]
+/// An event.
+#[tactic(auto, unfolding(crate::specs::PageLabels::with_event))]
 pub(crate) fn take_label(
     alloc: Global,
     labels: &mut PidLabels,
-    kind: LineKind,
-    line: &str,
-    words: &[&str],
+    event: &Event,
 ) -> Result<(), AllocError>
-    ensures { OnOk result (labels.new ≡ spec.with_line labels.old kind line.now (map (λ s. s.now) words.now)) }
+    ensures { OnOk result (labels.new ≡ spec.with_event labels.old event.now) }
 {
-    match kind {
-        LineKind::Window => take_window(alloc, labels, line, words),
+    match event {
+        Event::Window(window) => take_window(alloc, labels, window),
         _ => Ok(()),
     }
 }

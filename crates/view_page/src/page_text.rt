@@ -3,8 +3,9 @@ ghost use Rattle.std.specs.Prelude.{◌≡◌, ◌++◌, OnOk, codes, flat_map, 
 ghost use Rattle.view_page.specs.PageText as spec;
 
 use crate::cells::write_carried;
-use crate::page::{Page, ReportEnd};
+use crate::page::Page;
 use crate::rows::{Rows, StreamRow};
+use events::ReportEnd;
 use page_charts::{ChartUnit, Frame, PidCurve, PidLabels, greatest_value, write_chart};
 use std::alloc::AllocError;
 use std::fmt::Write;

@@ -1,11 +1,11 @@
-//! The curves of the page, as the lines come.
-ghost use Rattle.std.specs.Prelude.{◌≡◌, OnOk, map};
+//! The curves of the page, as the events come.
+ghost use Rattle.std.specs.Prelude.{◌≡◌, OnOk};
 ghost use Rattle.view_page.specs.Values as spec;
 ghost use Rattle.view_page.specs.Values.{AreValues, KeptValues};
 
-use crate::fields::{FieldName, coding_in, number_in, pid_in};
-use crate::report_lines::LineKind;
-use page_charts::{PidCurves, PidName};
+use crate::cells::short;
+use events::{Event, HeldFigures, PidName, StreamBegin, UnitFigures, WindowFigures};
+use page_charts::PidCurves;
 use std::alloc::{AllocError, Global};
 
 /// The size of a transport buffer in bytes (ISO/IEC 13818-1, 2.4.2.3).
@@ -23,7 +23,7 @@ pub struct Values {
 }
 
 impl Values {
-    /// No line has come.
+    /// No event has come.
     pub fn new(alloc: Global) -> Values
         ensures { AreValues result spec.no_values }
     {
@@ -48,68 +48,61 @@ impl Values {
     }
 
     // `window`: the bit rate of a PID.
-    fn take_window(&mut self, words: &[&str]) -> Result<(), AllocError>
+    fn take_window(&mut self, window: &WindowFigures) -> Result<(), AllocError>
         ensures { (kept : KeptValues) → AreValues self.old kept →
-            OnOk result (AreValues self.new (spec.with_window kept (map (λ s. s.now) words.now))) }
+            OnOk result (AreValues self.new (spec.with_window kept window.now)) }
     {
-        let pid = pid_in(words);
-        let number = number_in(FieldName::Number, words);
-        let name = self.name_of(pid);
-        self.windows = self.windows.max(number.saturating_add(1));
-        self.rates.open(pid, name, 0)?;
+        let name = self.name_of(window.pid);
+        self.windows = self.windows.max(window.number.saturating_add(1));
+        self.rates.open(window.pid, name, 0)?;
         self.rates
-            .take(pid, number, number_in(FieldName::Rate, words))
+            .take(window.pid, window.number, short(window.rate))
     }
 
     // `stream`: its buffers begin.
-    fn take_stream(&mut self, words: &[&str]) -> Result<(), AllocError>
+    fn take_stream(&mut self, stream: &StreamBegin) -> Result<(), AllocError>
         ensures { (kept : KeptValues) → AreValues self.old kept →
-            OnOk result (AreValues self.new (spec.with_stream kept (map (λ s. s.now) words.now))) }
+            OnOk result (AreValues self.new (spec.with_stream kept stream.now)) }
     {
-        let pid = pid_in(words);
-        let name = coding_in(words);
+        let pid = stream.pid;
+        let name = stream.coding;
         self.transports.open(pid, name, TRANSPORT_BYTES)?;
-        self.mains
-            .open(pid, name, number_in(FieldName::Main, words))?;
+        self.mains.open(pid, name, u64::from(stream.main))?;
         self.slacks.open(pid, name, 0)
     }
 
     // `held`: what its buffers held.
-    fn take_held(&mut self, words: &[&str]) -> Result<(), AllocError>
+    fn take_held(&mut self, held: &HeldFigures) -> Result<(), AllocError>
         ensures { (kept : KeptValues) → AreValues self.old kept →
-            OnOk result (AreValues self.new (spec.with_held kept (map (λ s. s.now) words.now))) }
+            OnOk result (AreValues self.new (spec.with_held kept held.now)) }
     {
-        let pid = pid_in(words);
-        let number = number_in(FieldName::Number, words);
-        self.transports
-            .take(pid, number, number_in(FieldName::Transport, words))?;
-        self.mains
-            .take(pid, number, number_in(FieldName::Main, words))?;
-        self.mains
-            .take(pid, number, number_in(FieldName::MainLeast, words))
+        let pid = held.pid;
+        let number = held.number;
+        self.transports.take(pid, number, short(held.transport))?;
+        self.mains.take(pid, number, held.main)?;
+        self.mains.take(pid, number, held.main_least)
     }
 
     // `units`: the least slack of its units.
-    fn take_units(&mut self, words: &[&str]) -> Result<(), AllocError>
+    fn take_units(&mut self, units: &UnitFigures) -> Result<(), AllocError>
         ensures { (kept : KeptValues) → AreValues self.old kept →
-            OnOk result (AreValues self.new (spec.with_units kept (map (λ s. s.now) words.now))) }
+            OnOk result (AreValues self.new (spec.with_units kept units.now)) }
     {
-        let number = number_in(FieldName::Number, words);
-        let slack = number_in(FieldName::Slack, words) / 27;
-        self.slacks.take(pid_in(words), number, slack)
+        self.slacks
+            .take(units.pid, units.number, short(units.slack) / 27)
     }
 
-    /// A line of these words.
-    #[tactic(auto, unfolding(crate::specs::Values::with_line))]
-    pub fn take(&mut self, kind: LineKind, words: &[&str]) -> Result<(), AllocError>
+    /// An event.
+    #[tactic(auto, unfolding(crate::specs::Values::with_event))]
+    pub fn take(&mut self, event: &Event) -> Result<(), AllocError>
         ensures { (kept : KeptValues) → AreValues self.old kept →
-            OnOk result (AreValues self.new (spec.with_line kept kind (map (λ s. s.now) words.now))) }
+            OnOk result (AreValues self.new (spec.with_event kept event.now)) }
     {
-        match kind {
-            LineKind::Window => self.take_window(words),
-            LineKind::Stream => self.take_stream(words),
-            LineKind::Held => self.take_held(words),
-            LineKind::Units => self.take_units(words),
+        match event {
+            Event::Window(window) => self.take_window(window),
+            Event::Stream(stream) => self.take_stream(stream),
+            Event::Held(held) => self.take_held(held),
+            Event::Units(units) => self.take_units(units),
             _ => Ok(()),
         }
     }

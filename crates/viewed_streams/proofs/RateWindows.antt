@@ -18,7 +18,7 @@ use Rattle.stream_report.specs.Entries.{EntryState}
 use Rattle.stream_report.specs.Seen.{with_arrival}
 use Rattle.stream_report.specs.StreamTables.{TableState}
 use Rattle.stream_report.specs.Views.{ViewState, after_all, start}
-use Rattle.stream_report.specs.WindowLines.{window_of}
+use Rattle.stream_report.specs.WindowEvents.{window_of}
 use Rattle.viewed_streams.specs.HeldWindows.{BeginIn, HeldWindowLaw, OfRateWindow, OfWindow, known_then, window_entering, window_packets}
 use Rattle.viewed_streams.specs.StreamPackets.{Before, Followed, most_packets}
 use Rattle.viewed_streams.specs.TimedStreams.{Entering, InOrder, entering, entering_among, followed_by, view_by}

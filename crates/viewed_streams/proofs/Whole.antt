@@ -8,7 +8,7 @@ use Rattle.ts_packet.specs.Reading.{packet_at}
 use Rattle.transport_buffer.specs.declared.excess.Excess.{Excess}
 use Rattle.stream_buffers.specs.Entering.{EnteredView}
 use Rattle.stream_report.specs.Choices.{RequestView}
-use Rattle.stream_report.specs.EntryLines.{with_one}
+use Rattle.stream_report.specs.EntryEvents.{with_one}
 use Rattle.stream_report.specs.Clocks.{clock_of}
 use Rattle.stream_report.specs.Entries.{EntryState}
 use Rattle.stream_report.specs.Tallies.{more}

@@ -8,7 +8,7 @@ use Rattle.stream_report.specs.Clocks.{clock_of}
 use Rattle.stream_report.specs.Entries.{EntryState}
 use Rattle.stream_report.specs.Seen.{with_arrival}
 use Rattle.stream_report.specs.Views.{ViewState, after_all, start}
-use Rattle.stream_report.specs.WindowLines.{window_of}
+use Rattle.stream_report.specs.WindowEvents.{window_of}
 use Rattle.viewed_streams.specs.StreamPackets.{Before, seen_among}
 use Rattle.viewed_streams.specs.TimedStreams.{Entering, entering, entering_among, followed_by, view_by}
 use Rattle.viewed_streams.specs.WholeStreams.{followed}

@@ -12,7 +12,7 @@ use Rattle.stream_arrival.specs.declared.arrival.Arrival.TheVariants.{AtRate}
 use Rattle.stream_buffers.specs.declared.entering.TheConstants.{TRANSPORT_BYTES}
 use Rattle.stream_buffers.specs.Held.{empty, transport_most, transport_under_way}
 use Rattle.stream_report.specs.Choices.{RequestView}
-use Rattle.stream_report.specs.EntryLines.{with_one}
+use Rattle.stream_report.specs.EntryEvents.{with_one}
 use Rattle.stream_report.specs.Entries.{EntryState, closed}
 use Rattle.stream_report.specs.Views.{after_all, start}
 use Rattle.viewed_streams.specs.StreamPackets.{entered_each, most_packets}

@@ -1,8 +1,8 @@
--- The last lines of a stream are about all packets of its PID, from the one with which its buffers begin (ISO/IEC 13818-1, 2.4.2.3).
+-- The last events of a stream are about all packets of its PID, from the one with which its buffers begin (ISO/IEC 13818-1, 2.4.2.3).
 --
 -- At a constant rate byte i of a stream arrives 8 i / rate seconds after its first. At buffers that are drained at `rx` bits a second times
 -- are in units of 8 / (rate * rx) seconds.
-use Rattle.std.specs.Prelude.{◌≡◌, ℕ, ◌<◌, ◌≤◌, List, ◌∷◌, ◌++◌, length, slice_get, count_by, flat_map, Some, None}
+use Rattle.std.specs.Prelude.{◌≡◌, ℕ, ◌<◌, ◌≤◌, List, [], ◌∷◌, ◌++◌, length, slice_get, count_by, flat_map, Some, None}
 use Rattle.std.specs.Option.{option_to_list}
 use Rattle.clock27.specs.Arrival.{arrivals}
 use Rattle.clock27.specs.Departure.{departures}
@@ -23,8 +23,9 @@ use Rattle.stream_buffers.specs.Entering.{EnteredView}
 use Rattle.stream_buffers.specs.Held.{empty, main_most, transport_most, transport_under_way}
 use Rattle.stream_report.specs.declared.view_options.ViewOptions.{ViewOptions}
 use Rattle.stream_report.specs.Choices.{RequestView}
-use Rattle.stream_report.specs.EntryLines.{main_figures, main_line, transport_line, with_one}
-use Rattle.stream_report.specs.Entries.{EntryState, closed, end_lines, place_at}
+use Rattle.events.specs.declared.event.Event.{Event}
+use Rattle.stream_report.specs.EntryEvents.{main_event, main_figures, transport_event, with_one}
+use Rattle.stream_report.specs.Entries.{EntryState, closed, end_events, place_at}
 use Rattle.stream_report.specs.Tallies.{is_late}
 use Rattle.stream_report.specs.StreamTables.{beginning, stream_buffers}
 use Rattle.stream_report.specs.Views.{ViewState, after_all, start}
@@ -50,11 +51,11 @@ stream_packets request e before packets = seen_among (followed request e) (known
 abbrev pub indices_of : ℕ → ℕ → List (List ℕ) → List ℕ
 indices_of pid first packets = slots_of (packets_from pid first packets)
 
--- the last lines of a stream are about all its packets: their bytes arrive at these times, and this has ended with each of them
+-- the last events of a stream are about all its packets: their bytes arrive at these times, and this has ended with each of them
 pub record SaysAll (step : ℕ) (times : List ℕ) (vs : List EnteredView) (e : EntryState) : Type 0 where
   -- the line `transport` has the greatest number of bytes in the transport buffer over all moments
   pub transport : IsPeak (λ x. fullness x times (departures step 0 times)) (transport_most e.held)
-  -- and the number of all excesses: those of the lines `excess`, one after another, with the one under way at the end
+  -- and the number of all excesses: those of the events `excess`, one after another, with the one under way at the end
   pub told : flat_map (λ v. v.transport) vs ++ option_to_list (transport_under_way e.held) ≡ excesses step TRANSPORT_BYTES times
   pub excesses : (window : ℕ) → with_one (closed window e).excesses (transport_under_way e.held) ≡ length (excesses step TRANSPORT_BYTES times)
   -- the line `main` has the greatest number of bytes in the main buffer over all moments: of the payload bytes that have left the transport
@@ -81,12 +82,12 @@ pub record Begun {P : Type 0} (view : List P → ViewState) (bytes : P → List 
   pub rx : e.held.rx ≡ (stream_buffers (view before).table stream packet).rx
   pub size : e.held.main.size ≡ (stream_buffers (view before).table stream packet).main
 
--- a stream with a line at the end, whose buffers have begun
+-- a stream with an event at the end, whose buffers have begun
 pub record IsWhole (request : RequestView) (rate : ℕ) (packets : List (List ℕ)) (e : EntryState) : Type 0 where
   pub begun : Begun (after_all (start request)) (λ bytes. bytes) packets e
   -- what they hold is what all packets of its PID from then on leave in empty ones
   pub held : e.held ≡ after_each (empty rate e.held.rx e.held.main.size) (AtRate rate) (stream_packets request e begun.before (begun.first ∷ begun.later))
-  -- its last lines are about them: `tb_fullness` of the indices of the packets of its PID is what the transport buffer holds
+  -- its last events are about them: `tb_fullness` of the indices of the packets of its PID is what the transport buffer holds
   pub lines : SaysAll rate (arrivals e.held.rx (indices_of e.pid (length begun.before) (begun.first ∷ begun.later)))
       (entered_each (empty rate e.held.rx e.held.main.size) (AtRate rate) (stream_packets request e begun.before (begun.first ∷ begun.later))) e
 
@@ -95,12 +96,12 @@ abbrev pub WholeStreamLaw : Type 0
 WholeStreamLaw = (request : RequestView) (rate : ℕ) (packets : List (List ℕ)) (place : ℕ) (e : EntryState) → request.options.arrival ≡ AtRate rate → 0 < rate →
     length packets ≤ most_packets → slice_get (after_all (start request) packets).table.entries place ≡ Some e → 0 < e.held.rx → IsWhole request rate packets e
 
--- what the last lines of a stream say: before them are those of the last window and of what is under way
-pub record LastLines (options : ViewOptions) (count window : ℕ) (e : EntryState) : Type 0 where
-  pub text : List ℕ
-  pub lines : end_lines options count window e
-      ≡ text ++ (transport_line options e.pid (transport_most e.held) (with_one (closed window e).excesses (transport_under_way e.held))
-      ++ main_line options (place_at count e) (main_figures e.held (closed window e)) (closed window e))
+-- the last events of a stream: before them are those of the last window and of what is under way
+pub record LastEvents (options : ViewOptions) (count window : ℕ) (e : EntryState) : Type 0 where
+  pub before : List Event
+  pub events : end_events options count window e
+      ≡ before ++ (transport_event e.pid (transport_most e.held) (with_one (closed window e).excesses (transport_under_way e.held))
+      ∷ main_event (place_at count e) (main_figures e.held (closed window e)) (closed window e) ∷ [])
 
-abbrev pub LastLinesLaw : Type 0
-LastLinesLaw = (options : ViewOptions) (count window : ℕ) (e : EntryState) → LastLines options count window e
+abbrev pub LastEventsLaw : Type 0
+LastEventsLaw = (options : ViewOptions) (count window : ℕ) (e : EntryState) → LastEvents options count window e

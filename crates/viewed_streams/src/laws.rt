@@ -9,7 +9,7 @@ ghost use Rattle.viewed_streams.specs.MuxedStreams.{JobNoExcessLaw, MuxedStreamL
 ghost use Rattle.viewed_streams.specs.TimedStreams.{ClockedStreamLaw, RateOrderLaw, TimedStreamLaw};
 ghost use Rattle.viewed_streams.specs.TransportHighs.{ClockedTransportLaw, RateTransportLaw, TimedTransportLaw, TransportHighLaw, TransportWithoutLaw, WindowTransportLaw};
 ghost use Rattle.viewed_streams.specs.ViewedRuns.{JobFirstLaw, JobLateLaw, JobLateUnitsLaw, JobMainLaw, RunFirstLaw, RunLateLaw, RunLateUnitsLaw, RunMainLaw};
-ghost use Rattle.viewed_streams.specs.WholeStreams.{LastLinesLaw, WholeStreamLaw};
+ghost use Rattle.viewed_streams.specs.WholeStreams.{LastEventsLaw, WholeStreamLaw};
 ghost use Rattle.viewed_streams.specs.WindowHighs.{ClockedHighLaw, HighWithoutLaw, RateHighLaw, TimedHighLaw, WholeHighLaw, WindowHighLaw, WindowMostLaw};
 ghost use Rattle.viewed_streams.specs.WindowLows.{WholeWindowLaw, WindowLeastLaw, WindowLowLaw, WindowWithoutLaw};
 
@@ -18,7 +18,7 @@ ghost use Rattle.viewed_streams.specs.WindowLows.{WholeWindowLaw, WindowLeastLaw
 /// excesses, the line `main` the greatest number of bytes in the main buffer and the numbers of all units and of those that are late.
 pub fn whole_streams()
     ensures whole { WholeStreamLaw }
-    ensures lines { LastLinesLaw }
+    ensures events { LastEventsLaw }
 {}
 
 /// The same of a stream whose packets arrive in any way in which no byte arrives before an earlier one: at a constant rate, and by the

@@ -9,4 +9,4 @@ returns-in-Ok g c =
     let output : Device = between (record { bytes = g.W.Write.contents c.args.output.now; failed = g.W.Sink.fault_count c.args.output.now })
     (record { bytes = g.W.Write.contents c.view_input.new.output; failed = g.W.Sink.fault_count c.view_input.new.output }) in
     let faults : Port = record { bytes = g.E.Write.contents c.args.faults.now; failed = g.E.Sink.fault_count c.args.faults.now } in
-    ended c.args.request input output faults c.in-Ok.good _ c.in-Ok.ensures c.status_of.ensures
+    ended c.args.request c.args.json input output faults c.in-Ok.good _ c.in-Ok.ensures c.status_of.ensures

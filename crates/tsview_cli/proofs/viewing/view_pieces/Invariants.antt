@@ -10,7 +10,7 @@ invariant-loop-size g l = record {
   room : length l.piece ≡ length l.fn.piece;
   none : string_bytes l.text ≡ [];
   front : (s : ClockedState) → IsClocked l.fn.view s → TakesFront
-      (Seen s (between (record { bytes = g.W.Write.contents l.fn.output; failed = g.W.Sink.fault_count l.fn.output })
+      (Seen l.json s (between (record { bytes = g.W.Write.contents l.fn.output; failed = g.W.Sink.fault_count l.fn.output })
       (record { bytes = g.W.Write.contents l.output; failed = g.W.Sink.fault_count l.output })) l.view) 188
       (record { bytes = g.R.Read.remaining l.fn.input; failed = g.R.Source.fault_count l.fn.input })
       (record { bytes = g.R.Read.remaining l.input; failed = g.R.Source.fault_count l.input }) l.size;

@@ -1,7 +1,7 @@
 use Rattle.std.proofs.Common.{◌∙◌, ap}
 use Rattle.ts_packet.specs.Packets.{null_packet}
 use Rattle.stream_report.specs.Seen.{SeenState, with_sections}
-use Rattle.stream_report.specs.TableLines.{TablesState}
+use Rattle.stream_report.specs.TableEvents.{TablesState}
 use Rattle.stream_report.proofs.seen.Seen.pass_null.Goals as goal
 
 pub returns-clause-seen : goal.returns-clause-seen

@@ -1,14 +1,15 @@
 use Rattle.std.proofs.Common.{refl, length, ◌≡◌, ◌∙◌, sym, ℕ, List, ◌++◌, Option, Some, None, ap, subst, append-nil, nat_eq}
-use Rattle.std.specs.Prelude.{OnOk, set, slice_get, string_bytes}
+use Rattle.std.specs.Prelude.{OnOk, set, slice_get}
 use Rattle.std.specs.Map.{lookup}
 use Rattle.std.proofs.lemmas.Option.{slice_get_past, slice_get_read}
 use Rattle.packet_arrival.specs.declared.clock.PcrSample.{PcrSample}
 use Rattle.ts_packet.specs.Views.{packet_view}
+use Rattle.events.specs.declared.event.Event.{Event}
 use Rattle.stream_report.specs.Clocks.{clock_of}
-use Rattle.stream_report.specs.Entries.{IsEntry, entry_after, entry_lines}
+use Rattle.stream_report.specs.Entries.{IsEntry, entry_after, entry_events}
 use Rattle.stream_report.specs.StreamTables.{AreEntries, TableState}
 use Rattle.stream_report.proofs.Entries.{none_at, set_at, some_at}
-use Rattle.stream_report.proofs.Tables.{lines_none, lines_some, on_ok, taken_none, taken_some}
+use Rattle.stream_report.proofs.Tables.{events_none, events_some, on_ok, taken_none, taken_some}
 use Rattle.stream_report.proofs.stream_table.StreamTable.take.Goals as goal
 
 pub returns-in_default-get_mut-clause-table : goal.returns-in_default-get_mut-clause-table
@@ -25,14 +26,14 @@ returns-in_default-get_mut-clause-table c = λ t k.
       entries = subst (λ (x : TableState). AreEntries c.args.self.now.entries.items x.entries) (sym last) k.entries;
     }
 
-pub returns-in_default-get_mut-clause-lines : goal.returns-in_default-get_mut-clause-lines
-returns-in_default-get_mut-clause-lines c = λ t k.
+pub returns-in_default-get_mut-clause-found : goal.returns-in_default-get_mut-clause-found
+returns-in_default-get_mut-clause-found c = λ t k.
     let packet = packet_view c.args.packet.now in
     let found : lookup (nat_eq packet.header.pid) c.args.self.now.places.entries ≡ Some c.in-Some.place =
     sym c.place_of.ensures.place ∙ c.in-Some.is in
     let none : slice_get c.args.self.now.entries.items c.in-Some.place ≡ None = slice_get_past c.args.self.now.entries.items c.in-Some.place c.in_default-get_mut.ensures.item.3 in
-    sym (append-nil (string_bytes c.args.text.now)) ∙ ap (λ (l : List ℕ). string_bytes c.args.text.now ++ l)
-    (sym (lines_none c.args.options.now c.args.index c.args.clocks.now t packet c.in-Some.place
+    sym (append-nil (c.args.events.now.items)) ∙ ap (λ (l : List Event). c.args.events.now.items ++ l)
+    (sym (events_none c.args.options.now c.args.index c.args.clocks.now t packet c.in-Some.place
     (ap (λ (m : List (ℕ × ℕ)). lookup (nat_eq packet.header.pid) m) (sym k.places) ∙ found) (none_at c.args.self.now.entries.items t.entries c.in-Some.place k.entries none)))
 
 pub returns-clause-table : goal.returns-clause-table
@@ -58,8 +59,8 @@ returns-clause-table c = λ t k.
           (set_at c.args.self.now.entries.items t.entries place c.take.new.self _ k.entries i);
     }) taken
 
-pub returns-clause-lines : goal.returns-clause-lines
-returns-clause-lines c = λ t k.
+pub returns-clause-found : goal.returns-clause-found
+returns-clause-found c = λ t k.
     let packet = packet_view c.args.packet.now in
     let place = c.in-Some.place in
     let entry = c.in-Some-get_mut.entry.now in
@@ -70,6 +71,6 @@ returns-clause-lines c = λ t k.
     let s = some_at c.args.self.now.entries.items t.entries place entry k.entries at in
     let held = ap (λ (m : List (ℕ × ℕ)). lookup (nat_eq packet.header.pid) m) (sym k.places) ∙ found in
     let clock : c.last-clock.result ≡ clock_of c.args.clocks.now s.entry.clock_pid = c.last-clock.ensures ∙ ap (λ (p : ℕ). clock_of c.args.clocks.now p) s.is.clock_pid in
-    let lines = ap (λ (x : Option PcrSample). entry_lines c.args.options.now c.args.index x s.entry packet) clock
-    ∙ sym (lines_some c.args.options.now c.args.index c.args.clocks.now t packet place s.entry held s.at) in
-    on_ok c.take.result (λ e. e ∙ ap (λ (l : List ℕ). string_bytes c.args.text.now ++ l) lines) (c.take.ensures.lines s.entry s.is)
+    let lines = ap (λ (x : Option PcrSample). entry_events c.args.options.now c.args.index x s.entry packet) clock
+    ∙ sym (events_some c.args.options.now c.args.index c.args.clocks.now t packet place s.entry held s.at) in
+    on_ok c.take.result (λ e. e ∙ ap (λ (l : List Event). c.args.events.now.items ++ l) lines) (c.take.ensures.found s.entry s.is)

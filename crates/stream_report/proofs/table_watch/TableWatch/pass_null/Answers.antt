@@ -1,7 +1,7 @@
 use Rattle.std.proofs.Common.{sym}
 use Rattle.ts_packet.specs.Packets.{null_packet}
-use Rattle.stream_report.specs.TableLines.{TablesState}
-use Rattle.stream_report.proofs.TablePackets.{null_lines, null_passed, taken_takes}
+use Rattle.stream_report.specs.TableEvents.{TablesState}
+use Rattle.stream_report.proofs.TablePackets.{null_events, null_passed, taken_takes}
 use Rattle.stream_report.proofs.table_watch.TableWatch.pass_null.Goals as goal
 
 pub invariant_of-self : goal.invariant_of-self
@@ -12,7 +12,7 @@ returns-clause-tables c = λ options.
     let t : TablesState = record { demux = c.self.inside.demux; times = c.self.inside.times } in
     rw (sym c.self.view_is) (null_passed options t c.skip.new.self c.self.invariant c.skip.ensures.taken)
 
-pub returns-clause-lines : goal.returns-clause-lines
-returns-clause-lines c = λ options.
+pub returns-clause-found : goal.returns-clause-found
+returns-clause-found c = λ options.
     let t : TablesState = record { demux = c.self.inside.demux; times = c.self.inside.times } in
-    rw (sym c.self.view_is) (null_lines options t c.self.invariant)
+    rw (sym c.self.view_is) (null_events options t c.self.invariant)

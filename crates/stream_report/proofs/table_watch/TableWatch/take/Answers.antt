@@ -1,8 +1,8 @@
-use Rattle.std.proofs.Common.{◌≡◌, ◌∙◌, ◌++◌, List, ap, map, string_bytes}
+use Rattle.std.proofs.Common.{◌≡◌, ◌∙◌, ◌++◌, List, ap, map}
 use Rattle.demux.specs.Shown.{finding_view}
 use Rattle.demux.specs.Stream.{found_in}
 use Rattle.demux.specs.Views.{FindingView}
-use Rattle.stream_report.specs.TableLines.{TablesState, packet_lines, with_packet}
+use Rattle.stream_report.specs.TableEvents.{TablesState, packet_events, with_packet}
 use Rattle.stream_report.proofs.TablePackets.{packet_passed, packet_writes, taken_takes}
 use Rattle.stream_report.proofs.Tables.{on_ok}
 use Rattle.stream_report.proofs.table_watch.TableWatch.take.Goals as goal
@@ -22,15 +22,15 @@ returns-clause-tables c =
     ∙ ap (λ (t : TablesState). with_packet c.args.options.now t bytes) c.self.view_is)
     c.take_all.ensures.times
 
-pub returns-clause-lines : goal.returns-clause-lines
-returns-clause-lines c =
+pub returns-clause-found : goal.returns-clause-found
+returns-clause-found c =
     let t : TablesState = record { demux = c.self.inside.demux; times = c.self.inside.times } in
     let bytes = c.args.bytes.now in
-    let text = string_bytes c.args.text.now in
+    let events = c.args.events.now.items in
     let found : List FindingView = map finding_view c.as_slice.result.now in
     let finds : found ≡ found_in t.demux bytes =
     ap (map finding_view) c.as_slice.ensures.value ∙ c.in-Ok.ensures.found ∙ ap (λ xs. map finding_view xs ++ found_in t.demux bytes) c.new-found.ensures.items in
     on_ok c.take_all.result
-    (λ e. packet_writes c.args.options.now t bytes text (string_bytes c.take_all.new.text) found c.self.invariant c.told-bytes finds e
-    ∙ ap (λ (t : TablesState). text ++ packet_lines c.args.options.now t bytes) c.self.view_is)
-    c.take_all.ensures.lines
+    (λ e. packet_writes c.args.options.now t bytes events (c.take_all.new.events.items) found c.self.invariant c.told-bytes finds e
+    ∙ ap (λ (t : TablesState). events ++ packet_events c.args.options.now t bytes) c.self.view_is)
+    c.take_all.ensures.found

@@ -1,6 +1,26 @@
-use Rattle.view_page.proofs.Lines.{is_nothing, none_taken}
+use Rattle.std.proofs.Common.{◌∙◌, ap}
+use Rattle.page_charts.specs.PidLabels.{LabelsState}
+use Rattle.view_page.specs.PageLabels as labels
+use Rattle.view_page.specs.Pages.{IsPage, PageState}
+use Rattle.view_page.specs.Rows as rows
+use Rattle.view_page.specs.Values as values
 use Rattle.view_page.proofs.page.Page.take.Goals as goal
 
-pub returns-then-is_empty : goal.returns-then-is_empty
-returns-then-is_empty c = λ s is.
-    none_taken c.args.self.now s c.args.text.now (is_nothing c.args.text.now c.is_empty.result c.is_empty.ensures c.if-is_empty.true) is
+pub returns : goal.returns
+returns c = λ s is.
+    let event = c.args.event.now in
+    let between : PageState = record {
+      millis = s.millis;
+      rows = rows.with_event s.labels s.rows event;
+      values = values.with_event s.values event;
+      labels = labels.with_event s.labels event;
+      end = s.end;
+    } in
+    let page : IsPage (record c.args.self.now { rows = c.take.new.self; values = c.take-2.new.self; labels = c.take_label.new.labels }) between = record {
+      millis = is.millis;
+      rows = c.in_ok-take.ensures ∙ cc (is.labels, is.rows);
+      values = c.in_ok-take-2.ensures s.values is.values;
+      labels = c.in_ok-take_label.ensures ∙ ap (λ (l : LabelsState). labels.with_event l event) is.labels;
+      end = is.end;
+    } in
+    c.take_end.ensures between page

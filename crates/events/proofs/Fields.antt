@@ -1,0 +1,19 @@
+-- The fields of a line, each by what it says.
+use Rattle.std.proofs.Common.{◌≡◌, [], ◌∷◌, refl}
+use Rattle.events.specs.FieldViews.{FieldView}
+
+pub four : (a b c d w x y z : FieldView) → a ≡ w → b ≡ x → c ≡ y → d ≡ z →
+    a ∷ b ∷ c ∷ d ∷ [] ≡ w ∷ x ∷ y ∷ z ∷ []
+four a b c d w x y z p q r s = rw (p, q, r, s) refl
+
+pub five : (a b c d e v w x y z : FieldView) → a ≡ v → b ≡ w → c ≡ x → d ≡ y → e ≡ z →
+    a ∷ b ∷ c ∷ d ∷ e ∷ [] ≡ v ∷ w ∷ x ∷ y ∷ z ∷ []
+five a b c d e v w x y z p q r s i = rw (p, q, r, s, i) refl
+
+pub six : (a b c d e f u v w x y z : FieldView) → a ≡ u → b ≡ v → c ≡ w → d ≡ x → e ≡ y → f ≡ z →
+    a ∷ b ∷ c ∷ d ∷ e ∷ f ∷ [] ≡ u ∷ v ∷ w ∷ x ∷ y ∷ z ∷ []
+six a b c d e f u v w x y z p q r s i j = rw (p, q, r, s, i, j) refl
+
+pub seven : (a b c d e f g t u v w x y z : FieldView) → a ≡ t → b ≡ u → c ≡ v → d ≡ w → e ≡ x → f ≡ y → g ≡ z →
+    a ∷ b ∷ c ∷ d ∷ e ∷ f ∷ g ∷ [] ≡ t ∷ u ∷ v ∷ w ∷ x ∷ y ∷ z ∷ []
+seven a b c d e f g t u v w x y z p q r s i j k = rw (p, q, r, s, i, j, k) refl

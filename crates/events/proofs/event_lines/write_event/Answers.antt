@@ -1,0 +1,14 @@
+use Rattle.events.specs.EventLines.{event_line}
+use Rattle.events.proofs.event_lines.write_event.Goals as goal
+
+pub returns-in-Excess : goal.returns-in-Excess
+unfolding event_line
+returns-in-Excess c = rw c.in-Excess.is c.write_excess.ensures
+
+pub returns-in-SystemExcess : goal.returns-in-SystemExcess
+unfolding event_line
+returns-in-SystemExcess c = rw c.in-SystemExcess.is c.write_program_excess.ensures
+
+pub returns-in-SystemMainExcess : goal.returns-in-SystemMainExcess
+unfolding event_line
+returns-in-SystemMainExcess c = rw c.in-SystemMainExcess.is c.write_program_excess-in-SystemMainExcess.ensures

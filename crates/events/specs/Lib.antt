@@ -1,0 +1,5 @@
+pub mod PidNames
+pub mod Windows
+pub mod FieldViews
+pub mod ReportLines
+pub mod EventLines

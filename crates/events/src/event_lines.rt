@@ -1,0 +1,75 @@
+//! An event as a line, plain or as a JSON object.
+ghost use Rattle.std.specs.Prelude.{◌≡◌, ◌++◌, OnOk, string_bytes};
+ghost use Rattle.events.specs.EventLines as spec;
+
+use crate::event::Event;
+use crate::figure_lines::{
+    write_clock, write_end, write_held, write_main, write_pid, write_system, write_table,
+    write_transport, write_units,
+};
+use crate::lines::{number, write_line};
+use crate::packet_lines::{
+    write_ahead, write_clock_fault, write_excess, write_late, write_program_excess, write_stream,
+    write_table_fault, write_unclocked,
+};
+use crate::window_line::write_window;
+use std::alloc::{AllocError, Global};
+
+fn write_reference(text: &mut String, json: bool, word: &str, pid: u16) -> Result<(), AllocError>
+    ensures { OnOk result (string_bytes text.new ≡ string_bytes text.old ++ spec.reference_line json word.now pid) }
+{
+    let fields = [number("pid", u128::from(pid))];
+    write_line(text, json, word, &fields)
+}
+
+#[tactic(auto, unfolding(crate::specs::EventLines::event_line))]
+fn write_event(
+    alloc: Global,
+    text: &mut String,
+    json: bool,
+    event: &Event,
+) -> Result<(), AllocError>
+    ensures { OnOk result (string_bytes text.new ≡ string_bytes text.old ++ spec.event_line json event.now) }
+{
+    match event {
+        Event::Stream(e) => write_stream(text, json, e),
+        Event::Window(window) => write_window(alloc, text, json, window),
+        Event::Held(e) => write_held(text, json, e),
+        Event::Units(e) => write_units(text, json, e),
+        Event::Excess(e) => write_excess(text, json, "excess", e),
+        Event::MainExcess(e) => write_excess(text, json, "main_excess", e),
+        Event::SystemExcess(e) => write_program_excess(text, json, "system_excess", e),
+        Event::SystemMainExcess(e) => write_program_excess(text, json, "system_main_excess", e),
+        Event::Late(e) => write_late(text, json, e),
+        Event::Ahead(e) => write_ahead(text, json, e),
+        Event::PcrRepetition(e) => write_clock_fault(text, json, "pcr_repetition", e),
+        Event::PcrDiscontinuity(e) => write_clock_fault(text, json, "pcr_discontinuity", e),
+        Event::PcrAccuracy(e) => write_clock_fault(text, json, "pcr_accuracy", e),
+        Event::TableRepetition(e) => write_table_fault(text, json, e),
+        Event::Unclocked(e) => write_unclocked(text, json, e),
+        Event::Transport(e) => write_transport(text, json, e),
+        Event::Main(e) => write_main(text, json, e),
+        Event::System(e) => write_system(text, json, e),
+        Event::Clock(e) => write_clock(text, json, e),
+        Event::Table(e) => write_table(text, json, e),
+        Event::Pid(e) => write_pid(text, json, e),
+        Event::Unreferenced(pid) => write_reference(text, json, "unreferenced", *pid),
+        Event::Missing(pid) => write_reference(text, json, "missing", *pid),
+        Event::End(e) => write_end(text, json, e),
+    }
+}
+
+/// Appends the lines of events, each a JSON object if `json`, else plain.
+pub fn write_events(
+    alloc: Global,
+    text: &mut String,
+    json: bool,
+    events: &[Event],
+) -> Result<(), AllocError>
+    ensures { OnOk result (string_bytes text.new ≡ string_bytes text.old ++ spec.lines_of json events.now) }
+{
+    for event in events {
+        write_event(alloc, text, json, event)?;
+    }
+    Ok(())
+}

@@ -1,0 +1,22 @@
+//! What is found in a transport stream, as plain data, and an event as a line of text or a JSON object.
+//!
+//! - [`Event`]: what is found: at a packet, in a window, or at the end of the stream (docs/VIEW.md has the lines and their fields).
+//! - [`PidName`]: what the packets of a PID carry: a table by its PID, the map of a program, or a stream of a coding.
+//! - [`write_events`]: appends the lines of events to a text, plain or as JSON objects.
+#![tactic(auto)]
+
+mod event;
+mod event_lines;
+mod figure_lines;
+mod lines;
+mod packet_lines;
+mod pid_name;
+mod window_line;
+
+pub use event::{
+    BufferExcess, ClockFault, ClockTotals, Event, FarAhead, HeldFigures, LateUnit, MainTotals,
+    PidTotals, ProgramExcess, ReportEnd, StreamBegin, SystemTotals, TableFault, TableTotals,
+    TransportTotals, UnclockedPackets, UnitFigures, WindowFigures,
+};
+pub use event_lines::write_events;
+pub use pid_name::PidName;

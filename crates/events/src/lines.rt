@@ -1,0 +1,175 @@
+//! The parts of a line.
+ghost use Rattle.std.specs.Prelude.{◌≡◌, ◌++◌, IfOk, OnOk, flat_map, string_bytes};
+ghost use Rattle.std.specs.Str.{chars};
+ghost use Rattle.events.specs.FieldViews.{value_view};
+ghost use Rattle.events.specs.ReportLines as spec;
+
+use std::alloc::{AllocError, Global};
+use std::fmt::Write;
+use std::marker::Model;
+
+/// The value of a field.
+#[derive(Clone, Copy)]
+pub enum FieldValue {
+    Number(u128),
+    Word(&'static str),
+}
+
+/// A field of a line.
+#[derive(Drop)]
+pub struct Field {
+    pub name: &'static str,
+    pub value: FieldValue,
+}
+
+impl Model for Field {
+    ghost use Rattle.events.specs.FieldViews.{FieldView, value_view};
+
+    ghost Value = { FieldView };
+
+    ghost view = { λ f. record { name = f.name.now; value = value_view f.value } };
+}
+
+/// A field with a number.
+#[tactic(auto, unfolding(crate::specs::FieldViews::value_view))]
+pub(crate) fn number(name: &'static str, value: u128) -> Field
+    ensures { result ≡ spec.number_field name.now value }
+{
+    Field {
+        name,
+        value: FieldValue::Number(value),
+    }
+}
+
+/// A field with a word.
+#[tactic(auto, unfolding(crate::specs::FieldViews::value_view))]
+pub(crate) fn word(name: &'static str, value: &'static str) -> Field
+    ensures { result ≡ spec.word_field name.now value.now }
+{
+    Field {
+        name,
+        value: FieldValue::Word(value),
+    }
+}
+
+#[tactic(auto, unfolding(crate::specs::ReportLines::value_text, crate::specs::FieldViews::value_view))]
+fn write_value(text: &mut String, json: bool, value: FieldValue) -> Result<(), AllocError>
+    ensures { OnOk result (string_bytes text.new ≡ string_bytes text.old ++ spec.value_text json (value_view value)) }
+{
+    match value {
+        FieldValue::Number(number) => write!(text, "{number}"),
+        FieldValue::Word(word) => {
+            if json {
+                write!(text, "\"{word}\"")
+            } else {
+                text.push_str(word)
+            }
+        }
+    }
+}
+
+/// Appends the name of a field.
+pub(crate) fn write_name(text: &mut String, json: bool, name: &str) -> Result<(), AllocError>
+    ensures { OnOk result (string_bytes text.new ≡ string_bytes text.old ++ spec.name_text json name.now) }
+{
+    if json {
+        write!(text, ",\"{name}\":")
+    } else {
+        write!(text, " {name} ")
+    }
+}
+
+/// Appends a field.
+pub(crate) fn write_field(text: &mut String, json: bool, field: &Field) -> Result<(), AllocError>
+    ensures { OnOk result (string_bytes text.new ≡ string_bytes text.old ++ spec.field_text json (field.now)) }
+{
+    write_name(text, json, field.name)?;
+    write_value(text, json, field.value)
+}
+
+/// Appends fields.
+pub(crate) fn write_fields(
+    text: &mut String,
+    json: bool,
+    fields: &[Field],
+) -> Result<(), AllocError>
+    ensures { OnOk result (string_bytes text.new
+        ≡ string_bytes text.old ++ flat_map (spec.field_text json) (fields.now)) }
+{
+    for field in fields {
+        write_field(text, json, field)?;
+    }
+    Ok(())
+}
+
+/// Appends how a line of a word begins.
+pub(crate) fn write_first(text: &mut String, json: bool, word: &str) -> Result<(), AllocError>
+    ensures { OnOk result (string_bytes text.new ≡ string_bytes text.old ++ spec.first_text json word.now) }
+{
+    if json {
+        text.push_str("{\"line\":\"")?;
+        write!(text, "{word}\"")
+    } else {
+        text.push_str(word)
+    }
+}
+
+/// Appends how a line ends.
+pub(crate) fn write_last(text: &mut String, json: bool) -> Result<(), AllocError>
+    ensures { OnOk result (string_bytes text.new ≡ string_bytes text.old ++ spec.last_text json) }
+{
+    if json {
+        text.push_str("}\n")
+    } else {
+        text.push_str("\n")
+    }
+}
+
+fn write_escaped(text: &mut String, character: char) -> Result<(), AllocError>
+    ensures { OnOk result (string_bytes text.new ≡ string_bytes text.old ++ spec.escaped character) }
+{
+    if character == '"' || character == '\\' {
+        text.push_str("\\")?;
+    }
+    text.push(character)
+}
+
+fn write_each_escaped(text: &mut String, characters: &[char]) -> Result<(), AllocError>
+    ensures { OnOk result (string_bytes text.new ≡ string_bytes text.old ++ flat_map spec.escaped characters.now) }
+{
+    for character in characters {
+        write_escaped(text, *character)?;
+    }
+    Ok(())
+}
+
+fn characters_of(alloc: Global, text: &str) -> Result<Vec<char>, AllocError>
+    ensures { IfOk result (λ cs. cs.items ≡ chars text.now) }
+{
+    text.chars().collect(alloc)
+}
+
+/// Appends a text between quotation marks.
+pub(crate) fn write_quoted(alloc: Global, text: &mut String, quoted: &str) -> Result<(), AllocError>
+    ensures { OnOk result (string_bytes text.new ≡ string_bytes text.old ++ spec.quoted quoted.now) }
+{
+    let characters = characters_of(alloc, quoted)?;
+    text.push_str("\"")?;
+    write_each_escaped(text, &characters)?;
+    text.push_str("\"")
+}
+
+/// Appends a line.
+pub(crate) fn write_line(
+    text: &mut String,
+    json: bool,
+    word: &str,
+    fields: &[Field],
+) -> Result<(), AllocError>
+    ensures { OnOk result (string_bytes text.new
+        ≡ string_bytes text.old ++ spec.line_of json word.now (fields.now)) }
+{
+    write_first(text, json, word)?;
+    write_fields(text, json, fields)?;
+    write_last(text, json)
+}

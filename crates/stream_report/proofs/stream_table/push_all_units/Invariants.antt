@@ -1,0 +1,10 @@
+use Rattle.std.proofs.Common.{◌++◌, List, drop}
+use Rattle.std.specs.Prelude.{flat_map}
+use Rattle.stream_report.specs.Entries.{EntryState, units_of}
+use Rattle.stream_report.specs.StreamTables.{AreEntries}
+use Rattle.stream_report.proofs.Entries.{Ahead}
+use Rattle.stream_report.proofs.stream_table.push_all_units.Given as goal
+
+abbrev pub invariant-loop-entry : goal.invariant-loop-entry
+invariant-loop-entry l = (es : List EntryState) → AreEntries l.fn.entries es →
+    Ahead (drop l.entry-index l.entries) (units_of l.options l.window) (l.events.items) (l.fn.events.items ++ flat_map (units_of l.options l.window) es)

@@ -1,0 +1,109 @@
+-- The cells of the row of each event that has one.
+use Rattle.std.specs.Prelude.{ℕ, List, [], ◌∷◌, Some}
+use Rattle.events.specs.declared.event.BufferExcess.{BufferExcess}
+use Rattle.events.specs.declared.event.ClockFault.{ClockFault}
+use Rattle.events.specs.declared.event.ClockTotals.{ClockTotals}
+use Rattle.events.specs.declared.event.FarAhead.{FarAhead}
+use Rattle.events.specs.declared.event.LateUnit.{LateUnit}
+use Rattle.events.specs.declared.event.MainTotals.{MainTotals}
+use Rattle.events.specs.declared.event.PidTotals.{PidTotals}
+use Rattle.events.specs.declared.event.ProgramExcess.{ProgramExcess}
+use Rattle.events.specs.declared.event.StreamBegin.{StreamBegin}
+use Rattle.events.specs.declared.event.SystemTotals.{SystemTotals}
+use Rattle.events.specs.declared.event.TableFault.{TableFault}
+use Rattle.events.specs.declared.event.TableTotals.{TableTotals}
+use Rattle.events.specs.declared.event.TransportTotals.{TransportTotals}
+use Rattle.events.specs.declared.event.UnclockedPackets.{UnclockedPackets}
+use Rattle.view_page.specs.declared.cells.Cell.{Cell}
+use Rattle.view_page.specs.declared.cells.Cell.TheVariants.{Number, Checked, Bar, Word, Carried, Program}
+use Rattle.view_page.specs.declared.cells.CellUnit.TheVariants.{Same, Ticks}
+use Rattle.view_page.specs.declared.cells.CellWord.{CellWord}
+use Rattle.view_page.specs.declared.cells.CellWord.TheVariants as words
+use Rattle.view_page.specs.Cells.{limit_if, short}
+
+-- of a stream, after its PID and what that carries
+abbrev pub stream_cells : StreamBegin → List Cell
+stream_cells e =
+    Number e.stream_type Same ∷ Number e.rx Same ∷ Number e.main Same ∷ []
+
+-- of a transport buffer
+abbrev pub transport_cells : TransportTotals → List Cell
+transport_cells e =
+    Number e.pid Same ∷ Carried e.pid ∷ Word words.Transport ∷ Number e.size Same ∷ Checked (short e.most) (Some e.size) Same
+    ∷ Bar (short e.most) (Some e.size) ∷ Checked (short e.excesses) (Some 0) Same ∷ Word words.Nothing ∷ Word words.Nothing ∷ Word words.Nothing ∷ []
+
+-- of a main buffer
+abbrev pub main_cells : MainTotals → List Cell
+main_cells e =
+    Number e.pid Same ∷ Carried e.pid ∷ Word words.Main ∷ Number e.size Same ∷ Checked e.most (Some e.size) Same ∷ Bar e.most (Some e.size)
+    ∷ Checked (short e.excesses) (Some 0) Same ∷ Number e.units Same ∷ Checked e.late (Some 0) Same ∷ Checked e.unread (Some 0) Same ∷ []
+
+-- of the buffers of a program's tables
+abbrev pub system_cells : SystemTotals → List Cell
+system_cells e =
+    Number e.program Same ∷ Checked (short e.transport) (Some e.transport_size) Same ∷ Bar (short e.transport) (Some e.transport_size)
+    ∷ Checked (short e.transport_excesses) (Some 0) Same ∷ Checked (short e.main) (Some e.main_size) Same
+    ∷ Bar (short e.main) (Some e.main_size) ∷ Checked (short e.main_excesses) (Some 0) Same ∷ []
+
+-- of clock references
+abbrev pub clock_cells : ClockTotals → List Cell
+clock_cells e =
+    Number e.pid Same ∷ Number e.references Same ∷ Number e.announced Same ∷ Number (short e.rate) Same
+    ∷ Checked (short e.interval) (Some 2700000) Ticks ∷ Bar (short e.interval) (Some 2700000) ∷ Checked (short e.inaccuracy) (Some 500) Same
+    ∷ Bar (short e.inaccuracy) (Some 500) ∷ []
+
+-- of a table
+abbrev pub table_cells : TableTotals → List Cell
+table_cells e =
+    Number e.pid Same ∷ Number e.table Same ∷ Number e.sections Same ∷ Checked (short e.interval) (limit_if e.limit) Ticks
+    ∷ Number e.limit Ticks ∷ Bar (short e.interval) (limit_if e.limit) ∷ []
+
+-- of a PID
+abbrev pub pid_cells : PidTotals → List Cell
+pid_cells e =
+    Number e.number Same ∷ Carried e.number ∷ Number e.packets Same ∷ Number e.pcrs Same ∷ []
+
+-- of an excess of a buffer
+abbrev pub excess_cells : CellWord → BufferExcess → List Cell
+excess_cells word e =
+    Word word ∷ Number e.pid Same ∷ Number e.packet Same ∷ Number (short e.peak) Same ∷ Number e.size Same ∷ Word words.Bytes ∷ []
+
+-- of an excess of a buffer of tables
+abbrev pub program_excess_cells : CellWord → ProgramExcess → List Cell
+program_excess_cells word e =
+    Word word ∷ Program e.program ∷ Number e.packet Same ∷ Number (short e.peak) Same ∷ Number e.size Same ∷ Word words.Bytes ∷ []
+
+-- of a late unit
+abbrev pub late_cells : LateUnit → List Cell
+late_cells e =
+    Word words.LateUnit ∷ Number e.pid Same ∷ Number e.packet Same ∷ Number (short e.by) Ticks ∷ Word words.Nothing ∷ Word words.Millis ∷ []
+
+-- of a unit too far ahead
+abbrev pub ahead_cells : FarAhead → List Cell
+ahead_cells e =
+    Word words.FarAhead ∷ Number e.pid Same ∷ Number e.packet Same ∷ Number e.by Ticks ∷ Number e.limit Ticks ∷ Word words.Millis ∷ []
+
+-- of a clock reference whose time is wrong
+abbrev pub clock_time_cells : CellWord → ClockFault → List Cell
+clock_time_cells word e =
+    Word word ∷ Number e.pid Same ∷ Number e.packet Same ∷ Number (short e.value) Ticks ∷ Number e.limit Ticks ∷ Word words.Millis ∷ []
+
+-- of an inaccurate clock reference
+abbrev pub clock_place_cells : ClockFault → List Cell
+clock_place_cells e =
+    Word words.PcrAccuracy ∷ Number e.pid Same ∷ Number e.packet Same ∷ Number (short e.value) Same ∷ Number e.limit Same ∷ Word words.Nanos ∷ []
+
+-- of a section that begins too late
+abbrev pub table_fault_cells : TableFault → List Cell
+table_fault_cells e =
+    Word words.TableRepetition ∷ Number e.pid Same ∷ Number e.packet Same ∷ Number (short e.value) Ticks ∷ Number e.limit Ticks
+    ∷ Word words.Millis ∷ []
+
+-- of packets without a moment
+abbrev pub unclocked_cells : UnclockedPackets → List Cell
+unclocked_cells e =
+    Word words.Unclocked ∷ Word words.Nothing ∷ Number e.packet Same ∷ Number e.packets Same ∷ Word words.Nothing ∷ Word words.Packets ∷ []
+
+-- of a PID and a word
+abbrev pub reference_cells : CellWord → ℕ → List Cell
+reference_cells word pid = Number pid Same ∷ Word word ∷ []
