@@ -1,4 +1,4 @@
-# What the README says, as targets. The only thing needed is the Rattle kit (`rt` on the path).
+# The targets of the README. They need only the Rattle kit (`rt` on the path). `make help` lists them.
 
 BINARY = crates/tsmux/out/tsmux
 TSJOB = crates/tsjob/out/tsjob
@@ -8,12 +8,16 @@ TSVIEW = crates/tsview/out/tsview
 PROGRAM ?= tsmux
 PREFIX ?= /usr/local
 
-.PHONY: run try install test edits bench binary tsjob tsair tsview pages picture any-stream on-air clean
+.PHONY: help run try install test check-docs edits bench binary tsjob tsair tsview pages picture any-stream on-air clean
 
-# The main job on an example: a plan is made for a radio service, and its 167 access units, four seconds of MPEG audio, become
-# a transport stream with all its tables; what is in that stream is listed, the monitor reports on it, and the stream and the plan become
-# pages: by tsview where it is built, which takes hundredths of a second, else by the same program without its proofs, in a minute or two.
-run: binary
+help: ## List the targets.
+	@sed -n 's/^\([a-z-]*\):.*## \(.*\)/\1\t\2/p' $(MAKEFILE_LIST) | while IFS="$$(printf '\t')" read -r target text; do \
+	    printf '%-12s %s\n' "$$target" "$$text"; done
+
+# Plans the radio example, multiplexes its 167 access units (four seconds of MPEG audio) with all tables, then lists and monitors the
+# result. The pages of the stream and of the plan are drawn by tsview if it is built, otherwise by the same program without its proofs,
+# which takes a minute or two.
+run: binary ## Prove and build tsmux, then multiplex the radio example (37 minutes of processor time).
 	mkdir -p out
 	$(BINARY) plan < examples/radio/radio.toml > out/radio.plan
 	cat examples/radio/radio.toml out/radio.plan examples/radio/radio.units > out/radio.job
@@ -29,71 +33,68 @@ run: binary
 	    rt try -- --plan < ../../out/radio.job > ../../out/radio-plan.html; fi
 	@ls -l out/radio.html out/radio-plan.html
 
-# The same program without its proofs, in a minute or two: it makes a plan for the radio service. With WORDS it does what they say with
-# one's own input, as in `make try WORDS='check' < JOB`, and with PROGRAM=tsjob another program does. The kit's trial run takes 64 MiB of
-# input and 1 MiB of output: enough for `plan`, `check`, `monitor` and `tsjob why`.
+# `make try WORDS='check' < JOB` runs another command, and PROGRAM=tsjob another program. The kit's trial run takes 64 MiB of input and
+# 1 MiB of output: enough for `plan`, `check`, `monitor` and `tsjob why`.
 ifdef WORDS
-try:
+try: ## Run tsmux without proofs on the radio example, or with WORDS='..' (1 to 2 minutes).
 	@cd crates/$(PROGRAM) && rt try -- $(WORDS)
 else
 try:
 	cd crates/tsmux && rt try -- plan < ../../examples/radio/radio.toml
 endif
 
-# Puts the programs that are built (`make run`, `make tsjob tsair tsview`) into PREFIX/bin.
-install:
+install: ## Copy the programs that are built to PREFIX/bin (default /usr/local).
 	@test -x $(BINARY) || test -x $(TSJOB) || test -x $(TSAIR) || test -x $(TSVIEW) || { echo "nothing is built: make run, make tsjob tsair tsview"; exit 1; }
 	mkdir -p $(PREFIX)/bin
 	@for program in $(BINARY) $(TSJOB) $(TSAIR) $(TSVIEW); do \
 	    if test -x $$program; then install -m 755 $$program $(PREFIX)/bin/ && echo $(PREFIX)/bin/$${program##*/}; fi; done
 
-# Proves, builds and links the program (with no words and no input it does nothing).
-binary:
+# With no words and no input tsmux does nothing.
+binary: ## Prove and build tsmux.
 	cd crates/tsmux && rt run < /dev/null
 
-# The same of the program that makes jobs of any stream (of no input it says `no PAT`, with status 1).
-tsjob:
+# With empty input tsjob prints `no PAT` and exits with status 1.
+tsjob: ## Prove and build tsjob (27 minutes after tsmux).
 	cd crates/tsjob && { rt run < /dev/null; test -x out/tsjob; }
 
-# The same of the program without end (of no input it says `job`, with status 1).
-tsair:
+# With empty input tsair prints `job` and exits with status 1.
+tsair: ## Prove and build tsair (4 minutes more).
 	cd crates/tsair && { rt run < /dev/null; test -x out/tsair; }
 
-# The same of the program that views a stream (of no input it says that there was no packet, with status 0).
-tsview:
+# With empty input tsview reports 0 packets and exits with status 0.
+tsview: ## Prove and build tsview (19 minutes more).
 	cd crates/tsview && { rt run < /dev/null; test -x out/tsview; }
 
-# A job on air, from a feeder to a loopback socket (examples/on-air has what it wants).
-on-air: binary tsjob tsair
+on-air: binary tsjob tsair ## Air a stream from a feeder to a loopback socket (examples/on-air).
 	sh examples/on-air/run.sh $(TSJOB) $(BINARY) $(TSAIR)
 
-# The pages of the cases, drawn in light and dark where Debian's chromium is installed, and looked at by a program; out/pages keeps them.
-pages: tsview
+# Chromium, if it is installed, draws them on light and dark paper; out/pages keeps the pictures.
+pages: tsview ## Draw the pages of the cases and check them.
 	tools/page-check $(TSVIEW) out/pages
 
-# The picture of the README: the buffer of the sound in ffmpeg's film at a constant rate, and in ours (ffmpeg and Debian's chromium).
-picture: binary tsjob tsview
+picture: binary tsjob tsview ## Draw the picture of the README (ffmpeg and Chromium).
 	tools/buffer-picture $(TSVIEW) $(TSJOB) $(BINARY) docs/buffers.png
 
-# Streams of ffmpeg and GStreamer through both programs, and what came out beside what went in (examples/README.md has what it wants).
-any-stream: binary tsjob
+any-stream: binary tsjob ## Take streams of ffmpeg and GStreamer through tsjob and tsmux (examples/README.md).
 	sh examples/any-stream/run.sh $(TSJOB) $(BINARY)
 
-# The merge gate: every proof from nothing, the must-fail edits, each test, and each program as two compilers make it; then, with the
-# programs that this has built, the cases of cases/ and the tools that put them beside plain readings and failing devices. There are as
-# many checks at once as processors: with no RT_JOBS one also waits for as much memory as it might take, which it does not (3.8 GB is the
-# most that any took).
-test:
+# `rt ci` runs every proof, the must-fail edits, each test, and each program as two compilers make it. As many checks run at once as there
+# are processors: without RT_JOBS `rt ci` would also wait for memory that a check may take, and no check takes as much (GATE).
+test: ## The merge gate: all proofs and tests (docs/GATE.md).
 	RT_JOBS=$${RT_JOBS:-$$(nproc)} rt ci
 	tools/run-tests crates/tsmux/out/tsmux crates/tsjob/out/tsjob crates/tsair/out/tsair crates/tsview/out/tsview
 
-# The wrong bodies that the gate does not try (docs/GATE.md), before a release.
-edits:
+check-docs: ## Check the documents: links, commands, claims, crate map, plain English.
+	tools/links
+	tools/claims
+	tools/crate-map --check
+	tools/plain-words
+
+edits: ## Try the wrong bodies that the gate does not try (before a release).
 	tools/try-edits
 
-# Speed, beside a program that reads, copies and writes as many packets and beside a copy of them in memory, in the same run
-# (docs/SPEED.md), and how full a multiplex `plan` fills. Needs python3 and cc beside the kit.
-bench: binary tsjob tsair tsview
+# Needs python3 and cc.
+bench: binary tsjob tsair tsview ## Measure speed and how full a multiplex can be (docs/SPEED.md).
 	python3 bench/mux.py $(BINARY)
 	python3 bench/air.py $(BINARY) $(TSAIR)
 	python3 bench/slots.py $(BINARY)
@@ -108,5 +109,5 @@ bench: binary tsjob tsair tsview
 	python3 bench/measure.py
 	python3 bench/plan.py $(BINARY) 40
 
-clean:
+clean: ## Remove everything that was built.
 	rm -rf out crates/*/out
