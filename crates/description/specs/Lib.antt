@@ -8,6 +8,7 @@ pub mod TopKeys
 pub mod NetworkKeys
 pub mod ProgramKeys
 pub mod StreamKeys
+pub mod FrameKeys
 pub mod EventKeys
 pub mod TableKeys
 pub mod Refusals

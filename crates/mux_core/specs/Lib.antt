@@ -10,3 +10,4 @@ pub mod DecodedRuns
 pub mod NewMux
 pub mod WholeJobs
 pub mod Events
+pub mod FramesKept

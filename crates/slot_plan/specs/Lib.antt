@@ -11,6 +11,7 @@ pub mod Claims
 pub mod Conditions
 pub mod Shape
 pub mod SwitchConditions
+pub mod FrameConditions
 pub mod PlanTexts
 pub mod Schedule
 pub mod TableRounds

@@ -3,6 +3,8 @@ pub mod UnitBytes
 pub mod ConstantRates
 pub mod AllMoments
 mod Examples
+mod VideoExamples
+pub mod VideoCauses
 pub mod EvenBytes
 pub mod TableRows
 pub mod TablePeaks

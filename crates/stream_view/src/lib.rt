@@ -5,6 +5,7 @@
 //! - [`DueTime`], [`UnitSeen`]: when a unit is due, and when it came.
 //! - [`RowFound`]: what the bytes of one row found.
 //! - [`MainWatch`]: excesses of the main buffer, row by row.
+//! - [`late_cause`]: why a unit of video is late, by its multiplexing buffer alone or by a full elementary stream buffer.
 //! - [`SystemView`]: the two buffers of a program's tables, with each excess of both.
 //! - [`WatchedQueue`]: a buffer that bytes pass one after another, with its excesses.
 //! - [`laws`]: what the figures are over all moments, and that at a constant rate they are those of the model of finished bytes.
@@ -17,6 +18,7 @@
 mod arrival;
 mod buffers;
 mod even_bytes;
+mod late_cause;
 pub mod laws;
 mod main_watch;
 mod row_found;
@@ -27,6 +29,7 @@ mod view;
 mod watched_queue;
 
 pub use buffers::StreamView;
+pub use late_cause::{LateCause, late_cause};
 pub use main_watch::MainWatch;
 pub use row_found::RowFound;
 pub use system_buffers::{EndedExcesses, SYSTEM_BYTES, SystemView, TABLE_TRANSPORT_BYTES};
