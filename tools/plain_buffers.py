@@ -221,6 +221,13 @@ def video(kind, first, most):
     return None
 
 
+def leak(kind, first, most):
+    """The keys of a stream's multiplexing buffer, none if it is not video: 19 bytes less than MBS, for a PES packet header that the
+    standard lets leave MB with the byte after it."""
+    sizes = video(kind, first, most)
+    return {"rbx": sizes[2], "mb": sizes[3] - 19 if sizes[3] > 19 else sizes[3]} if sizes else {}
+
+
 def joined_buffers(kind, loop, number, first):
     """(rx, main) with the multiplexing buffer and the elementary stream buffer of video as one."""
     sizes = video(kind, first, 0)

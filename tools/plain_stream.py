@@ -155,8 +155,13 @@ def descriptors(data):
         data = data[2 + data[1]:]
 
 
+def of_multiplex(tag, body):
+    """Whether a descriptor speaks of the rates and buffers of the multiplex in which it stands: 12, 14, 16, STD without leak, managed HRD."""
+    return tag in (12, 14, 16) or tag == 17 and body[:1] != b"" and not body[0] & 1 or tag == 42 and body[:1] >= b"\x80"
+
+
 def kept(data):
-    return b"".join(bytes([tag, len(body)]) + body for tag, body in descriptors(data) if tag != 9)
+    return b"".join(bytes([tag, len(body)]) + body for tag, body in descriptors(data) if tag != 9 and not of_multiplex(tag, body))
 
 
 def loops(data, head):

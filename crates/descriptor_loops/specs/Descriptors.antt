@@ -1,5 +1,5 @@
 -- The descriptors of a loop (ISO/IEC 13818-1, 2.6): a tag, the number of the bytes after it, and these bytes.
-use Rattle.std.specs.Prelude.{ℕ, zero, suc, ◌==◌, nat_lt, Bool, if◌then◌else◌, List, [], ◌∷◌, length, take, drop, flat_map, Option, Some, None}
+use Rattle.std.specs.Prelude.{ℕ, zero, suc, ◌/◌, ◌%◌, ◌==◌, ◌||◌, ◌&&◌, nat_lt, Bool, false, if◌then◌else◌, List, [], ◌∷◌, length, take, drop, flat_map, Option, Some, None}
 use Rattle.std.specs.Option.{option_map_or}
 use Rattle.std.specs.List.{list_any}
 use Rattle.descriptor_loops.specs.declared.descriptors.Descriptor.{Descriptor}
@@ -46,10 +46,33 @@ is_ca d = is_tagged 9 d
 unfoldable pub has_ca : List ℕ → Bool
 has_ca bytes = has_tag 9 bytes
 
--- a descriptor's bytes, but for those of conditional access
-unfoldable pub kept_bytes : DescriptorView → List ℕ
-kept_bytes d = if is_ca d then [] else d.tag ∷ d.size ∷ d.body
+-- 2. Descriptors of a multiplex: what they say of rates and buffers holds of the multiplex that they stand in, and of no other
 
--- the whole descriptors of a loop but for those of conditional access
+-- an STD_descriptor (2.6.32): where leak_valid_flag, the last bit of its byte, is 0, bytes go from the multiplexing buffer into the
+-- elementary stream buffer at the times that vbv_delay says
+unfoldable pub is_by_vbv_delay : List ℕ → Bool
+is_by_vbv_delay [] = false
+is_by_vbv_delay (b ∷ rest) = b % 2 == 0
+
+-- an AVC_timing_and_HRD_descriptor (2.6.66): where hrd_management_valid_flag, its first bit, is 1, they go at the times of the HRD
+unfoldable pub is_by_hrd : List ℕ → Bool
+is_by_hrd [] = false
+is_by_hrd (b ∷ rest) = b / 128 == 1
+
+-- these two; multiplex_buffer_utilization_descriptor (2.6.22), maximum_bitrate_descriptor (2.6.26), smoothing_buffer_descriptor (2.6.30)
+unfoldable pub is_of_multiplex : DescriptorView → Bool
+is_of_multiplex d =
+    d.tag == 12 || d.tag == 14 || d.tag == 16 || (d.tag == 17 && is_by_vbv_delay d.body) || (d.tag == 42 && is_by_hrd d.body)
+
+unfoldable pub has_of_multiplex : List ℕ → Bool
+has_of_multiplex bytes = list_any is_of_multiplex (descriptors_in bytes)
+
+-- 3. What is kept of a loop
+
+-- a descriptor's bytes, but for those of conditional access and of a multiplex
+unfoldable pub kept_bytes : DescriptorView → List ℕ
+kept_bytes d = if is_ca d || is_of_multiplex d then [] else d.tag ∷ d.size ∷ d.body
+
+-- the whole descriptors of a loop but for these
 unfoldable pub kept_descriptors : List ℕ → List ℕ
 kept_descriptors bytes = flat_map kept_bytes (descriptors_in bytes)

@@ -1,13 +1,14 @@
-//! A loop without the descriptors of conditional access.
+//! A loop without the descriptors of conditional access and of a multiplex.
 
 ghost use Rattle.std.specs.Prelude.{◌≡◌, ◌++◌, IfOk, OnOk};
 ghost use Rattle.descriptor_loops.specs.Descriptors as spec;
 
 use crate::descriptors::{Descriptor, Descriptors};
+use crate::multiplex::is_of_multiplex;
 use crate::tags::is_ca;
 use std::alloc::{AllocError, Allocator};
 
-// A descriptor, unless it is of conditional access.
+// A descriptor, unless it is of conditional access or of a multiplex.
 #[tactic(auto, unfolding(crate::specs::Descriptors::kept_bytes))]
 fn append_kept<A: Allocator>(
     descriptor: Descriptor<'_>,
@@ -15,7 +16,7 @@ fn append_kept<A: Allocator>(
 ) -> Result<(), AllocError>
     ensures { OnOk result (out.new.items ≡ out.old.items ++ spec.kept_bytes (spec.descriptor_view descriptor.entry)) }
 {
-    if is_ca(descriptor) {
+    if is_ca(descriptor) || is_of_multiplex(descriptor) {
         return Ok(());
     }
     out.push(descriptor.tag)?;
@@ -23,7 +24,7 @@ fn append_kept<A: Allocator>(
     out.extend_from_slice(descriptor.body)
 }
 
-/// The bytes of the whole descriptors, in order, but for those of conditional access.
+/// The bytes of the whole descriptors, in order, but for those of conditional access and of a multiplex.
 #[tactic(auto, unfolding(crate::specs::Descriptors::kept_descriptors))]
 pub fn kept_descriptors<A: Allocator>(alloc: A, bytes: &[u8]) -> Result<Vec<u8, A>, AllocError>
     ensures { IfOk result (λ kept. kept.items ≡ spec.kept_descriptors bytes.now) }

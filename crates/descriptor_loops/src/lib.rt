@@ -5,8 +5,10 @@
 
 mod descriptors;
 mod kept;
+mod multiplex;
 mod tags;
 
 pub use descriptors::{Descriptor, Descriptors, first_descriptor};
 pub use kept::kept_descriptors;
+pub use multiplex::has_of_multiplex;
 pub use tags::{has_ca, has_tag};

@@ -21,6 +21,7 @@ use Rattle.job_lines.specs.InformationLines.{information_line}
 unfoldable pub table_line : TableOmission → List ℕ
 table_line (table.NoMap program) = codes "program " ++ decimal program ++ codes " has no PMT: left out\n"
 table_line (table.ConditionalAccess program) = codes "CA descriptors of program " ++ decimal program ++ codes " left out\n"
+table_line (table.Multiplex program) = codes "multiplex descriptors of program " ++ decimal program ++ codes " left out\n"
 table_line (table.NoPes program pid stream_type) = codes "pid " ++ decimal pid ++ codes " of program " ++ decimal program ++ codes " stream_type " ++ decimal stream_type ++ codes " has no PES: left out\n"
 table_line (table.Reserved program pid) = codes "pid " ++ decimal pid ++ codes " of program " ++ decimal program ++ codes " is none of a stream: left out\n"
 table_line (table.Taken program pid holder) = codes "pid " ++ decimal pid ++ codes " of program " ++ decimal program ++ codes " stands in program " ++ decimal holder ++ codes " already: left out\n"

@@ -23,6 +23,12 @@ fn write_table(left_out: TableOmission, text: &mut String) -> Result<(), AllocEr
         TableOmission::ConditionalAccess { program } => {
             write!(text, "CA descriptors of program {program} left out\n")
         }
+        TableOmission::Multiplex { program } => {
+            write!(
+                text,
+                "multiplex descriptors of program {program} left out\n"
+            )
+        }
         TableOmission::NoPes {
             program,
             pid,

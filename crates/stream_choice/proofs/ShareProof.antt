@@ -3,10 +3,9 @@ use Rattle.std.proofs.Common.{◌≡◌, ℕ, zero-mul, ◌+◌, ◌-◌, ◌*�
 use Rattle.std.specs.Int.{div_ceil}
 use Rattle.clock27.specs.Units.{slot_units_at_1bps}
 use Rattle.clock27.specs.Units.{byte_units_at_1bps}
-use Rattle.unit_timing.specs.Buffers.{tb_size}
 use Rattle.unit_timing.specs.Shares.{parts}
 use Rattle.unit_timing.specs.declared.allowance.Allowance.TheVariants.{Groups, Pace}
-use Rattle.stream_choice.specs.Shares.{packets_in_row, share_for_time, packet_distance, lateness, transport_delay}
+use Rattle.stream_choice.specs.Shares.{packets_in_row, share_for_time, packet_distance, lateness, held_bytes, delay_before}
 use Rattle.stream_choice.specs.ShareLaws.{ShareLaw}
 use Rattle.stream_choice.proofs.Quotients.{some_of}
 use Rattle.stream_choice.proofs.ShareTimes.{IsFree, is_free, freer, held_by, group_held, row_held}
@@ -24,9 +23,9 @@ distance : (g s s' n c r : ℕ) → parts ≤ g * s → s ≤ s' → s' * slot_u
 distance g s s' n c r one le enough =
     omega (arith, mul-le-mul_right n one, mul-le-mul_right n (mul-le-mul_left g le), mul-le-mul_left g enough)
 
--- a whole buffer
-buffer : (w x r p : ℕ) → tb_size * byte_units_at_1bps ≤ w * x → p ≤ tb_size * r → p * byte_units_at_1bps ≤ w * x * r
-buffer w x r p one room = omega (arith, mul-le-mul_right r one, room)
+-- what waits in a buffer
+waited : (h w x r p : ℕ) → h * byte_units_at_1bps ≤ w * x → p ≤ h * r → p * byte_units_at_1bps ≤ w * x * r
+waited h w x r p one room = omega (arith, mul-le-mul_right r one, room)
 
 -- all of them together
 together : (a w n c p x d e f g r : ℕ) → a ≤ 2 * c + n → w * n * slot_units_at_1bps ≤ c * r * f → 3 * slot_units_at_1bps ≤ e * r → n * slot_units_at_1bps ≤ g * (c * r) →
@@ -48,19 +47,20 @@ positive : (a b : ℕ) → 1 ≤ a → 1 ≤ b → 0 < a * b
 positive a b p q = omega (arith, mul-le-mul_right b p, q)
 
 pub share_law : ShareLaw
-share_law needs (Groups group packets) lead share all rate own ranges units some found has =
-    let w : ℕ = transport_delay needs.rx all in
+share_law buffer needs (Groups group packets) lead share all rate own ranges units some found has =
+    let held : ℕ = held_bytes buffer in
+    let w : ℕ = delay_before buffer needs all in
     let h : IsFree needs group packets w lead share = is_free needs group packets w lead share found in
     let interval : 0 < group * needs.interval = positive group needs.interval units.some_units ranges.some_interval in
     let first : ℕ = share_for_time needs group packets h.first in
-    let d : ℕ = div_ceil (tb_size * byte_units_at_1bps) needs.rx in
+    let d : ℕ = div_ceil (held * byte_units_at_1bps) needs.rx in
     let e : ℕ = div_ceil (3 * parts) all in
     let group_share : parts * packets ≤ share * (group * needs.interval) = subst (λ (s : ℕ). parts * packets ≤ s * (group * needs.interval)) (sym h.same) (group_held needs group packets h.free interval) in
     let grown : first ≤ share = subst (λ (s : ℕ). first ≤ s) (sym h.same) (freer needs group packets h.free h.first h.some_free h.order) in
     let one : own.period * slot_units_at_1bps ≤ packet_distance first * (own.count * rate) =
     distance (packet_distance first) first share own.period own.count rate (held_by parts first (some_of packets first (group * needs.interval) units.some_packets (group_held needs group packets h.first interval))) grown has.enough in
     let three : 3 * slot_units_at_1bps ≤ e * rate = slots e all rate (held_by (3 * parts) all some) has.fast in
-    let room : own.peak * byte_units_at_1bps ≤ d * needs.rx * rate = buffer d needs.rx rate own.peak (held_by (tb_size * byte_units_at_1bps) needs.rx (omega (arith, ranges.least_rx))) has.room in
+    let room : own.peak * byte_units_at_1bps ≤ d * needs.rx * rate = waited held d needs.rx rate own.peak (held_by (held * byte_units_at_1bps) needs.rx (omega (arith, ranges.least_rx))) has.room in
     record {
       rate_serves = omega (arith, sent packets share (group * needs.interval) own.period own.count rate group_share has.enough);
       lead_serves = λ m pos le.
@@ -71,16 +71,17 @@ share_law needs (Groups group packets) lead share all rate own ranges units some
           let all = together own.spread (packets_in_row needs packets m) own.period own.count own.peak needs.rx d e free (packet_distance first) rate has.even row three one room in
           rw sum (all);
     }
-share_law needs (Pace burst pace) lead share all rate own ranges within some asks has =
-    let d : ℕ = div_ceil (tb_size * byte_units_at_1bps) needs.rx in
+share_law buffer needs (Pace burst pace) lead share all rate own ranges within some asks has =
+    let held : ℕ = held_bytes buffer in
+    let d : ℕ = div_ceil (held * byte_units_at_1bps) needs.rx in
     let e : ℕ = div_ceil (3 * parts) all in
-    let late : ℕ = lateness (transport_delay needs.rx all) share in
+    let late : ℕ = lateness (delay_before buffer needs all) share in
     let pays : parts * pace ≤ share * slot_units_at_1bps = subst (λ (s : ℕ). parts * pace ≤ s * slot_units_at_1bps) (sym asks.0) (held_by (parts * pace) slot_units_at_1bps (omega arith)) in
     let pos : 0 < share = some_of pace share slot_units_at_1bps within.some_pace pays in
     let one : own.period * slot_units_at_1bps ≤ packet_distance share * (own.count * rate) =
     distance (packet_distance share) share share own.period own.count rate (held_by parts share pos) (omega arith) has.enough in
     let three : 3 * slot_units_at_1bps ≤ e * rate = slots e all rate (held_by (3 * parts) all some) has.fast in
-    let room : own.peak * byte_units_at_1bps ≤ d * needs.rx * rate = buffer d needs.rx rate own.peak (held_by (tb_size * byte_units_at_1bps) needs.rx (omega (arith, ranges.least_rx))) has.room in
+    let room : own.peak * byte_units_at_1bps ≤ d * needs.rx * rate = waited held d needs.rx rate own.peak (held_by (held * byte_units_at_1bps) needs.rx (omega (arith, ranges.least_rx))) has.room in
     let free : 0 < lead - late = some_time burst share (lead - late) within.some_burst asks.1 in
     let row = sent burst share (lead - late) own.period own.count rate asks.1 has.enough in
     let all = together own.spread burst own.period own.count own.peak needs.rx d e (lead - late) (packet_distance share) rate has.even row three one room in

@@ -1,16 +1,16 @@
 -- What a share is for: own slots of that share serve the stream.
-use Rattle.std.specs.Prelude.{◌≡◌, ℕ, ◌+◌, ◌-◌, ◌*◌, ◌<◌, ◌≤◌, Some}
+use Rattle.std.specs.Prelude.{◌≡◌, ℕ, ◌+◌, ◌-◌, ◌*◌, ◌<◌, ◌≤◌, Option, Some}
 use Rattle.clock27.specs.Units.{slot_units_at_1bps}
-use Rattle.unit_timing.specs.Buffers.{tb_size}
 use Rattle.unit_timing.specs.declared.allowance.Allowance.{Allowance}
 use Rattle.unit_timing.specs.declared.allowance.Allowance.TheVariants.{Groups, Pace}
 use Rattle.unit_timing.specs.Allowances.{allowance_rows}
 use Rattle.unit_timing.specs.Conditions.{Share, rate_needed, rate_given, lead_needed, time_given}
 use Rattle.unit_timing.specs.Plans.{Declaration}
+use Rattle.unit_timing.specs.declared.multiplexing_buffer.MultiplexingBuffer.{MultiplexingBuffer}
 use Rattle.stream_choice.specs.declared.needs.Needs.{Needs}
 use Rattle.stream_choice.specs.Ranges.{IsNeeds, IsAllowance}
 use Rattle.unit_timing.specs.Shares.{parts}
-use Rattle.stream_choice.specs.Shares.{packets_of_unit, transport_delay, lateness, pace_share, lead_share}
+use Rattle.stream_choice.specs.Shares.{packets_of_unit, held_bytes, delay_before, lateness, pace_share, lead_share}
 
 -- what is declared with an allowance and a lead
 abbrev pub declared : Needs → Allowance → ℕ → Declaration
@@ -24,19 +24,18 @@ declared needs allowance lead = record {
   allowance = allowance;
 }
 
--- the share that is asked for with a transport delay: that of a group's lead; or that of the pace, whose burst comes
--- within the lead
+-- the share that is asked for with a delay: that of a group's lead; or that of the pace, whose burst comes within the lead
 abbrev pub AsksFor : Needs → Allowance → ℕ → ℕ → ℕ → Type 0
 AsksFor needs (Groups group packets) delay lead share = lead_share needs group packets delay lead ≡ Some share
 AsksFor needs (Pace burst pace) delay lead share = (share ≡ pace_share pace) × (parts * burst ≤ share * (lead - lateness delay share))
 
 -- own slots of a plan at that rate: they are no fewer than the share asks for, they stray from even spacing by at most
--- one of their distances and two slots, and they leave at most a whole transport buffer; and the output has no fewer
--- slots than all the least shares ask for
-pub record HasShare (rate share all : ℕ) (own : Share) : Type 0 where
+-- one of their distances and two slots, and they leave at most so many bytes in the last buffer before that of units; and the
+-- output has no fewer slots than all the least shares ask for
+pub record HasShare (held rate share all : ℕ) (own : Share) : Type 0 where
   pub enough : share * slot_units_at_1bps * own.period ≤ parts * (own.count * rate)
   pub even : own.spread ≤ 2 * own.count + own.period
-  pub room : own.peak ≤ tb_size * rate
+  pub room : own.peak ≤ held * rate
   pub fast : all * slot_units_at_1bps ≤ parts * rate
 
 -- the conditions on packets in the long run, and on the last of m units in a row
@@ -44,9 +43,10 @@ pub record IsServed (rate : ℕ) (own : Share) (s : Declaration) : Type 0 where
   pub rate_serves : rate_needed s own ≤ rate_given rate s own
   pub lead_serves : (m : ℕ) → 0 < m → m ≤ allowance_rows s.allowance → lead_needed s own m ≤ time_given rate s own.count m
 
--- where the share of a lead was found with the transport delay of an output that all ask for, own slots of the share
--- serve it
+-- where the share of a lead was found with the delay of an output that all ask for, own slots of the share serve it: with a multiplexing
+-- buffer at its leak, if that is what the needs have for the drain
 abbrev pub ShareLaw : Type 0
-ShareLaw = (needs : Needs) (allowance : Allowance) (lead share all rate : ℕ) (own : Share) → IsNeeds needs → IsAllowance allowance → 0 < all →
-    AsksFor needs allowance (transport_delay needs.rx all) lead share → HasShare rate share all own →
+ShareLaw = (buffer : Option MultiplexingBuffer) (needs : Needs) (allowance : Allowance) (lead share all rate : ℕ) (own : Share) →
+    IsNeeds needs → IsAllowance allowance → 0 < all →
+    AsksFor needs allowance (delay_before buffer needs all) lead share → HasShare (held_bytes buffer) rate share all own →
     IsServed rate own (declared needs allowance lead)

@@ -5,6 +5,7 @@ use Rattle.clock27.specs.Units.{byte_units_at_1bps, slot_units_at_1bps}
 use Rattle.own_slots.specs.Extremes.{greatest, least}
 use Rattle.unit_timing.specs.Buffers.{tb_size}
 use Rattle.unit_timing.specs.Shares.{parts}
+use Rattle.unit_timing.specs.declared.multiplexing_buffer.MultiplexingBuffer.{MultiplexingBuffer}
 use Rattle.stream_choice.specs.declared.needs.Needs.{Needs}
 
 -- the share of packets in a time
@@ -58,7 +59,23 @@ pace_share pace = share_in slot_units_at_1bps pace
 abbrev pub least_share : Needs → List ℕ → ℕ
 least_share needs max_packets = least (2 ^ 64 - 1) (length max_packets) (λ i. group_share needs (i + 1) (slice_index max_packets i))
 
--- the longest time from a packet's slot to its end in the transport buffer: a whole buffer before it, and three slots of
--- an output of that share
-abbrev pub transport_delay : ℕ → ℕ → ℕ
-transport_delay rx share = div_ceil (tb_size * byte_units_at_1bps) rx + div_ceil (3 * parts) share
+-- the longest time from a packet's slot to its end in a buffer of which at most so many bytes wait with it, by the rate out of that
+-- buffer: all of them before it, and three slots of an output of that share
+abbrev pub buffer_delay : ℕ → ℕ → ℕ → ℕ
+buffer_delay bytes drain share = div_ceil (bytes * byte_units_at_1bps) drain + div_ceil (3 * parts) share
+
+-- the bytes that wait at most after a packet, before the buffer of units: those of a whole transport buffer; with a multiplexing buffer those
+-- of four packets in it, since own slots that stray from even spacing by two of their distances bring no more at once, and a byte that is
+-- still in the transport buffer
+unfoldable pub held_bytes : Option MultiplexingBuffer → ℕ
+held_bytes None = tb_size
+held_bytes (Some b) = max (min b.size 752) tb_size + 1
+
+-- what is known of a stream, with the leak of its multiplexing buffer for the rate out of its transport buffer (ISO/IEC 13818-1, 2.4.2.3)
+unfoldable pub leaking_needs : Option MultiplexingBuffer → Needs → Needs
+leaking_needs None needs = needs
+leaking_needs (Some b) needs = record { interval = needs.interval; size = needs.size; rx = b.rbx; main = needs.main }
+
+-- the longest time from a packet's slot to its end in the last buffer before that of units, out of which bytes go at `rx` bits a second
+abbrev pub delay_before : Option MultiplexingBuffer → Needs → ℕ → ℕ
+delay_before buffer needs share = buffer_delay (held_bytes buffer) needs.rx share

@@ -3,8 +3,8 @@
 ghost use Rattle.stream_choice.specs.ShareLaws.{ShareLaw};
 
 /// Own slots of a stream's share serve it: where they are no fewer than the share asks for, stray from even spacing by
-/// at most one of their distances and two slots, and keep the transport buffer, groups of units have slots enough, and
-/// units in a row have left the transport buffer by their decoding times.
+/// at most one of their distances and two slots, and leave no more than is reckoned with in the last buffer before that of
+/// units, groups of units have slots enough, and units in a row have left that buffer by their decoding times.
 pub fn shares_serve()
     ensures { ShareLaw }
 {}

@@ -3,7 +3,8 @@
 //!
 //! A stream's share is the packets that it asks for in a unit of 90 kHz (`specs/Shares`): those of its groups, one
 //! after another, and those of a few units in a row, which must have left the transport buffer by their decoding
-//! times; or those of a pace, at which a burst must have come by then. A longer lead asks for a smaller share and for
+//! times; or those of a pace, at which a burst must have come by then. Of a stream with a multiplexing buffer they must
+//! have left that too, so its leak is the drain that counts. A longer lead asks for a smaller share and for
 //! a greater main buffer (`specs/Buffers`). Of the groups and leads that are tried (`specs/Leads`) the one with the
 //! least share is chosen that the stream's buffers hold (`specs/Choices`). A pace is found by halving the range of
 //! paces (`specs/Paces`); how many packets the units have over a pace is asked of them through `PacedUnits`. Of both
@@ -34,4 +35,4 @@ pub use ranges::are_max_packets;
 pub use rates::least_rate;
 pub use recurring::Recurring;
 pub use selection::choose_groups;
-pub use shares::{least_share, transport_delay};
+pub use shares::{delay_before, leaking_needs, least_share};

@@ -7,7 +7,11 @@ ghost use Rattle.stream_choice.specs.Shares as spec;
 use crate::needs::{Needs, packets_in_row};
 use clock27::{BYTE_UNITS_AT_1BPS, SLOT_UNITS_AT_1BPS};
 use unit_timing::buffers::TB_SIZE;
+use unit_timing::multiplexing_buffer::MultiplexingBuffer;
 use unit_timing::shares::PARTS;
+
+/// The most bytes of a multiplexing buffer that are reckoned with after a packet: those of four.
+const STRAYED_BYTES: u64 = 4 * 188;
 
 /// The share of `packets` packets in a time, in units of 90 kHz.
 fn share_in(time: u64, packets: u64) -> u64
@@ -128,15 +132,57 @@ pub fn least_share(needs: Needs, max_packets: &[u32]) -> u64
     least
 }
 
-/// The longest time from a packet's slot to its end in the transport buffer, in units of 90 kHz: until a whole buffer
-/// of 512 bytes is drained at `rx` bits/s, and three slots of an output of that share. The share is the sum of the
-/// least ones of its streams, so the delay does not depend on what they choose.
-pub fn transport_delay(rx: u32, share: u64) -> u32
-    requires rx { 1 ≤ rx }
+/// The longest time from a packet's slot to its end in a buffer of which at most so many bytes wait, in units of 90 kHz.
+fn buffer_delay(bytes: u64, drain: u32, share: u64) -> u32
+    requires some { 1 ≤ bytes }
+    requires most { bytes ≤ 753 }
+    requires drain { 1 ≤ drain }
     requires share { 2 ^ 17 ≤ share }
-    ensures value { result ≡ spec.transport_delay rx share }
+    ensures value { result ≡ spec.buffer_delay bytes drain share }
     ensures lower { 2 ≤ result }
 {
-    let buffer = TB_SIZE * BYTE_UNITS_AT_1BPS as u64;
-    (buffer.div_ceil(u64::from(rx)) + (3 * PARTS).div_ceil(share)) as u32
+    let buffer = bytes * BYTE_UNITS_AT_1BPS as u64;
+    (buffer.div_ceil(u64::from(drain)) + (3 * PARTS).div_ceil(share)) as u32
+}
+
+/// The bytes that wait at most after a packet, before the buffer of units.
+#[tactic(auto, unfolding(crate::specs::Shares::held_bytes))]
+fn held_bytes(buffer: Option<MultiplexingBuffer>) -> u64
+    ensures value { result ≡ spec.held_bytes buffer }
+    ensures lower { 1 ≤ result }
+    ensures upper { result ≤ 753 }
+{
+    match buffer {
+        None => TB_SIZE,
+        Some(buffer) => u64::from(buffer.size).min(STRAYED_BYTES).max(TB_SIZE) + 1,
+    }
+}
+
+/// Returns what is known of a stream with the leak of its multiplexing buffer, if it has one, for the rate out of its
+/// transport buffer: the last drain before the buffer of units.
+#[tactic(auto, unfolding(crate::specs::Shares::leaking_needs))]
+pub fn leaking_needs(buffer: Option<MultiplexingBuffer>, needs: Needs) -> Needs
+    ensures { result ≡ spec.leaking_needs buffer needs }
+{
+    match buffer {
+        None => needs,
+        Some(buffer) => Needs {
+            interval: needs.interval,
+            size: needs.size,
+            rx: buffer.rbx,
+            main: needs.main,
+        },
+    }
+}
+
+/// Returns the longest time from a packet's slot to its end in the last buffer before that of units, in units of 90 kHz:
+/// until all bytes that wait in it are drained at `rx` bits/s, and three slots of an output of that share. The share is
+/// the sum of the least ones of its streams, so the delay does not depend on what they choose.
+pub fn delay_before(buffer: Option<MultiplexingBuffer>, needs: Needs, share: u64) -> u32
+    requires rx { 1 ≤ needs.rx }
+    requires share { 2 ^ 17 ≤ share }
+    ensures value { result ≡ spec.delay_before buffer needs share }
+    ensures lower { 2 ≤ result }
+{
+    buffer_delay(held_bytes(buffer), needs.rx, share)
 }

@@ -2,12 +2,12 @@
 -- its main buffer in bytes, which of video is the elementary stream buffer, behind a multiplexing buffer.
 use Rattle.std.specs.Prelude.{ℕ, ◌+◌, ◌/◌, ◌==◌, nat_le, nat_lt, min, if◌then◌else◌, List, find, Option, Some, None, option_map}
 use Rattle.std.specs.Option.{option_map_or}
+use Rattle.unit_timing.specs.declared.multiplexing_buffer.MultiplexingBuffer.{MultiplexingBuffer}
 use Rattle.stream_coding.specs.declared.coding.Coding.{Coding}
 use Rattle.stream_coding.specs.declared.coding.Coding.TheVariants.{Mpeg, Avc, Hevc, Audio, Aac, Ac3, Subtitles, Teletext, Other}
 use Rattle.stream_coding.specs.declared.coding.AvcSequence.{AvcSequence}
 use Rattle.stream_coding.specs.declared.coding.MpegSequence.{MpegSequence}
 use Rattle.stream_coding.specs.declared.buffers.Buffers.{Buffers}
-use Rattle.stream_coding.specs.declared.buffers.MultiplexingBuffer.{MultiplexingBuffer}
 use Rattle.stream_coding.specs.declared.buffers.PidBuffers.{PidBuffers}
 use Rattle.stream_coding.specs.declared.video_buffers.VideoBuffers.{VideoBuffers}
 use Rattle.stream_coding.specs.Video.{avc_buffers, hevc_buffers, mpeg_buffers, video_buffers}

@@ -5,14 +5,7 @@ ghost use Rattle.stream_coding.specs.Buffers as spec;
 
 use crate::coding::{AvcSequence, Coding, MpegSequence};
 use crate::video_buffers::{VideoBuffers, avc_buffers, hevc_buffers, mpeg_buffers, video_buffers};
-
-/// The multiplexing buffer of video, MB: the rate in bits a second at which bytes go from it into the elementary stream
-/// buffer, Rbx, and its size in bytes, MBS.
-#[derive(Clone, Copy)]
-pub struct MultiplexingBuffer {
-    pub rbx: u32,
-    pub size: u32,
-}
+use unit_timing::multiplexing_buffer::MultiplexingBuffer;
 
 /// The rate out of the transport buffer in bits a second, Rx, and the main buffer in bytes: of video the elementary
 /// stream buffer, EBS, with the multiplexing buffer before it.

@@ -19,7 +19,7 @@ mod video_buffers;
 
 pub use ac3::is_ac3;
 pub use buffers::{
-    Buffers, MultiplexingBuffer, PidBuffers, buffers_of, coding_holding, given_buffers,
-    joined_buffers_of, multiplexing_of,
+    Buffers, PidBuffers, buffers_of, coding_holding, given_buffers, joined_buffers_of,
+    multiplexing_of,
 };
 pub use coding::{AvcSequence, Coding, HevcSequence, MpegSequence, coding_of};

@@ -5,11 +5,11 @@ use Rattle.demux.specs.Views.{FindingView}
 use Rattle.stream_programs.specs.Association.{association}
 use Rattle.stream_programs.specs.PidAssignment.{assigned_pids}
 use Rattle.stream_programs.specs.Programs.{programs_of}
-use Rattle.stream_choice.specs.declared.choice.Choice.{Choice}
 use Rattle.stream_jobs.specs.declared.warning.Warning.{Warning}
 use Rattle.stream_jobs.specs.declared.refusal.JobRefusal.TheVariants as refusals
 use Rattle.stream_jobs.specs.Answers.{and_then, unless}
 use Rattle.stream_jobs.specs.ClockBases.{base0_of}
+use Rattle.stream_jobs.specs.declared.declarations.StreamChoice.{StreamChoice}
 use Rattle.stream_jobs.specs.Declarations.{UnitCountsView, too_many, too_long, all_unit_counts, choices}
 use Rattle.stream_jobs.specs.JobInput.{JobInputView, job_input, with_association, with_programs, with_pids, with_streams, with_moved, with_unit_counts, job_warnings, named_of, nothing_carried, tables_of}
 use Rattle.stream_jobs.specs.Information.{JobInformationView, information_of}
@@ -36,7 +36,7 @@ made : (options : JobOptionsView) (information : JobInformationView) (base : ℕ
     with_moved options information base programs tables warnings streams ≡ Ok input → Made information base programs tables streams input
 unfolding with_moved with_unit_counts
 made options information base programs tables warnings streams input is =
-    let finish = λ (all : List UnitCountsView) (chosen : List Choice). (let i : JobInputView = record {
+    let finish = λ (all : List UnitCountsView) (chosen : List StreamChoice). (let i : JobInputView = record {
       information = information;
       base0 = base;
       programs = programs;

@@ -1,24 +1,26 @@
 -- What a description declares of the streams of a job.
-use Rattle.std.specs.Prelude.{ℕ, ◌+◌, ◌-◌, ◌*◌, ◌/◌, ◌^◌, ◌==◌, ◌&&◌, min, max, nat_lt, Bool, if◌then◌else◌, List, [], ◌∷◌, length, map, find, zip, sum_by, unwrap_or, ok_or, Option, Some, None, option_map, Result, Ok}
+use Rattle.std.specs.Prelude.{ℕ, ◌+◌, ◌-◌, ◌*◌, ◌/◌, ◌^◌, ◌==◌, ◌&&◌, min, max, nat_lt, Bool, if◌then◌else◌, List, [], ◌∷◌, length, map, find, zip, sum_by, unwrap_or, ok_or, Option, Some, None, is_some, option_map, Result, Ok}
 use Rattle.std.specs.List.{range_with_len}
 use Rattle.clock27.specs.Units.{slot_units_at_1bps}
 use Rattle.clock27.specs.declared.rate.TheConstants.{LEAST_RATE}
 use Rattle.pes_packet.specs.AccessUnits.{AccessUnit}
 use Rattle.pes_packet.specs.StreamIds.{greatest_size}
 use Rattle.unit_timing.specs.Shares.{parts}
+use Rattle.unit_timing.specs.declared.multiplexing_buffer.MultiplexingBuffer.{MultiplexingBuffer}
 use Rattle.stream_choice.specs.Choices.{groups_choice, preferred}
 use Rattle.stream_choice.specs.Paces.{pace_choice}
 use Rattle.stream_choice.specs.Ranges.{is_needs, are_max_packets}
-use Rattle.stream_choice.specs.Shares.{least_share, transport_delay}
+use Rattle.stream_choice.specs.Shares.{delay_before, leaking_needs, least_share}
 use Rattle.stream_choice.specs.declared.choice.Choice.{Choice}
 use Rattle.stream_choice.specs.declared.needs.Needs.{Needs}
-use Rattle.stream_coding.specs.Buffers.{buffers_of, coding_holding, given_buffers}
+use Rattle.stream_coding.specs.Buffers.{buffers_of, coding_holding, given_buffers, multiplexing_of}
 use Rattle.stream_coding.specs.Codings.{coding_of}
 use Rattle.stream_coding.specs.declared.coding.Coding.{Coding}
 use Rattle.stream_coding.specs.declared.buffers.Buffers.{Buffers}
 use Rattle.stream_coding.specs.declared.buffers.PidBuffers.{PidBuffers}
 use Rattle.stream_units.specs.UnitRuns.{UnitRunsView, runs_burst}
 use Rattle.stream_units.specs.Declaration.{min_interval, max_unit_size, group_packets, burst_packets}
+use Rattle.stream_jobs.specs.declared.declarations.StreamChoice.{StreamChoice}
 use Rattle.stream_jobs.specs.declared.refusal.JobRefusal.{JobRefusal}
 use Rattle.stream_jobs.specs.declared.refusal.JobRefusal.TheVariants as refusals
 use Rattle.stream_jobs.specs.declared.job_options.DeclareBy.{DeclareBy}
@@ -57,10 +59,21 @@ coding_for s = coding_holding (max_unit_size s.units) (coding_of s.stream_type s
 unfoldable pub buffers_for : List PidBuffers → TimedStreamView → Buffers
 buffers_for given s = unwrap_or (given_buffers given s.pid) (buffers_of (coding_for s))
 
+-- the size of MB as it is declared (2.4.2.3): by the standard the bytes of a PES packet header leave MB at no cost of time, with the first byte of
+-- payload after them; here they leave it as payload does. So by the standard MB may hold one header more than is promised of it, of
+-- 19 bytes at most in a job, and room for that is left
+unfoldable pub without_header : MultiplexingBuffer → MultiplexingBuffer
+without_header b = record { rbx = b.rbx; size = if nat_lt 19 b.size then b.size - 19 else b.size }
+
+-- MB of video; there is none beside buffers that are asked for, which are one main buffer
+unfoldable pub multiplexing_for : List PidBuffers → TimedStreamView → Option MultiplexingBuffer
+multiplexing_for given s = if is_some (given_buffers given s.pid) then None else option_map without_header (multiplexing_of (coding_for s))
+
 -- 3. What is counted of a stream's units: what they need, and the greatest number of packets of 1, 2, .. of them in a row
 
 pub record UnitCountsView : Type 0 where
   pub needs : Needs
+  pub multiplexing : Option MultiplexingBuffer
   pub max_group_packets : List ℕ
 
 unfoldable pub needs_of : List PidBuffers → TimedStreamView → Needs
@@ -82,7 +95,8 @@ unfoldable pub size_refusal : TimedStreamView → Option JobRefusal
 size_refusal s = if nat_lt (greatest_size s.stream_id) (max_unit_size s.units) then Some (refusals.Size s.pid (max_unit_size s.units)) else None
 
 unfoldable pub unit_counts : List PidBuffers → TimedStreamView → Result UnitCountsView JobRefusal
-unit_counts given s = unless (size_refusal s) (Ok (record { needs = needs_of given s; max_group_packets = max_group_packets s }))
+unit_counts given s =
+    unless (size_refusal s) (Ok (record { needs = needs_of given s; multiplexing = multiplexing_for given s; max_group_packets = max_group_packets s }))
 
 abbrev pub all_unit_counts : List PidBuffers → List TimedStreamView → Result (List UnitCountsView) JobRefusal
 all_unit_counts given streams = each (unit_counts given) streams
@@ -90,11 +104,11 @@ all_unit_counts given streams = each (unit_counts given) streams
 -- 4. What each stream declares: the best of what is tried
 
 -- a group and a lead can be looked for
-unfoldable pub is_countable : UnitCountsView → Bool
-is_countable c = is_needs c.needs && are_max_packets c.max_group_packets
+unfoldable pub is_countable : Needs → List ℕ → Bool
+is_countable needs max_group_packets = is_needs needs && are_max_packets max_group_packets
 
 unfoldable pub share_of : UnitCountsView → ℕ
-share_of c = if is_countable c then least_share c.needs c.max_group_packets else 0
+share_of c = if is_countable c.needs c.max_group_packets then least_share c.needs c.max_group_packets else 0
 
 -- the share of an output of the least rate, in whole parts
 abbrev pub least_output : ℕ
@@ -104,16 +118,18 @@ least_output = parts * LEAST_RATE / slot_units_at_1bps
 unfoldable pub shares_of : List UnitCountsView → ℕ
 shares_of all = max (min (sum_by share_of all) (2 ^ 64 - 1)) least_output
 
--- by groups, and by pace
-unfoldable pub groups_of : ℕ → ℕ → UnitCountsView → Option Choice
-groups_of lead sum c =
-    if is_countable c then groups_choice c.needs c.max_group_packets (transport_delay c.needs.rx sum) (min lead 90_000) else None
+-- by groups, and by pace; with a multiplexing buffer it is the leak that drains
+unfoldable pub groups_of : ℕ → ℕ → Option MultiplexingBuffer → UnitCountsView → Option Choice
+groups_of lead sum buffer c =
+    if is_countable (leaking_needs buffer c.needs) c.max_group_packets
+    then groups_choice (leaking_needs buffer c.needs) c.max_group_packets (delay_before buffer (leaking_needs buffer c.needs) sum) (min lead 90_000)
+    else None
 
 -- by groups, where that is asked for
-unfoldable pub asked_groups : DeclareBy → ℕ → ℕ → UnitCountsView → Option Choice
-asked_groups by.Pace lead sum c = None
-asked_groups by.Groups lead sum c = groups_of lead sum c
-asked_groups by.Either lead sum c = groups_of lead sum c
+unfoldable pub asked_groups : DeclareBy → ℕ → ℕ → Option MultiplexingBuffer → UnitCountsView → Option Choice
+asked_groups by.Pace lead sum buffer c = None
+asked_groups by.Groups lead sum buffer c = groups_of lead sum buffer c
+asked_groups by.Either lead sum buffer c = groups_of lead sum buffer c
 
 -- the burst of units at a pace, as a number of 64 bits
 abbrev pub burst_of : List AccessUnit → ℕ → ℕ
@@ -123,17 +139,32 @@ burst_of units pace = min (burst_packets 0 0 pace units) (2 ^ 64 - 1)
 abbrev pub burst_of_runs : UnitRunsView → ℕ → ℕ
 burst_of_runs runs pace = min (runs_burst pace runs) (2 ^ 64 - 1)
 
-unfoldable pub pace_of : ℕ → ℕ → List AccessUnit → UnitCountsView → Option Choice
-pace_of lead sum units c = if is_needs c.needs then pace_choice c.needs (burst_of units) (transport_delay c.needs.rx sum) (min lead 90_000) else None
+unfoldable pub pace_of : ℕ → ℕ → Option MultiplexingBuffer → List AccessUnit → UnitCountsView → Option Choice
+pace_of lead sum buffer units c =
+    if is_needs (leaking_needs buffer c.needs)
+    then pace_choice (leaking_needs buffer c.needs) (burst_of units) (delay_before buffer (leaking_needs buffer c.needs) sum) (min lead 90_000)
+    else None
 
 -- the one that is asked for, else the preferred of both
-abbrev pub choice_of : DeclareBy → ℕ → ℕ → List AccessUnit → UnitCountsView → Option Choice
-choice_of by.Groups lead sum units c = groups_of lead sum c
-choice_of by.Pace lead sum units c = pace_of lead sum units c
-choice_of by.Either lead sum units c = preferred (groups_of lead sum c) (pace_of lead sum units c)
+abbrev pub choice_of : DeclareBy → ℕ → ℕ → Option MultiplexingBuffer → List AccessUnit → UnitCountsView → Option Choice
+choice_of by.Groups lead sum buffer units c = groups_of lead sum buffer c
+choice_of by.Pace lead sum buffer units c = pace_of lead sum buffer units c
+choice_of by.Either lead sum buffer units c = preferred (groups_of lead sum buffer c) (pace_of lead sum buffer units c)
 
-unfoldable pub chosen : DeclareBy → ℕ → ℕ → TimedStreamView × UnitCountsView → Result Choice JobRefusal
-chosen declare_by lead sum s = ok_or (choice_of declare_by lead sum s.0.units s.1) (refusals.Buffers s.0.pid s.1.needs.size s.1.needs.rx s.1.needs.main)
+-- it, with the multiplexing buffer that it keeps
+abbrev pub kept : DeclareBy → ℕ → ℕ → Option MultiplexingBuffer → List AccessUnit → UnitCountsView → Option StreamChoice
+kept declare_by lead sum buffer units c = option_map (λ choice. record { choice = choice; multiplexing = buffer }) (choice_of declare_by lead sum buffer units c)
 
-unfoldable pub choices : DeclareBy → ℕ → List TimedStreamView → List UnitCountsView → Result (List Choice) JobRefusal
+unfoldable pub first_kept : Option StreamChoice → Option StreamChoice → Option StreamChoice
+first_kept (Some choice) other = Some choice
+first_kept None other = other
+
+-- with the stream's multiplexing buffer, if a choice keeps it; else with one main buffer. A stream of its level's greatest rate is of the
+-- second kind: its packets come faster than the leak by their headers, which the leak is counted with here
+unfoldable pub chosen : DeclareBy → ℕ → ℕ → TimedStreamView × UnitCountsView → Result StreamChoice JobRefusal
+chosen declare_by lead sum s =
+    ok_or (first_kept (kept declare_by lead sum s.1.multiplexing s.0.units s.1) (kept declare_by lead sum None s.0.units s.1))
+    (refusals.Buffers s.0.pid s.1.needs.size s.1.needs.rx s.1.needs.main)
+
+unfoldable pub choices : DeclareBy → ℕ → List TimedStreamView → List UnitCountsView → Result (List StreamChoice) JobRefusal
 choices declare_by lead streams all = each (chosen declare_by lead (shares_of all)) (zip streams all)

@@ -5,7 +5,6 @@ use Rattle.std.specs.Option.{option_or}
 use Rattle.psi_tables.specs.declared.pat.programs.Program.{Program}
 use Rattle.demux.specs.Views.{FindingView}
 use Rattle.stream_units.specs.Damage.{is_scrambled}
-use Rattle.stream_choice.specs.declared.choice.Choice.{Choice}
 use Rattle.stream_programs.specs.Association.{AssociationView, association}
 use Rattle.stream_programs.specs.PidAssignment.{assigned_pids}
 use Rattle.stream_programs.specs.Programs.{FoundProgramsView, programs_of}
@@ -17,6 +16,7 @@ use Rattle.stream_jobs.specs.declared.warning.Warning.{Warning}
 use Rattle.stream_jobs.specs.declared.warning.Warning.TheVariants as warnings
 use Rattle.stream_jobs.specs.Answers.{and_then, unless}
 use Rattle.stream_jobs.specs.ClockBases.{base0_of}
+use Rattle.stream_jobs.specs.declared.declarations.StreamChoice.{StreamChoice}
 use Rattle.stream_jobs.specs.Declarations.{UnitCountsView, too_many, too_long, all_unit_counts, choices}
 use Rattle.stream_jobs.specs.JobPrograms.{JobProgramView, job_programs, all_program_warnings, text_warnings}
 use Rattle.stream_jobs.specs.GivenNames.{ServiceNameView}
@@ -38,7 +38,7 @@ pub record JobInputView : Type 0 where
   pub programs : List JobProgramView
   pub streams : List TimedStreamView
   pub unit_counts : List UnitCountsView
-  pub choices : List Choice
+  pub choices : List StreamChoice
   pub tables : List JobTableView
   pub warnings : List Warning
 
@@ -84,7 +84,7 @@ job_warnings options count findings a named found assigned streams =
 -- 2. What it is made of, step by step
 
 -- streams with their units at moments, and the counts of their units
-unfoldable pub with_unit_counts : JobOptionsView → (List UnitCountsView → List Choice → JobInputView) → List TimedStreamView → Result JobInputView JobRefusal
+unfoldable pub with_unit_counts : JobOptionsView → (List UnitCountsView → List StreamChoice → JobInputView) → List TimedStreamView → Result JobInputView JobRefusal
 with_unit_counts options finish streams =
     and_then (λ all. and_then (λ chosen. Ok (finish all chosen)) (choices options.declare_by options.lead streams all)) (all_unit_counts options.buffers streams)
 

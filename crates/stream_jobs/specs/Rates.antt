@@ -37,7 +37,7 @@ abbrev pub greatest_rate : ℕ
 greatest_rate = 100_000_000
 
 abbrev pub shares : JobInputView → List ℕ
-shares input = map (λ c. c.share) input.choices
+shares input = map (λ c. c.choice.share) input.choices
 
 pub record IsFirstRate (options : JobOptionsView) (input : JobInputView) (rate : ℕ) : Type 0 where
   pub description : Described

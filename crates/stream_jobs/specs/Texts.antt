@@ -1,9 +1,9 @@
 -- The description of a job as text.
-use Rattle.std.specs.Prelude.{ℕ, ◌-◌, ◌^◌, min, List, ◌++◌, None, flat_map, zip}
+use Rattle.std.specs.Prelude.{ℕ, ◌-◌, ◌^◌, min, List, ◌++◌, flat_map, zip}
 use Rattle.job_text.specs.DescriptionParts.{EventPartView, HeadingView, ProgramPartView, StreamPartView}
 use Rattle.job_text.specs.Texts.{event_text, heading_text, network_if_any, program_text, stream_text}
-use Rattle.stream_choice.specs.declared.choice.Choice.{Choice}
 use Rattle.stream_programs.specs.Services.{FoundServiceView}
+use Rattle.stream_jobs.specs.declared.declarations.StreamChoice.{StreamChoice}
 use Rattle.stream_jobs.specs.Declarations.{UnitCountsView}
 use Rattle.stream_jobs.specs.JobPrograms.{JobProgramView}
 use Rattle.stream_jobs.specs.JobInput.{JobInputView}
@@ -44,7 +44,7 @@ program_part pcr_limit p = program_with pcr_limit p.0 p.1
 
 -- 3. Streams
 
-unfoldable pub stream_part : TimedStreamView × (UnitCountsView × Choice) → StreamPartView
+unfoldable pub stream_part : TimedStreamView × (UnitCountsView × StreamChoice) → StreamPartView
 stream_part s = record {
   program = s.0.program;
   pid = s.0.pid;
@@ -52,13 +52,13 @@ stream_part s = record {
   stream_type = s.0.stream_type;
   interval = s.1.0.needs.interval;
   size = s.1.0.needs.size;
-  lead = s.1.1.lead;
+  lead = s.1.1.choice.lead;
   rx = s.1.0.needs.rx;
   main = s.1.0.needs.main;
   descriptors = s.0.descriptors;
-  allowance = s.1.1.allowance;
+  allowance = s.1.1.choice.allowance;
   shared_with = s.0.shared_with;
-  multiplexing = None;
+  multiplexing = s.1.1.multiplexing;
 }
 
 -- 4. The whole: the lines of private tables (`specs/JobTables`) come last
@@ -69,10 +69,10 @@ program_lines pcr_limit p = program_text (program_part pcr_limit p)
 abbrev pub programs_text : ℕ → List JobProgramView → List FoundServiceView → List ℕ
 programs_text pcr_limit programs services = flat_map (program_lines pcr_limit) (zip programs services)
 
-abbrev pub stream_lines : TimedStreamView × (UnitCountsView × Choice) → List ℕ
+abbrev pub stream_lines : TimedStreamView × (UnitCountsView × StreamChoice) → List ℕ
 stream_lines s = stream_text (stream_part s)
 
-abbrev pub streams_text : List TimedStreamView → List UnitCountsView → List Choice → List ℕ
+abbrev pub streams_text : List TimedStreamView → List UnitCountsView → List StreamChoice → List ℕ
 streams_text streams unit_counts choices = flat_map stream_lines (zip streams (zip unit_counts choices))
 
 abbrev pub events_text : List EventPartView → List ℕ

@@ -1,11 +1,11 @@
 //! What a description declares of the packets of a stream's units: by groups or by pace.
 
-ghost use Rattle.std.specs.Prelude.{◌≡◌, ◌≤◌, ◌-◌, ◌^◌, min, sum_by, zip, IfErr, IfOk, IfSome, IsTrue, Ok};
+ghost use Rattle.std.specs.Prelude.{◌≡◌, ◌≤◌, ◌-◌, ◌^◌, min, sum_by, zip, IfErr, IfOk, IfSome, IsTrue, None, Ok};
 ghost use Rattle.stream_choice.specs.Ranges.{IsNeeds, AreMaxPackets};
 ghost use Rattle.stream_jobs.specs.Answers.{Answers, Refuses, each};
 ghost use Rattle.stream_jobs.specs.Declarations as spec;
 
-use crate::declarations::UnitCounts;
+use crate::declarations::{StreamChoice, UnitCounts};
 use crate::job_options::DeclareBy;
 use crate::job_stream::TimedStream;
 use crate::refusal::{JobError, JobRefusal};
@@ -13,10 +13,11 @@ use clock27::{LEAST_RATE, SLOT_UNITS_AT_1BPS};
 use pes_packet::Unit;
 use std::alloc::{AllocError, Global};
 use stream_choice::{
-    Choice, PacedUnits, are_max_packets, choose_groups, choose_pace, least_share, preferred,
-    transport_delay,
+    Choice, Needs, PacedUnits, are_max_packets, choose_groups, choose_pace, delay_before,
+    leaking_needs, least_share, preferred,
 };
 use stream_units::UnitRuns;
+use unit_timing::multiplexing_buffer::MultiplexingBuffer;
 use unit_timing::shares::PARTS;
 
 /// The share of an output of the least rate.
@@ -24,12 +25,12 @@ const LEAST_OUTPUT: u64 = (PARTS as u128 * LEAST_RATE as u128 / SLOT_UNITS_AT_1B
 
 // Whether a stream can be declared with some group.
 #[tactic(auto, unfolding(crate::specs::Declarations::is_countable))]
-fn is_countable(unit_counts: &UnitCounts) -> bool
-    ensures value { result ≡ spec.is_countable unit_counts.now }
-    ensures needs { IsTrue result → IsNeeds unit_counts.now.needs }
-    ensures packets { IsTrue result → AreMaxPackets unit_counts.now.max_group_packets }
+fn is_countable(needs: Needs, max_group_packets: &[u32]) -> bool
+    ensures value { result ≡ spec.is_countable needs max_group_packets.now }
+    ensures needs { IsTrue result → IsNeeds needs }
+    ensures packets { IsTrue result → AreMaxPackets max_group_packets.now }
 {
-    unit_counts.needs.is_in_range() && are_max_packets(&unit_counts.max_group_packets)
+    needs.is_in_range() && are_max_packets(max_group_packets)
 }
 
 // The least share that a stream needs.
@@ -37,8 +38,9 @@ fn is_countable(unit_counts: &UnitCounts) -> bool
 fn share_of(unit_counts: &UnitCounts) -> u64
     ensures { result ≡ spec.share_of unit_counts.now }
 {
-    if is_countable(unit_counts) {
-        least_share(unit_counts.needs, &unit_counts.max_group_packets)
+    let max_group_packets = unit_counts.max_group_packets.as_slice();
+    if is_countable(unit_counts.needs, max_group_packets) {
+        least_share(unit_counts.needs, max_group_packets)
     } else {
         0
     }
@@ -79,24 +81,25 @@ impl PacedUnits for StreamBursts {
     }
 }
 
-// What a stream of these units declares by groups.
+// What a stream of these units declares by groups, with this multiplexing buffer.
 #[tactic(auto, unfolding(crate::specs::Declarations::groups_of))]
-fn groups_of(greatest_lead: u32, sum: u64, unit_counts: &UnitCounts) -> Option<Choice>
+fn groups_of(
+    greatest_lead: u32,
+    sum: u64,
+    buffer: Option<MultiplexingBuffer>,
+    unit_counts: &UnitCounts,
+) -> Option<Choice>
     requires { 2 ^ 17 ≤ sum }
-    ensures { result ≡ spec.groups_of greatest_lead sum unit_counts.now }
+    ensures { result ≡ spec.groups_of greatest_lead sum buffer unit_counts.now }
 {
-    if is_countable(unit_counts) {
-        let needs = unit_counts.needs;
-        let lead = greatest_lead.min(90_000);
-        choose_groups(
-            needs,
-            &unit_counts.max_group_packets,
-            transport_delay(needs.rx, sum),
-            lead,
-        )
-    } else {
-        None
+    let needs = leaking_needs(buffer, unit_counts.needs);
+    let max_group_packets = unit_counts.max_group_packets.as_slice();
+    if !is_countable(needs, max_group_packets) {
+        return None;
     }
+    let lead = greatest_lead.min(90_000);
+    let delay = delay_before(buffer, needs, sum);
+    choose_groups(needs, max_group_packets, delay, lead)
 }
 
 // What it declares by pace.
@@ -105,27 +108,39 @@ fn pace_of(
     alloc: Global,
     greatest_lead: u32,
     sum: u64,
+    buffer: Option<MultiplexingBuffer>,
     units: &[Unit],
     unit_counts: &UnitCounts,
 ) -> Result<Option<Choice>, AllocError>
     requires { 2 ^ 17 ≤ sum }
-    ensures { IfOk result (λ choice. choice ≡ spec.pace_of greatest_lead sum units.now unit_counts.now) }
+    ensures { IfOk result (λ choice. choice ≡ spec.pace_of greatest_lead sum buffer units.now unit_counts.now) }
 {
-    let needs = unit_counts.needs;
+    let needs = leaking_needs(buffer, unit_counts.needs);
     if !needs.is_in_range() {
         return Ok(None);
     }
     let lead = greatest_lead.min(90_000);
-    let delay = transport_delay(needs.rx, sum);
+    let delay = delay_before(buffer, needs, sum);
     let runs = UnitRuns::of_units(alloc, 0, units)?;
     Ok(choose_pace(needs, &StreamBursts { runs }, delay, lead))
 }
 
-// What a stream that is counted so declares by groups, where that is asked for.
+// What a stream that is counted so declares by groups, where that is asked for, with its multiplexing buffer.
 #[derive(Clone, Copy)]
 struct KnownGroups<'a> {
     unit_counts: &'a UnitCounts,
     choice: Option<Choice>,
+}
+
+// Whether both are none, or have one leak and one size.
+fn is_same_buffer(one: Option<MultiplexingBuffer>, other: Option<MultiplexingBuffer>) -> bool
+    ensures { IsTrue result → one ≡ other }
+{
+    match (one, other) {
+        (None, None) => true,
+        (Some(first), Some(second)) => first.rbx == second.rbx && first.size == second.size,
+        _ => false,
+    }
 }
 
 // Whether two streams are counted alike.
@@ -137,11 +152,31 @@ fn is_alike(one: &UnitCounts, other: &UnitCounts) -> bool
     let same_buffers = needs.rx == others.rx && needs.main == others.main;
     same_units
         && same_buffers
+        && is_same_buffer(one.multiplexing, other.multiplexing)
         && one.max_group_packets.as_slice() == other.max_group_packets.as_slice()
 }
 
-// What a stream declares by groups, where that is asked for: the same as another one that is counted alike.
+// What a stream declares by groups with this multiplexing buffer, where that is asked for.
 #[tactic(auto, unfolding(crate::specs::Declarations::asked_groups))]
+fn groups_if_asked(
+    declare_by: DeclareBy,
+    greatest_lead: u32,
+    sum: u64,
+    buffer: Option<MultiplexingBuffer>,
+    unit_counts: &UnitCounts,
+) -> Option<Choice>
+    requires { 2 ^ 17 ≤ sum }
+    ensures { result ≡ spec.asked_groups declare_by greatest_lead sum buffer unit_counts.now }
+{
+    match declare_by {
+        DeclareBy::Pace => None,
+        DeclareBy::Groups | DeclareBy::Either => {
+            groups_of(greatest_lead, sum, buffer, unit_counts)
+        }
+    }
+}
+
+// What it declares with its own: the same as another one that is counted alike.
 fn asked_groups(
     known: Option<KnownGroups<'_>>,
     declare_by: DeclareBy,
@@ -151,18 +186,16 @@ fn asked_groups(
 ) -> Option<Choice>
     requires sum { 2 ^ 17 ≤ sum }
     requires known { IfSome known (λ k.
-        k.choice ≡ spec.asked_groups declare_by greatest_lead sum k.unit_counts.now) }
-    ensures { result ≡ spec.asked_groups declare_by greatest_lead sum unit_counts.now }
+        k.choice ≡ spec.asked_groups declare_by greatest_lead sum k.unit_counts.now.multiplexing k.unit_counts.now) }
+    ensures { result ≡ spec.asked_groups declare_by greatest_lead sum unit_counts.now.multiplexing unit_counts.now }
 {
     if let Some(known) = known {
         if is_alike(known.unit_counts, unit_counts) {
             return known.choice;
         }
     }
-    match declare_by {
-        DeclareBy::Pace => None,
-        DeclareBy::Groups | DeclareBy::Either => groups_of(greatest_lead, sum, unit_counts),
-    }
+    let buffer = unit_counts.multiplexing;
+    groups_if_asked(declare_by, greatest_lead, sum, buffer, unit_counts)
 }
 
 // What it declares, where by groups it declares this.
@@ -173,21 +206,99 @@ fn choice_of(
     by_groups: Option<Choice>,
     greatest_lead: u32,
     sum: u64,
+    buffer: Option<MultiplexingBuffer>,
     units: &[Unit],
     unit_counts: &UnitCounts,
 ) -> Result<Option<Choice>, AllocError>
     requires sum { 2 ^ 17 ≤ sum }
-    requires groups { by_groups ≡ spec.asked_groups declare_by greatest_lead sum unit_counts.now }
-    ensures { IfOk result (λ choice. choice ≡ spec.choice_of declare_by greatest_lead sum units.now unit_counts.now) }
+    requires groups { by_groups ≡ spec.asked_groups declare_by greatest_lead sum buffer unit_counts.now }
+    ensures { IfOk result (λ choice. choice ≡ spec.choice_of declare_by greatest_lead sum buffer units.now unit_counts.now) }
 {
     match declare_by {
         DeclareBy::Groups => Ok(by_groups),
-        DeclareBy::Pace => pace_of(alloc, greatest_lead, sum, units, unit_counts),
+        DeclareBy::Pace => pace_of(alloc, greatest_lead, sum, buffer, units, unit_counts),
         DeclareBy::Either => {
-            let by_pace = pace_of(alloc, greatest_lead, sum, units, unit_counts)?;
+            let by_pace = pace_of(alloc, greatest_lead, sum, buffer, units, unit_counts)?;
             Ok(preferred(by_groups, by_pace))
         }
     }
+}
+
+// It, with the multiplexing buffer that it keeps.
+fn kept(
+    alloc: Global,
+    declare_by: DeclareBy,
+    by_groups: Option<Choice>,
+    greatest_lead: u32,
+    sum: u64,
+    buffer: Option<MultiplexingBuffer>,
+    units: &[Unit],
+    unit_counts: &UnitCounts,
+) -> Result<Option<StreamChoice>, AllocError>
+    requires sum { 2 ^ 17 ≤ sum }
+    requires groups { by_groups ≡ spec.asked_groups declare_by greatest_lead sum buffer unit_counts.now }
+    ensures { IfOk result (λ k. k ≡ spec.kept declare_by greatest_lead sum buffer units.now unit_counts.now) }
+{
+    match choice_of(
+        alloc,
+        declare_by,
+        by_groups,
+        greatest_lead,
+        sum,
+        buffer,
+        units,
+        unit_counts,
+    )? {
+        None => Ok(None),
+        Some(choice) => Ok(Some(StreamChoice {
+            choice,
+            multiplexing: buffer,
+        })),
+    }
+}
+
+// What a stream declares with its multiplexing buffer, where by groups it declares this; else with one main buffer.
+#[tactic(auto, unfolding(crate::specs::Declarations::first_kept))]
+fn first_kept(
+    alloc: Global,
+    declare_by: DeclareBy,
+    by_groups: Option<Choice>,
+    greatest_lead: u32,
+    sum: u64,
+    units: &[Unit],
+    unit_counts: &UnitCounts,
+) -> Result<Option<StreamChoice>, AllocError>
+    requires sum { 2 ^ 17 ≤ sum }
+    requires groups { by_groups ≡ spec.asked_groups declare_by greatest_lead sum unit_counts.now.multiplexing unit_counts.now }
+    ensures { IfOk result (λ k. k ≡ spec.first_kept
+        (spec.kept declare_by greatest_lead sum unit_counts.now.multiplexing units.now unit_counts.now)
+        (spec.kept declare_by greatest_lead sum None units.now unit_counts.now)) }
+{
+    let buffer = unit_counts.multiplexing;
+    let first = kept(
+        alloc,
+        declare_by,
+        by_groups,
+        greatest_lead,
+        sum,
+        buffer,
+        units,
+        unit_counts,
+    )?;
+    if first.is_some() {
+        return Ok(first);
+    }
+    let others = groups_if_asked(declare_by, greatest_lead, sum, None, unit_counts);
+    kept(
+        alloc,
+        declare_by,
+        others,
+        greatest_lead,
+        sum,
+        None,
+        units,
+        unit_counts,
+    )
 }
 
 // What a stream declares; refused if nothing fits its buffers.
@@ -200,13 +311,13 @@ fn chosen(
     sum: u64,
     stream: &TimedStream,
     unit_counts: &UnitCounts,
-) -> Result<Choice, JobError>
+) -> Result<StreamChoice, JobError>
     requires sum { 2 ^ 17 ≤ sum }
-    requires groups { by_groups ≡ spec.asked_groups declare_by greatest_lead sum unit_counts.now }
+    requires groups { by_groups ≡ spec.asked_groups declare_by greatest_lead sum unit_counts.now.multiplexing unit_counts.now }
     ensures { Answers (spec.chosen declare_by greatest_lead sum (stream.now, unit_counts.now)) result }
 {
     let units = stream.units.as_slice();
-    match choice_of(
+    match first_kept(
         alloc,
         declare_by,
         by_groups,
@@ -234,7 +345,7 @@ fn each_choice(
     sum: u64,
     streams: &[TimedStream],
     all: &[UnitCounts],
-) -> Result<Vec<Choice>, JobError>
+) -> Result<Vec<StreamChoice>, JobError>
     requires { 2 ^ 17 ≤ sum }
     ensures chosen { IfOk result (λ chosen. each (spec.chosen declare_by greatest_lead sum) (zip streams.now all.now)
         ≡ Ok chosen.items) }
@@ -277,7 +388,7 @@ pub(crate) fn choices(
     greatest_lead: u32,
     streams: &[TimedStream],
     all: &[UnitCounts],
-) -> Result<Vec<Choice>, JobError>
+) -> Result<Vec<StreamChoice>, JobError>
     ensures chosen { IfOk result (λ chosen. spec.choices declare_by greatest_lead streams.now all.now ≡ Ok chosen.items) }
     ensures refused { IfErr result (Refuses (spec.choices declare_by greatest_lead streams.now all.now)) }
 {

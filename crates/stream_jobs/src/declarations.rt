@@ -12,11 +12,13 @@ use crate::refusal::{JobError, JobRefusal};
 use pes_packet::greatest_size;
 use std::alloc::{AllocError, Global};
 use std::marker::Model;
-use stream_choice::Needs;
+use stream_choice::{Choice, Needs};
 use stream_coding::{
     Buffers, Coding, PidBuffers, buffers_of, coding_holding, coding_of, given_buffers,
+    multiplexing_of,
 };
 use stream_units::{CountedPackets, max_unit_size, min_interval};
+use unit_timing::multiplexing_buffer::MultiplexingBuffer;
 
 /// The greatest number of programs, and of streams, in a description.
 const MAX_PROGRAMS: usize = 16;
@@ -29,11 +31,23 @@ const MAX_UNITS: usize = 1_048_576;
 /// The greatest number of units that are counted together.
 const MAX_GROUP: usize = 64;
 
-/// What is counted of a stream's units: what they need, and the greatest number of packets of 1, 2, .. units in a row.
+/// The most bytes of a PES packet header in a job.
+const MAX_HEADER: u32 = 19;
+
+/// What is counted of a stream's units: what they need, the multiplexing buffer that the stream has if it is video, and the
+/// greatest number of packets of 1, 2, .. units in a row.
 #[derive(Drop)]
 pub(crate) struct UnitCounts {
     pub needs: Needs,
+    pub multiplexing: Option<MultiplexingBuffer>,
     pub max_group_packets: Vec<u32>,
+}
+
+/// What a stream declares of its packets, and the multiplexing buffer that it keeps so, if it declares one.
+#[derive(Clone, Copy)]
+pub(crate) struct StreamChoice {
+    pub choice: Choice,
+    pub multiplexing: Option<MultiplexingBuffer>,
 }
 
 // A contract sees its packets as a list.
@@ -42,7 +56,11 @@ impl Model for UnitCounts {
 
     ghost Value = { UnitCountsView };
 
-    ghost view = { λ c. record { needs = c.needs; max_group_packets = c.max_group_packets.items } };
+    ghost view = { λ c. record {
+      needs = c.needs;
+      multiplexing = c.multiplexing;
+      max_group_packets = c.max_group_packets.items;
+    } };
 }
 
 /// The refusal of too many programs or streams, or of no stream.
@@ -116,6 +134,36 @@ fn buffers_for(given: &[PidBuffers], stream: &TimedStream) -> Buffers
     }
 }
 
+// A multiplexing buffer as it is declared: with room for a header that leaves it at no cost of time.
+#[tactic(auto, unfolding(crate::specs::Declarations::without_header))]
+fn without_header(buffer: MultiplexingBuffer) -> MultiplexingBuffer
+    ensures { result ≡ spec.without_header buffer }
+{
+    let MultiplexingBuffer { rbx, size } = buffer;
+    if MAX_HEADER < size {
+        MultiplexingBuffer {
+            rbx,
+            size: size - MAX_HEADER,
+        }
+    } else {
+        buffer
+    }
+}
+
+// The multiplexing buffer of video whose buffers the options don't give.
+#[tactic(auto, unfolding(crate::specs::Declarations::multiplexing_for))]
+fn multiplexing_for(given: &[PidBuffers], stream: &TimedStream) -> Option<MultiplexingBuffer>
+    ensures { result ≡ spec.multiplexing_for given.now stream.now }
+{
+    if given_buffers(given, stream.pid).is_some() {
+        return None;
+    }
+    match multiplexing_of(coding_for(stream)) {
+        None => None,
+        Some(buffer) => Some(without_header(buffer)),
+    }
+}
+
 // The greatest number of packets of `group` units in a row, as a number of 32 bits.
 #[tactic(auto, unfolding(crate::specs::Declarations::packets_of_group))]
 fn packets_of_group(packets: &CountedPackets, group: usize) -> u32
@@ -183,9 +231,11 @@ fn count_stream(
         return Err(JobError::Refused(refusal));
     }
     let needs = needs_of(given, stream);
+    let multiplexing = multiplexing_for(given, stream);
     let max_group_packets = max_group_packets(alloc, stream)?;
     Ok(UnitCounts {
         needs,
+        multiplexing,
         max_group_packets,
     })
 }

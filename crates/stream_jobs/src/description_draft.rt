@@ -6,7 +6,7 @@ ghost use Rattle.stream_jobs.specs.Rates.{IsText};
 ghost use Rattle.stream_jobs.specs.Texts as spec;
 ghost use Rattle.stream_jobs.specs.WhyNoJob.{IsWhyNotRead};
 
-use crate::declarations::UnitCounts;
+use crate::declarations::{StreamChoice, UnitCounts};
 use crate::input::JobInput;
 use crate::job_events::write_events;
 use crate::job_network::write_network;
@@ -19,7 +19,6 @@ use crate::table_lines::write_tables;
 use description::{DescError, Description};
 use job_text::{Heading, ProgramPart, StreamPart};
 use std::alloc::{AllocError, Global};
-use stream_choice::Choice;
 
 /// All that the description of a job says but for its rate.
 #[derive(Clone, Copy)]
@@ -129,7 +128,7 @@ fn write_programs(
 fn write_stream(
     stream: &TimedStream,
     unit_counts: &UnitCounts,
-    choice: Choice,
+    choice: StreamChoice,
     text: &mut String,
 ) -> Result<(), AllocError>
     ensures { OnOk result (string_bytes text.new ≡ string_bytes text.old
@@ -142,13 +141,13 @@ fn write_stream(
         stream_type: stream.stream_type,
         interval: unit_counts.needs.interval,
         size: unit_counts.needs.size,
-        lead: choice.lead,
+        lead: choice.choice.lead,
         rx: unit_counts.needs.rx,
         main: unit_counts.needs.main,
         descriptors: &stream.descriptors,
-        allowance: choice.allowance,
+        allowance: choice.choice.allowance,
         shared_with: &stream.shared_with,
-        multiplexing: None,
+        multiplexing: choice.multiplexing,
     };
     entry.write_text(text)
 }
@@ -157,7 +156,7 @@ fn write_stream(
 fn write_streams(
     streams: &[TimedStream],
     unit_counts: &[UnitCounts],
-    choices: &[Choice],
+    choices: &[StreamChoice],
     text: &mut String,
 ) -> Result<(), AllocError>
     ensures { OnOk result (string_bytes text.new ≡ string_bytes text.old

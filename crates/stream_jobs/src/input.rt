@@ -9,7 +9,7 @@ ghost use Rattle.stream_jobs.specs.Jobs.{AreStreams, FitsQueue, IsMoved};
 ghost use Rattle.stream_jobs.specs.JobInput as spec;
 
 use crate::choices::choices;
-use crate::declarations::{UnitCounts, count_units, too_long, too_many};
+use crate::declarations::{StreamChoice, UnitCounts, count_units, too_long, too_many};
 use crate::information::JobInformation;
 use crate::input_draft::{InputDraft, input_draft};
 use crate::job_options::JobOptions;
@@ -22,7 +22,6 @@ use crate::warning::Warning;
 use demux::Finding;
 use std::alloc::Global;
 use std::marker::Model;
-use stream_choice::Choice;
 
 /// What a job is made of.
 #[derive(Drop)]
@@ -32,7 +31,7 @@ pub struct JobInput {
     pub(crate) programs: Vec<JobProgram>,
     pub(crate) streams: Vec<TimedStream>,
     pub(crate) unit_counts: Vec<UnitCounts>,
-    pub(crate) choices: Vec<Choice>,
+    pub(crate) choices: Vec<StreamChoice>,
     pub(crate) tables: Vec<JobTable>,
     /// The warnings about the stream.
     pub warnings: Vec<Warning>,

@@ -7,6 +7,7 @@ ghost use Rattle.description.specs.Tables.{table_count};
 ghost use Rattle.stream_jobs.specs.Rates as spec;
 ghost use Rattle.stream_jobs.specs.WhyNoJob.{IsWhyNoPlan, IsWhyNoRate, IsWhyNotReadAtOne, IsWhyNotReadAt};
 
+use crate::declarations::StreamChoice;
 use crate::description_draft::{DescriptionDraft, described};
 use crate::refusal::{JobError, JobRefusal};
 use clock27::GREATEST_RATE;
@@ -14,7 +15,7 @@ use description::{Description, ProgramDescription};
 use plan_checker::CheckedPlan;
 use plan_maker::{MakeError, make};
 use std::alloc::{AllocError, Global};
-use stream_choice::{Choice, Recurring, least_rate};
+use stream_choice::{Recurring, least_rate};
 
 /// The number of rates that are tried, and of those that follow by small steps.
 const TRIES: u32 = 96;
@@ -87,10 +88,13 @@ fn recurring_of(alloc: Global, description: &Description) -> Result<Vec<Recurrin
 }
 
 // The shares of the streams.
-fn shares_of(alloc: Global, choices: &[Choice]) -> Result<Vec<u64>, AllocError>
-    ensures { IfOk result (λ all. all.items ≡ map (λ c. c.share) choices.now) }
+fn shares_of(alloc: Global, choices: &[StreamChoice]) -> Result<Vec<u64>, AllocError>
+    ensures { IfOk result (λ all. all.items ≡ map (λ c. c.choice.share) choices.now) }
 {
-    choices.iter().map(|choice| choice.share).collect(alloc)
+    choices
+        .iter()
+        .map(|choice| choice.choice.share)
+        .collect(alloc)
 }
 
 /// The rate at which all shares together are the whole.

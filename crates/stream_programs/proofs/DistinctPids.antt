@@ -18,10 +18,10 @@ use Rattle.stream_programs.specs.FreePids.{is_taken, least_free}
 use Rattle.stream_programs.specs.Laws.{PidsAreDistinct, EachHasPids}
 use Rattle.stream_programs.specs.PidAssignment.{IsPid, AreDistinctPids, stream_pids, map_pids, assigned_map_pid, assigned_map_pids, with_pcr_pids, assigned_pids, all_pids}
 use Rattle.stream_programs.specs.ProgramMaps.{program_map}
-use Rattle.stream_programs.specs.Programs.{FoundProgramsView, FoundProgramView, nothing, can_place, can_share, holder_in, with_left_out, with_table, with_shared, with_stream_if, with_stream, with_streams, is_scrambled_map, with_access, with_program_if, with_map, with_program_by, with_programs, programs_of, kept_stream, kept_program}
+use Rattle.stream_programs.specs.Programs.{FoundProgramsView, FoundProgramView, nothing, can_place, can_share, holder_in, with_left_out, with_table, with_shared, with_stream_if, with_stream, with_streams, is_scrambled_map, is_multiplexed_map, with_multiplex, with_access, with_program_if, with_map, with_program_by, with_programs, programs_of, kept_stream, kept_program}
 use Rattle.stream_programs.specs.Streams.{FoundStreamView, is_reserved, has_no_pes, holder, is_stream_of, taken, omission_of}
 use Rattle.stream_programs.specs.declared.omission.TableOmission.{TableOmission}
-use Rattle.stream_programs.specs.declared.omission.TableOmission.TheVariants.{NoMap, ConditionalAccess, NoPes, Reserved, Taken, SharedOtherwise, NoStream}
+use Rattle.stream_programs.specs.declared.omission.TableOmission.TheVariants.{NoMap, ConditionalAccess, Multiplex, NoPes, Reserved, Taken, SharedOtherwise, NoStream}
 use Rattle.stream_programs.specs.declared.pid_assignment.ProgramPids.{ProgramPids}
 use Rattle.stream_programs.proofs.LeastFreePid.{free_is}
 use Rattle.stream_programs.proofs.Sharers.{shared_pids}
@@ -227,6 +227,7 @@ left_kept found pcr_pid s (Taken program pid holder) h = subst AreDistinctPids (
 left_kept found pcr_pid s (NoPes program pid type) h = table_kept found s h
 left_kept found pcr_pid s (NoMap program) h = h
 left_kept found pcr_pid s (ConditionalAccess program) h = h
+left_kept found pcr_pid s (Multiplex program) h = h
 left_kept found pcr_pid s (Reserved program pid) h = h
 left_kept found pcr_pid s (SharedOtherwise program pid holder) h = h
 left_kept found pcr_pid s (NoStream program) h = h
@@ -257,6 +258,13 @@ access_same found program pmt = elim (cases_Bool (is_scrambled_map pmt)) [
   | inr clear ↦ rw clear refl
 ]
 
+multiplex_same : (found : FoundProgramsView) (program : ℕ) (pmt : PmtView) → stream_pids (with_multiplex found program pmt) ≡ stream_pids found
+unfolding with_multiplex
+multiplex_same found program pmt = elim (cases_Bool (is_multiplexed_map pmt)) [
+  | inl some ↦ rw some refl
+  | inr none ↦ rw none refl
+]
+
 program_same : (found : FoundProgramsView) (p : FoundProgramView) → stream_pids (with_program_if found p) ≡ stream_pids found
 unfolding with_program_if
 program_same found p = elim (cases_Bool (list_any (is_stream_of p.number) found.streams)) [
@@ -268,9 +276,11 @@ map_kept : (found : FoundProgramsView) (p : Program) (pmt : PmtView) → AreDist
 unfolding with_map
 map_kept found p pmt h =
     let access = with_access found p.program_number pmt in
-    let streams = with_streams access p.program_number pmt.pcr_pid pmt.streams in
+    let multiplex = with_multiplex access p.program_number pmt in
+    let same = multiplex_same access p.program_number pmt ∙ access_same found p.program_number pmt in
+    let streams = with_streams multiplex p.program_number pmt.pcr_pid pmt.streams in
     subst (λ (ps : List ℕ). AreDistinctPids ps) (sym (program_same streams (kept_program p pmt)))
-    (all_kept access p.program_number pmt.pcr_pid pmt.streams (subst (λ (ps : List ℕ). AreDistinctPids ps) (sym (access_same found p.program_number pmt)) h))
+    (all_kept multiplex p.program_number pmt.pcr_pid pmt.streams (subst (λ (ps : List ℕ). AreDistinctPids ps) (sym same) h))
 
 program_kept : (found : FoundProgramsView) (p : Program) (pmt : Option PmtView) → AreDistinctPids (stream_pids found) → AreDistinctPids (stream_pids (with_program_by found p pmt))
 unfolding with_program_by

@@ -1,7 +1,7 @@
 -- What of the tables of a stream a receiver loses.
 use Rattle.std.specs.Prelude.{Bool, true, false}
 use Rattle.stream_programs.specs.declared.omission.TableOmission.{TableOmission}
-use Rattle.stream_programs.specs.declared.omission.TableOmission.TheVariants.{NoMap, ConditionalAccess, NoPes, Reserved, Taken, SharedOtherwise, NoStream}
+use Rattle.stream_programs.specs.declared.omission.TableOmission.TheVariants.{NoMap, ConditionalAccess, Multiplex, NoPes, Reserved, Taken, SharedOtherwise, NoStream}
 
 -- a stream: of sections, on a PID that none may have, or of a second program, or what the second says of one that it shares
 abbrev pub is_loss : TableOmission → Bool
@@ -11,4 +11,5 @@ is_loss (Taken program pid holder) = true
 is_loss (SharedOtherwise program pid holder) = true
 is_loss (NoMap program) = false
 is_loss (ConditionalAccess program) = false
+is_loss (Multiplex program) = false
 is_loss (NoStream program) = false

@@ -5,11 +5,11 @@ use Rattle.std.specs.Option.{option_or}
 use Rattle.psi_tables.specs.ProgramMap.{StreamView, PmtView}
 use Rattle.psi_tables.specs.declared.pat.programs.Program.{Program}
 use Rattle.demux.specs.Views.{FindingView}
-use Rattle.descriptor_loops.specs.Descriptors.{has_ca, kept_descriptors}
+use Rattle.descriptor_loops.specs.Descriptors.{has_ca, kept_descriptors, has_of_multiplex}
 use Rattle.stream_programs.specs.ProgramMaps.{program_map}
 use Rattle.stream_programs.specs.Streams.{FoundStreamView, is_alike, is_shared_with, is_stream_of, holder, is_reserved, omission_of, shared_by}
 use Rattle.stream_programs.specs.declared.omission.TableOmission.{TableOmission}
-use Rattle.stream_programs.specs.declared.omission.TableOmission.TheVariants.{NoMap, NoPes, NoStream, ConditionalAccess, Taken, SharedOtherwise}
+use Rattle.stream_programs.specs.declared.omission.TableOmission.TheVariants.{NoMap, NoPes, NoStream, ConditionalAccess, Multiplex, Taken, SharedOtherwise}
 
 -- a program that has a stream
 pub record FoundProgramView : Type 0 where
@@ -115,6 +115,16 @@ is_scrambled_map pmt = has_ca pmt.program_info || any_ca pmt.streams
 unfoldable pub with_access : FoundProgramsView → ℕ → PmtView → FoundProgramsView
 with_access found number pmt = if is_scrambled_map pmt then with_left_out found (ConditionalAccess number) else found
 
+-- a loop of descriptors of its map has one that speaks of the multiplex
+unfoldable pub any_of_multiplex : List StreamView → Bool
+any_of_multiplex streams = list_any (λ s. has_of_multiplex s.descriptors) streams
+
+unfoldable pub is_multiplexed_map : PmtView → Bool
+is_multiplexed_map pmt = has_of_multiplex pmt.program_info || any_of_multiplex pmt.streams
+
+unfoldable pub with_multiplex : FoundProgramsView → ℕ → PmtView → FoundProgramsView
+with_multiplex found number pmt = if is_multiplexed_map pmt then with_left_out found (Multiplex number) else found
+
 -- a program is kept if it has a stream, of its own or shared
 unfoldable pub with_program_if : FoundProgramsView → FoundProgramView → FoundProgramsView
 with_program_if found p =
@@ -131,7 +141,7 @@ kept_program p pmt = record {
 
 unfoldable pub with_map : FoundProgramsView → Program → PmtView → FoundProgramsView
 with_map found p pmt =
-    with_program_if (with_streams (with_access found p.program_number pmt) p.program_number pmt.pcr_pid pmt.streams) (kept_program p pmt)
+    with_program_if (with_streams (with_multiplex (with_access found p.program_number pmt) p.program_number pmt) p.program_number pmt.pcr_pid pmt.streams) (kept_program p pmt)
 
 unfoldable pub with_program_by : FoundProgramsView → Program → Option PmtView → FoundProgramsView
 with_program_by found p None = with_left_out found (NoMap p.program_number)

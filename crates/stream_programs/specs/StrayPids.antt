@@ -5,7 +5,7 @@ use Rattle.demux.specs.Laws.{has_pid}
 use Rattle.stream_programs.specs.FreePids.{is_taken}
 use Rattle.stream_programs.specs.Programs.{FoundProgramsView}
 use Rattle.stream_programs.specs.declared.omission.TableOmission.{TableOmission}
-use Rattle.stream_programs.specs.declared.omission.TableOmission.TheVariants.{NoMap, ConditionalAccess, NoPes, Reserved, Taken, SharedOtherwise, NoStream}
+use Rattle.stream_programs.specs.declared.omission.TableOmission.TheVariants.{NoMap, ConditionalAccess, Multiplex, NoPes, Reserved, Taken, SharedOtherwise, NoStream}
 
 -- 1. The PIDs that maps name
 
@@ -17,6 +17,7 @@ omitted_pid (Taken program pid holder) = pid ∷ []
 omitted_pid (SharedOtherwise program pid holder) = []
 omitted_pid (NoMap program) = []
 omitted_pid (ConditionalAccess program) = []
+omitted_pid (Multiplex program) = []
 omitted_pid (NoStream program) = []
 
 abbrev pub mapped_pids : FoundProgramsView → List ℕ

@@ -5,7 +5,7 @@ use Rattle.std.specs.Str.{bytes_eq}
 use Rattle.stream_programs.specs.declared.omission.TableOmission.{TableOmission}
 use Rattle.stream_programs.specs.declared.omission.TableOmission.TheVariants.{NoPes, Reserved, Taken}
 
--- an elementary stream of a program, with its whole descriptors but for those of conditional access, and the other programs whose
+-- an elementary stream of a program, with its whole descriptors but for those of conditional access and of a multiplex, and the other programs whose
 -- maps name it too
 pub record FoundStreamView : Type 0 where
   pub program : ℕ

@@ -14,6 +14,10 @@ pub enum TableOmission {
     ConditionalAccess {
         program: u16,
     },
+    /// The program has descriptors that speak of the multiplex it comes from: they are left out.
+    Multiplex {
+        program: u16,
+    },
     /// The stream of this PID has sections, and no PES packets.
     NoPes {
         program: u16,
@@ -46,7 +50,7 @@ pub enum TableOmission {
 
 impl TableOmission {
     /// Whether a receiver loses something by it: a stream that is there. A program without a map or without streams has none,
-    /// and what is not scrambled needs no conditional access.
+    /// and what is not scrambled needs no conditional access; what is said of rates and buffers is not true of another multiplex.
     pub fn is_loss(self) -> bool
         ensures { result ≡ is_loss self }
     {

@@ -14,7 +14,7 @@ use crate::streams::{
     FoundStream, has_alike, has_stream_of, holder, is_reserved, omission_of, share,
 };
 use demux::Finding;
-use descriptor_loops::{has_ca, kept_descriptors};
+use descriptor_loops::{has_ca, has_of_multiplex, kept_descriptors};
 use psi_tables::{Pmt, Program, Stream, Streams};
 use std::alloc::{AllocError, Allocator, Global};
 use std::marker::Model;
@@ -30,7 +30,7 @@ pub struct FoundProgram<A: Allocator = Global> {
     pub map_pid: u16,
     /// As declared: 0x1FFF where it has no PCR.
     pub pcr_pid: u16,
-    /// Its whole descriptors but for those of conditional access.
+    /// Its whole descriptors but for those of conditional access and of a multiplex.
     pub descriptors: Vec<u8, A>,
 }
 
@@ -83,6 +83,19 @@ fn any_ca(streams: Streams<'_>) -> bool
 {
     for stream in streams {
         if has_ca(stream.descriptors) {
+            return true;
+        }
+    }
+    false
+}
+
+// Whether the descriptors of a stream have one that speaks of the multiplex.
+#[tactic(auto, unfolding(crate::specs::Programs::any_of_multiplex))]
+fn any_of_multiplex(streams: Streams<'_>) -> bool
+    ensures { result ≡ spec.any_of_multiplex (streams_of streams.entry) }
+{
+    for stream in streams {
+        if has_of_multiplex(stream.descriptors) {
             return true;
         }
     }
@@ -277,6 +290,16 @@ impl<A: Allocator + Copy> FoundPrograms<A> {
         Ok(())
     }
 
+    #[tactic(auto, unfolding(crate::specs::Programs::with_multiplex, crate::specs::Programs::is_multiplexed_map))]
+    fn note_multiplex(&mut self, program: u16, pmt: &Pmt<'_>) -> Result<(), AllocError>
+        ensures { OnOk result (self.new ≡ spec.with_multiplex self.old program (pmt_view pmt.now)) }
+    {
+        if has_of_multiplex(pmt.program_info) || any_of_multiplex(pmt.streams) {
+            self.left_out.push(TableOmission::Multiplex { program })?;
+        }
+        Ok(())
+    }
+
     #[tactic(auto, unfolding(crate::specs::Programs::with_program_if))]
     fn note_program(&mut self, program: FoundProgram<A>) -> Result<(), AllocError>
         ensures { OnOk result (self.new ≡ spec.with_program_if self.old program) }
@@ -296,6 +319,7 @@ impl<A: Allocator + Copy> FoundPrograms<A> {
         ensures { OnOk result (self.new ≡ spec.with_map self.old program (pmt_view pmt.now)) }
     {
         self.note_access(program.program_number, pmt)?;
+        self.note_multiplex(program.program_number, pmt)?;
         self.note_streams(alloc, program.program_number, pmt.pcr_pid, pmt.streams)?;
         let descriptors = kept_descriptors(alloc, pmt.program_info)?;
         let found = FoundProgram {

@@ -36,6 +36,7 @@ fn omitted_pid(omission: TableOmission) -> Option<u16>
         TableOmission::SharedOtherwise { .. } => None,
         TableOmission::NoMap { .. } => None,
         TableOmission::ConditionalAccess { .. } => None,
+        TableOmission::Multiplex { .. } => None,
         TableOmission::NoStream { .. } => None,
     }
 }

@@ -17,7 +17,7 @@ pub struct FoundStream<A: Allocator = Global> {
     pub program: u16,
     pub stream_type: u8,
     pub pid: u16,
-    /// Its whole descriptors but for those of conditional access.
+    /// Its whole descriptors but for those of conditional access and of a multiplex.
     pub descriptors: Vec<u8, A>,
     /// The program_numbers of the other programs whose program map tables name it.
     pub shared_with: Vec<u16, A>,

@@ -1,10 +1,11 @@
 //! Values of a second reading of the rules, and values worked by hand.
 
 use stream_choice::{
-    Choice, Needs, PacedUnits, Recurring, are_max_packets, choose_groups, choose_pace, least_rate,
-    least_share, preferred, transport_delay,
+    Choice, Needs, PacedUnits, Recurring, are_max_packets, choose_groups, choose_pace,
+    delay_before, leaking_needs, least_rate, least_share, preferred,
 };
 use unit_timing::allowance::Allowance;
+use unit_timing::multiplexing_buffer::MultiplexingBuffer;
 
 // What is known of a stream (interval, size, rx, main), its most packets, their least share, the wait and the greatest
 // lead; and the share, the lead and the group that are chosen.
@@ -356,11 +357,35 @@ static RATES: [(&[u64], &[Recurring], Option<u64>); 10] = [
     ),
 ];
 
-// 512 bytes at a rate, rounded up, and three packets of a share.
+// Of a stream that is drained at a rate, or that has a multiplexing buffer of so many bytes, which leaks at it.
+fn delay_at(size: Option<u32>, rate: u32, share: u64) -> u32 {
+    let needs = Needs {
+        interval: 1,
+        size: 1,
+        rx: rate,
+        main: 1,
+    };
+    match size {
+        None => delay_before(None, needs, share),
+        Some(size) => {
+            let buffer = Some(MultiplexingBuffer { rbx: rate, size });
+            let faster = Needs {
+                rx: 200_000_000,
+                ..needs
+            };
+            delay_before(buffer, leaking_needs(buffer, faster), share)
+        }
+    }
+}
+
+// 512 bytes at a rate, rounded up, and three packets of a share; with a multiplexing buffer 753 bytes, 513 at least.
 fn are_waits() -> bool {
-    transport_delay(2_000_000, 1 << 40) == 188
-        && transport_delay(64_000, 1 << 40) == 5_763
-        && transport_delay(200_000_000, 1 << 17) == 25_165_826
+    delay_at(None, 2_000_000, 1 << 40) == 188
+        && delay_at(None, 64_000, 1 << 40) == 5_763
+        && delay_at(None, 200_000_000, 1 << 17) == 25_165_826
+        && delay_at(Some(9_981), 15_000_000, 1 << 40) == 40
+        && delay_at(Some(600), 2_000_000, 1 << 40) == 220
+        && delay_at(Some(1), 64_000, 1 << 40) == 5_775
 }
 
 fn are_ranges() -> bool {

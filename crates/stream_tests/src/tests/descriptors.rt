@@ -1,6 +1,6 @@
 //! Loops made by hand.
 
-use descriptor_loops::{Descriptors, has_ca, has_tag, kept_descriptors};
+use descriptor_loops::{Descriptors, has_ca, has_of_multiplex, has_tag, kept_descriptors};
 use std::alloc::Global;
 
 // A language, conditional access, one without bytes, and one whose bytes are not all there.
@@ -52,7 +52,25 @@ fn are_kept(alloc: Global) -> bool {
     }
 }
 
+// Of a multiplex: buffer utilization, maximum bit rate, smoothing buffer, an STD_descriptor by vbv_delay, a managed HRD. An
+// STD_descriptor by the leak, one without its byte, and an HRD that is not managed speak of no other multiplex.
+static MULTIPLEX: [u8; 35] = [
+    12, 3, 0xff, 0, 0x10, 14, 3, 0xc0, 0, 1, 16, 6, 0xc0, 0, 1, 0xc0, 0, 2, 17, 1, 0xfe, 17, 1,
+    0xff, 17, 0, 42, 2, 0x80, 0, 42, 2, 0x7f, 0, 0x6a,
+];
+
+static OF_NONE: [u8; 9] = [17, 1, 0xff, 17, 0, 42, 2, 0x7f, 0];
+
+fn are_of_multiplex(alloc: Global) -> bool {
+    let known = has_of_multiplex(&MULTIPLEX) && !has_of_multiplex(&OF_NONE);
+    match kept_descriptors(alloc, &MULTIPLEX) {
+        Ok(kept) => known && kept.as_slice() == OF_NONE.as_slice(),
+        Err(_) => false,
+    }
+}
+
 #[test]
 fn a_loop(rt: HostRuntime) {
-    assert!(rt; are_descriptors() && are_tags() && are_kept(rt.alloc()));
+    let alloc = rt.alloc();
+    assert!(rt; are_descriptors() && are_tags() && are_kept(alloc) && are_of_multiplex(alloc));
 }

@@ -1,9 +1,10 @@
 //! Buffers of codings, as the tables of the standards give them.
 
 use stream_coding::{
-    AvcSequence, Buffers, Coding, HevcSequence, MpegSequence, MultiplexingBuffer, buffers_of,
-    joined_buffers_of, multiplexing_of,
+    AvcSequence, Buffers, Coding, HevcSequence, MpegSequence, buffers_of, joined_buffers_of,
+    multiplexing_of,
 };
+use unit_timing::multiplexing_buffer::MultiplexingBuffer;
 
 // Rx, the main buffer, Rbx and MBS of video, as the tables of the standards give them.
 static VIDEO: [(Coding, u32, u32, u32, u32); 12] = [

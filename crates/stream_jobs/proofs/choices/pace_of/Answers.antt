@@ -14,8 +14,8 @@ same_bursts units runs is = fun_ext (λ pace. ap (λ (burst : ℕ). min burst (2
 pub returns : goal.returns
 unfolding pace_of
 returns c =
-    let needs = c.unit_counts.inside.needs in
-    let chosen : c.choose_pace.result ≡ pace_choice needs (burst_of c.args.units.now) c.transport_delay-delay.result c.min-lead.result =
+    let needs = c.leaking_needs-needs.result in
+    let chosen : c.choose_pace.result ≡ pace_choice needs (burst_of c.args.units.now) c.delay_before-delay.result c.min-lead.result =
     c.choose_pace.ensures.value
-    ∙ ap (λ (burst : ℕ → ℕ). pace_choice needs burst c.transport_delay-delay.result c.min-lead.result) (same_bursts c.args.units.now c.in_ok-runs.runs (c.in_ok-runs.ensures 0)) in
+    ∙ ap (λ (burst : ℕ → ℕ). pace_choice needs burst c.delay_before-delay.result c.min-lead.result) (same_bursts c.args.units.now c.in_ok-runs.runs (c.in_ok-runs.ensures 0)) in
     search (rules, chosen)

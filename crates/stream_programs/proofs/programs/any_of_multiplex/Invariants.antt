@@ -1,0 +1,9 @@
+use Rattle.std.proofs.Common.{◌≡◌}
+use Rattle.std.specs.List.{list_any}
+use Rattle.psi_tables.specs.ProgramMap.{StreamView, streams_of}
+use Rattle.descriptor_loops.specs.Descriptors.{has_of_multiplex}
+use Rattle.stream_programs.proofs.programs.any_of_multiplex.Given as goal
+
+abbrev pub invariant-loop-stream : goal.invariant-loop-stream
+invariant-loop-stream l =
+    list_any (λ (s : StreamView). has_of_multiplex s.descriptors) (streams_of l.stream-iterator) ≡ list_any (λ (s : StreamView). has_of_multiplex s.descriptors) (streams_of l.fn.streams)
