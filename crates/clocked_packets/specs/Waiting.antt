@@ -20,7 +20,10 @@ use Rattle.named_streams.specs.NamedStreams.{NamedView, clock_in, none_taken}
 use Rattle.named_streams.specs.NamedStreams as naming
 use Rattle.clocked_packets.specs.declared.packet_queue.ClockPid.{ClockPid}
 use Rattle.clocked_packets.specs.declared.packet_queue.ClockPid.TheVariants.{OfFirst, OfProgram, Known}
-use Rattle.clocked_packets.specs.declared.packet_queue.TheConstants.{MOST_WAITING}
+
+-- the most packets that wait
+abbrev pub most_waiting : ℕ
+most_waiting = 65536
 
 -- the PID of the references, the streams that are named, the clock that the references give, the line of the first bytes of the first packet that waits, the number of packets
 -- so far, and those that wait
@@ -69,7 +72,7 @@ pid_by q (Some reference) = Known reference.0
 
 -- they still wait: the reference gives no line, and they are not too many
 abbrev pub still_wait : QueueState → Option (ℕ × PcrSample) → Bool
-still_wait q reference = not (is_some (line_by q reference)) && nat_lt (length q.held) MOST_WAITING
+still_wait q reference = not (is_some (line_by q reference)) && nat_lt (length q.held) most_waiting
 
 unfoldable pub arrival_by : Option Line → Option Line → Arrival
 arrival_by before None = Unknown

@@ -7,3 +7,4 @@ pub mod WholeInput
 pub mod Runs
 pub mod Usage
 pub mod Options
+pub mod Files

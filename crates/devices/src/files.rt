@@ -1,5 +1,7 @@
 //! Files that are opened by name.
-ghost use Rattle.std.specs.Prelude.{◌≡◌, ℕ, List, None, Option, IfSome};
+ghost use Rattle.std.specs.Prelude.{◌≡◌, ℕ, List, None, Option, IfSome, Bool, true, false, is_some};
+ghost use Rattle.counted_io.specs.Device.{Failed};
+ghost use Rattle.devices.specs.Files.{IsAsKnown};
 
 use counted_io::{Counted, Source};
 use std::fs::File;
@@ -11,9 +13,20 @@ pub trait NamedFiles {
     // The bytes of the file of a name, where they are known.
     ghost contents_of: { Self → List ℕ → Option (List ℕ) };
 
+    // Whether it can be opened, where that is known.
+    ghost opens: { Self → List ℕ → Option Bool };
+
+    // Whether it is known that no read of a file fails.
+    ghost never_fails: { Bool };
+
     /// Opens a file before its first byte; none where it can't be opened.
     fn open_named(&self, name: &str) -> Option<Self::Reader>
-        ensures { IfSome result (λ reader. Self.Reader.remaining reader ≡ contents_of self.now name.now) };
+        ensures reader { IfSome result (λ reader. Self.Reader.remaining reader ≡ contents_of self.now name.now) }
+        ensures opens { IsAsKnown (opens self.now name.now) (is_some result) };
+
+    // Where that is known, no reader counts a failure.
+    ghost counts_none: { never_fails ≡ true → (before after : Self.Reader) →
+        Failed (Self.Reader.fault_count before) (Self.Reader.fault_count after) → ⊥ };
 }
 
 impl NamedFiles for HostRuntime {
@@ -21,10 +34,16 @@ impl NamedFiles for HostRuntime {
 
     ghost contents_of = { λ _ _. None };
 
+    ghost opens = { λ _ _. None };
+
+    ghost never_fails = { false };
+
     fn open_named(&self, name: &str) -> Option<Counted<File>> {
         match File::open(self, name) {
             Ok(file) => Some(Counted::new(file)),
             Err(_) => None,
         }
     }
+
+    ghost counts_none = { λ never before after failed. let no : ⊥ = cc in no };
 }

@@ -11,9 +11,13 @@ use Rattle.std.proofs.lemmas.Option.{same_Some, slice_get-get_or, slice_get_with
 use Rattle.std.specs.Prelude.{is_ok}
 use Rattle.std.specs.List.{AllZip, list_any}
 use Rattle.demux.specs.Views.{FindingView}
-use Rattle.devices.specs.Devices.{Device}
+use Rattle.devices.specs.Devices.{Device, HasFailed}
+use Rattle.devices.specs.Files.{Files, IsOpened}
 use Rattle.devices.specs.Outcomes.{Outcome, reported}
-use Rattle.devices.specs.WholeInput.{IsReadAs, IsWhole}
+use Rattle.devices.specs.WholeInput.{IsReadAs, IsWhole, ReadsInput}
+use Rattle.devices.specs.declared.halt.Halt.{Halt}
+use Rattle.devices.specs.declared.halt.Halt.TheVariants as Halted
+use Rattle.devices.proofs.NamedReaders.{is_unread}
 use Rattle.packet_sync.specs.OtherPackets.{other_packets}
 use Rattle.packet_sync.specs.Slips.{carried}
 use Rattle.packet_sync.specs.declared.packet_sizes.OtherPackets.{OtherPackets}
@@ -31,7 +35,7 @@ use Rattle.stream_jobs.proofs.JoinedStreams.{joined_found}
 use Rattle.job_outcomes.specs.JobArguments.{JobArgumentsView}
 use Rattle.job_outcomes.specs.Outcomes.{ReportsWhy, Withholds, is_told_less, status_of, told_lines}
 use Rattle.job_outcomes.specs.SeveralInputs.{GivesIn, InputsLead, JoinedLead, NamedStream, all_findings, all_joined, are_streams_less, input_or_line, names_of, packets_input, stream_input, stream_inputs, streams_lines, under, with_first}
-use Rattle.job_outcomes.specs.StreamFiles.{AreNamedInputs, AreTaken, EndsAt, Files, FilesLead, HasRead, IsInput, IsInputIn, IsInputOf, IsLedTo, IsNamedInput, IsRefusalOf, IsTakenFrom, IsTakenOf, JoinedLeads, TakenLead, TakenView, taken_lines, told_under}
+use Rattle.job_outcomes.specs.StreamFiles.{AreNamedInputs, AreTaken, EndsAt, FilesLead, HasRead, IsInput, IsInputIn, IsInputOf, IsLedTo, IsNamedInput, IsRefusalOf, IsTakenFrom, IsTakenOf, JoinedLeads, TakenLead, TakenView, read_line, stopped_by, taken_lines, told_under}
 use Rattle.job_outcomes.specs.Streams.{IsOfStream, IsRead, PacketNotesView, ReadingView, findings_of, notes_of}
 
 -- 1. One stream
@@ -103,12 +107,19 @@ other_is_input a bytes packets o is told = record {
 
 -- 2. The file of a name
 
-pub named_read : (a : JobArgumentsView) (known : Option (List ℕ)) (input : Device) (r : ReadingView) (x : Result TakenView Outcome) → input.before.bytes ≡ known →
-    IsReadAs input (λ bytes. IsRead bytes r) → ((bytes : List ℕ) → IsRead bytes r → IsInput a bytes x) → IsNamedInput a known x
-named_read a known input r (Ok t) same read of =
-    record { bytes = read.bytes; whole = subst (λ (k : Option (List ℕ)). IsWhole k read.bytes) same read.read.0; is = of read.bytes read.is }
-named_read a known input r (Err o) same read of =
-    inr (record { bytes = read.bytes; whole = subst (λ (k : Option (List ℕ)). IsWhole k read.bytes) same read.read.0; is = of read.bytes read.is })
+pub named_read : (a : JobArgumentsView) (files : Files) (name : List ℕ) (input : Device) (r : ReadingView) (x : Result TakenView Outcome) → IsOpened files name → input.before.bytes ≡ files.contents name →
+    IsReadAs input (λ bytes. IsRead bytes r) → ((bytes : List ℕ) → IsRead bytes r → IsInput a bytes x) → IsNamedInput a files name x
+named_read a files name input r (Ok t) opened same read of =
+    record { opened = opened; bytes = read.bytes; whole = subst (λ (k : Option (List ℕ)). IsWhole k read.bytes) same read.read.0; is = of read.bytes read.is }
+named_read a files name input r (Err o) opened same read of =
+    inr (record { opened = opened; bytes = read.bytes; whole = subst (λ (k : Option (List ℕ)). IsWhole k read.bytes) same read.read.0; is = of read.bytes read.is })
+
+-- it can't be read to its end
+pub named_unread : (a : JobArgumentsView) (files : Files) (name : List ℕ) (input : Device) (halt : Halt) (o : Outcome) → IsOpened files name → input.before.bytes ≡ files.contents name →
+    (files.never_fails ≡ true → HasFailed input → ⊥) → (halt ≡ Halted.Memory → ⊥) → ReadsInput input (Err halt) → o ≡ stopped_by read_line → IsNamedInput a files name (Err o)
+named_unread a files name input Halted.Read o opened same never other read told = inl (inr (told, is_unread files name input opened same never read))
+named_unread a files name input Halted.Write o opened same never other read told = absurd read
+named_unread a files name input Halted.Memory o opened same never other read told = absurd (other refl)
 
 -- 3. Files one after another
 
@@ -128,14 +139,14 @@ pub no_files : (a : JobArgumentsView) (files : Files) (names : List (List ℕ)) 
 no_files a files names = record { streams = []; read = tt; are = tt }
 
 pub one_more : (a : JobArgumentsView) (files : Files) (names : List (List ℕ)) (k : ℕ) (name : List ℕ) (taken next : List TakenView) (t : TakenView) → k < length names → name ≡ get_or names k name →
-    AreTaken a files (take k names) taken → IsInputIn a (files name) (Ok t) → next ≡ taken ++ t ∷ [] → AreTaken a files (take (k + 1) names) next
+    AreTaken a files (take k names) taken → IsInputIn a files name (Ok t) → next ≡ taken ++ t ∷ [] → AreTaken a files (take (k + 1) names) next
 one_more a files names k name taken next t within at before one pushed =
     let s : NamedStream = record { name = name; bytes = one.bytes } in
     let longer : take k names ++ name ∷ [] ≡ take (k + 1) names = ap (λ (n : List ℕ). take k names ++ n ∷ []) at ∙ sym (take_more names k name within) in
     record {
       streams = before.streams ++ s ∷ [];
       read = subst (λ (l : List (List ℕ)). AllZip (HasRead files) l (before.streams ++ s ∷ [])) longer
-          (zip_push (HasRead files) (take k names) before.streams name s before.read (refl, one.whole));
+          (zip_push (HasRead files) (take k names) before.streams name s before.read (refl, one.whole, one.opened));
       are = subst (λ (l : List TakenView). AllZip (IsTakenFrom a) (before.streams ++ s ∷ []) l) (sym pushed)
           (zip_push (IsTakenFrom a) before.streams taken s t before.are one.is);
     }
@@ -144,7 +155,7 @@ pub all_files : (a : JobArgumentsView) (files : Files) (names : List (List ℕ))
 all_files a files names k taken over are = subst (λ (l : List (List ℕ)). AreTaken a files l taken) (take_all k names over) are
 
 pub ends_at : (a : JobArgumentsView) (files : Files) (names : List (List ℕ)) (k : ℕ) (name : List ℕ) (taken : List TakenView) (alone o : Outcome) → k < length names → name ≡ get_or names k name →
-    AreTaken a files (take k names) taken → IsNamedInput a (files name) (Err alone) → o ≡ told_under k name alone → EndsAt a files names o
+    AreTaken a files (take k names) taken → IsNamedInput a files name (Err alone) → o ≡ told_under k name alone → EndsAt a files names o
 ends_at a files names k name taken alone o within at before is told = record {
   number = k;
   name = name;
@@ -321,7 +332,7 @@ not_all a streams line n m is taken =
     let no : false ≡ true = sym (ap (λ (x : Result (List JobInputView) (List ℕ)). is_ok x) is) ∙ taken in
     absurd (let never : ⊥ = cc in never)
 
-refused_lead : (a : JobArgumentsView) (files : Files) (names : List (List ℕ)) (o : Outcome) (e : EndsAt a files names o) → IsInputIn a (files e.name) (Err e.alone) → IsLedTo a files names o
+refused_lead : (a : JobArgumentsView) (files : Files) (names : List (List ℕ)) (o : Outcome) (e : EndsAt a files names o) → IsInputIn a files e.name (Err e.alone) → IsLedTo a files names o
 refused_lead a files names o e one =
     let s : NamedStream = record { name = e.name; bytes = one.bytes } in
     let all = e.before.streams ++ s ∷ [] in
@@ -339,13 +350,13 @@ refused_lead a files names o e one =
     record {
       streams = all;
       read = subst (λ (l : List (List ℕ)). AllZip (HasRead files) l all) longer
-          (zip_push (HasRead files) (take e.number names) e.before.streams e.name s e.before.read (refl, one.whole));
+          (zip_push (HasRead files) (take e.number names) e.before.streams e.name s e.before.read (refl, one.whole, one.opened));
       all = not_all a all (input_line e.number e.name ++ one.is.line) (length all) (length names) refused;
       leads = subst (λ (x : Result (List JobInputView) (List ℕ)). InputsLead a all x o) (sym refused)
           (e.told ∙ ap (λ (x : Outcome). told_under e.number e.name x) one.is.is);
     }
 
-ended : (a : JobArgumentsView) (files : Files) (names : List (List ℕ)) (o : Outcome) (e : EndsAt a files names o) → IsNamedInput a (files e.name) (Err e.alone) → FilesLead a files names o
+ended : (a : JobArgumentsView) (files : Files) (names : List (List ℕ)) (o : Outcome) (e : EndsAt a files names o) → IsNamedInput a files e.name (Err e.alone) → FilesLead a files names o
 ended a files names o e (inl stop) = inl (record {
   number = e.number;
   name = e.name;
@@ -364,10 +375,10 @@ ends_lead a files names o e = ended a files names o e e.is
 
 -- 6. What calls answer
 
-pub named_answer : {E : Type 0} (a : JobArgumentsView) (known : Option (List ℕ)) (input : Device) (r : ReadingView) (x : Result (Result TakenView Outcome) E) → input.before.bytes ≡ known →
-    IsReadAs input (λ bytes. IsRead bytes r) → ((bytes : List ℕ) → IsRead bytes r → IfOk x (IsInput a bytes)) → IfOk x (IsNamedInput a known)
-named_answer a known input r (Ok y) same read of = named_read a known input r y same read of
-named_answer a known input r (Err e) same read of = tt
+pub named_answer : {E : Type 0} (a : JobArgumentsView) (files : Files) (name : List ℕ) (input : Device) (r : ReadingView) (x : Result (Result TakenView Outcome) E) → IsOpened files name →
+    input.before.bytes ≡ files.contents name → IsReadAs input (λ bytes. IsRead bytes r) → ((bytes : List ℕ) → IsRead bytes r → IfOk x (IsInput a bytes)) → IfOk x (IsNamedInput a files name)
+named_answer a files name input r (Ok y) opened same read of = named_read a files name input r y opened same read of
+named_answer a files name input r (Err e) opened same read of = tt
 
 mapped_at : (names : List (Bor (List ℕ))) (k : ℕ) (d : Bor (List ℕ)) (e : List ℕ) → k < length names → (get_or names k d).now ≡ get_or (map (λ s. s.now) names) k e
 mapped_at [] k d e within = absurd (let no : ⊥ = omega (arith, within) in no)
@@ -378,20 +389,20 @@ mapped_within : (names : List (Bor (List ℕ))) (k : ℕ) → k < length names �
 mapped_within names k within = let size = length-map names (λ s. s.now) in omega (arith, size, within)
 
 pub one_named : (a : JobArgumentsView) (files : Files) (names : List (Bor (List ℕ))) (k : ℕ) (d : Bor (List ℕ)) (x : Result TakenView Outcome) (taken next : List TakenView) (t : TakenView) → k < length names →
-    AreTaken a files (take k (map (λ s. s.now) names)) taken → IsNamedInput a (files (get_or names k d).now) x → x ≡ Ok t → next ≡ taken ++ t ∷ [] →
+    AreTaken a files (take k (map (λ s. s.now) names)) taken → IsNamedInput a files (get_or names k d).now x → x ≡ Ok t → next ≡ taken ++ t ∷ [] →
     AreTaken a files (take (k + 1) (map (λ s. s.now) names)) next
 one_named a files names k d x taken next t within before is same pushed =
     let name = (get_or names k d).now in
     one_more a files (map (λ s. s.now) names) k name taken next t (mapped_within names k within) (mapped_at names k d name within) before
-    (subst (λ (y : Result TakenView Outcome). IsNamedInput a (files name) y) same is) pushed
+    (subst (λ (y : Result TakenView Outcome). IsNamedInput a files name y) same is) pushed
 
 pub ends_named : (a : JobArgumentsView) (files : Files) (names : List (Bor (List ℕ))) (k : ℕ) (d : Bor (List ℕ)) (x : Result TakenView Outcome) (taken : List TakenView) (alone o : Outcome) → k < length names →
-    AreTaken a files (take k (map (λ s. s.now) names)) taken → IsNamedInput a (files (get_or names k d).now) x → x ≡ Err alone → o ≡ told_under k (get_or names k d).now alone →
+    AreTaken a files (take k (map (λ s. s.now) names)) taken → IsNamedInput a files (get_or names k d).now x → x ≡ Err alone → o ≡ told_under k (get_or names k d).now alone →
     EndsAt a files (map (λ s. s.now) names) o
 ends_named a files names k d x taken alone o within before is same told =
     let name = (get_or names k d).now in
     ends_at a files (map (λ s. s.now) names) k name taken alone o (mapped_within names k within) (mapped_at names k d name within) before
-    (subst (λ (y : Result TakenView Outcome). IsNamedInput a (files name) y) same is) told
+    (subst (λ (y : Result TakenView Outcome). IsNamedInput a files name y) same is) told
 
 few_mapped : (taken : List TakenView) → All (λ t. length t.input.streams ≤ 32) taken → All (λ m. length m.streams ≤ 32) (map (λ t. t.input) taken)
 few_mapped [] all = All-nil (λ m. length m.streams ≤ 32)

@@ -3,6 +3,7 @@ use Rattle.std.specs.Prelude.{◌≡◌, ◌⊎◌, ℕ, ◌+◌, ◌||◌, true
 use Rattle.std.specs.List.{AllZip, list_any}
 use Rattle.demux.specs.Views.{FindingView}
 use Rattle.devices.specs.Devices.{Device, IsUntouched}
+use Rattle.devices.specs.Files.{Files, IsOpened, IsUnopened, IsUnread}
 use Rattle.devices.specs.Lines.{Reports}
 use Rattle.devices.specs.Outcomes.{Outcome, halt_line, reported}
 use Rattle.devices.specs.WholeInput.{IsWhole}
@@ -18,10 +19,6 @@ use Rattle.job_outcomes.specs.JobArguments.{JobArgumentsView}
 use Rattle.job_outcomes.specs.Outcomes.{IsWritten, is_told_less, status_of, told_lines}
 use Rattle.job_outcomes.specs.SeveralInputs.{GivesIn, IsRefusedIn, NamedStream, StreamsLead, all_joined, is_stream_less, stream_input, stream_inputs, stream_lines, under}
 use Rattle.job_outcomes.specs.Streams.{PacketNotesView, findings_of}
-
--- the bytes of the file of a name, where they are known
-abbrev pub Files : Type 0
-Files = List ℕ → Option (List ℕ)
 
 -- 1. One stream
 
@@ -77,24 +74,25 @@ open_line = codes "open\n"
 abbrev pub read_line : List ℕ
 read_line = codes "read\n"
 
-abbrev pub IsStop : Outcome → Type 0
-IsStop o = (o ≡ stopped_by open_line) ⊎ (o ≡ stopped_by read_line)
+abbrev pub IsStop : Files → List ℕ → Outcome → Type 0
+IsStop files name o = ((o ≡ stopped_by open_line) × IsUnopened files name) ⊎ ((o ≡ stopped_by read_line) × IsUnread files name)
 
--- it was read; its bytes are these, where they are known
-pub record IsInputIn (a : JobArgumentsView) (known : Option (List ℕ)) (r : Result TakenView Outcome) : Type 0 where
+-- it was opened and read; its bytes are these, where they are known
+pub record IsInputIn (a : JobArgumentsView) (files : Files) (name : List ℕ) (r : Result TakenView Outcome) : Type 0 where
+  pub opened : IsOpened files name
   pub bytes : List ℕ
-  pub whole : IsWhole known bytes
+  pub whole : IsWhole (files.contents name) bytes
   pub is : IsInput a bytes r
 
-abbrev pub IsNamedInput : JobArgumentsView → Option (List ℕ) → Result TakenView Outcome → Type 0
-IsNamedInput a known (Ok t) = IsInputIn a known (Ok t)
-IsNamedInput a known (Err o) = IsStop o ⊎ IsInputIn a known (Err o)
+abbrev pub IsNamedInput : JobArgumentsView → Files → List ℕ → Result TakenView Outcome → Type 0
+IsNamedInput a files name (Ok t) = IsInputIn a files name (Ok t)
+IsNamedInput a files name (Err o) = IsStop files name o ⊎ IsInputIn a files name (Err o)
 
 -- 3. All files
 
--- a stream was read of the file of a name
+-- the file of a name was opened, and a stream was read of it
 abbrev pub HasRead : Files → List ℕ → NamedStream → Type 0
-HasRead files name s = (s.name ≡ name) × IsWhole (files name) s.bytes
+HasRead files name s = (s.name ≡ name) × IsWhole (files.contents name) s.bytes × IsOpened files name
 
 abbrev pub IsTakenFrom : JobArgumentsView → NamedStream → TakenView → Type 0
 IsTakenFrom a s t = IsTaken a s.bytes t
@@ -117,7 +115,7 @@ pub record EndsAt (a : JobArgumentsView) (files : Files) (names : List (List ℕ
   pub taken : List TakenView
   pub before : AreTaken a files (take number names) taken
   pub alone : Outcome
-  pub is : IsNamedInput a (files name) (Err alone)
+  pub is : IsNamedInput a files name (Err alone)
   pub told : o ≡ told_under number name alone
 
 abbrev pub AreNamedInputs : JobArgumentsView → Files → List (List ℕ) → Result (List TakenView) Outcome → Type 0
@@ -144,7 +142,7 @@ TakenLead a names taken o = JoinedLeads a names taken (all_joined (map (λ t. t.
 
 -- 4. What is done
 
--- a file can't be opened or read, and a job takes something of each one before it
+-- a file can't be opened or read to its end, and a job takes something of each one before it
 pub record IsStopped (a : JobArgumentsView) (files : Files) (names : List (List ℕ)) (o : Outcome) : Type 0 where
   pub number : ℕ
   pub name : List ℕ
@@ -153,7 +151,7 @@ pub record IsStopped (a : JobArgumentsView) (files : Files) (names : List (List 
   pub read : AllZip (HasRead files) (take number names) streams
   pub taken : is_ok (stream_inputs a.options 0 streams) ≡ true
   pub alone : Outcome
-  pub is : IsStop alone
+  pub is : IsStop files name alone
   pub told : o ≡ told_under number name alone
 
 -- the outcome is the one to which the streams lead; where a job takes something of each of them, they are those of all files

@@ -174,7 +174,8 @@ fn named_outcome<F: NamedFiles>(
     files: &F,
     names: &[&str],
 ) -> Result<JobOutcome, AllocError>
-    ensures { IfOk result (spec.FilesLead arguments.now (F.contents_of files.now) (map (λ s. s.now) names.now)) }
+    ensures { IfOk result (spec.FilesLead arguments.now
+        (files_of (F.contents_of files.now) (F.opens files.now) F.never_fails) (map (λ s. s.now) names.now)) }
 {
     match named_inputs(alloc, arguments, files, names)? {
         Ok(taken) => taken_outcome(alloc, arguments, names, taken),
@@ -191,7 +192,8 @@ pub fn perform_files<F: NamedFiles, W: Sink, E: Sink>(
     output: &mut W,
     faults: &mut E,
 ) -> u8
-    ensures { spec.PerformsFiles arguments.now (F.contents_of files.now) (map (λ s. s.now) names.now)
+    ensures { spec.PerformsFiles arguments.now
+        (files_of (F.contents_of files.now) (F.opens files.now) F.never_fails) (map (λ s. s.now) names.now)
         (writes W.Sink output.old output.new) (writes E.Sink faults.old faults.new) result }
 {
     match named_outcome(alloc, arguments, files, names) {

@@ -3,6 +3,7 @@
 ghost use Rattle.std.specs.Prelude.{◌≡◌, ◌++◌, IfOk, List, None, OnOk, ℕ, map, string_bytes};
 ghost use Rattle.demux.specs.Shown.{finding_view};
 ghost use Rattle.demux.specs.Views.{FindingView};
+ghost use Rattle.devices.specs.Files.{files_of};
 ghost use Rattle.other_tables.specs.OtherTables as tables;
 ghost use Rattle.packet_sync.specs.OtherPackets.{other_packets};
 ghost use Rattle.job_outcomes.specs.Outcomes.{is_told_less, told_lines};
@@ -146,7 +147,8 @@ fn named_input<F: NamedFiles>(
     files: &F,
     name: &str,
 ) -> Result<Result<TakenStream, JobOutcome>, AllocError>
-    ensures { IfOk result (spec.IsNamedInput arguments.now (F.contents_of files.now name.now)) }
+    ensures { IfOk result (spec.IsNamedInput arguments.now
+        (files_of (F.contents_of files.now) (F.opens files.now) F.never_fails) name.now) }
 {
     let Some(mut file) = files.open_named(name) else {
         return Ok(Err(unopened(alloc)?));
@@ -196,7 +198,8 @@ pub(crate) fn named_inputs<F: NamedFiles>(
     files: &F,
     names: &[&str],
 ) -> Result<Result<TakenStreams, JobOutcome>, AllocError>
-    ensures { IfOk result (spec.AreNamedInputs arguments.now (F.contents_of files.now) (map (λ s. s.now) names.now)) }
+    ensures { IfOk result (spec.AreNamedInputs arguments.now
+        (files_of (F.contents_of files.now) (F.opens files.now) F.never_fails) (map (λ s. s.now) names.now)) }
 {
     let mut streams = Vec::new(alloc);
     for (number, name) in names.iter().enumerate() {

@@ -5,10 +5,9 @@ use Rattle.clock27.specs.Arrival.{bytes_from}
 use Rattle.clock27.specs.Units.{byte_ticks_at_1bps}
 use Rattle.packet_arrival.specs.Rows.{times_in_row}
 use Rattle.packet_arrival.specs.Lines.{Reaches, constant_line, parts_at, arrival_at, arrivals_on}
-use Rattle.packet_arrival.specs.declared.clock.TheConstants.{PCR_PERIOD}
 use Rattle.packet_arrival.specs.declared.clock.PcrSample.{PcrSample}
 use Rattle.packet_arrival.specs.declared.line.Line.{Line}
-use Rattle.packet_arrival.specs.Clock.{IsInRange, IsClockLine, last_of, state_of}
+use Rattle.packet_arrival.specs.Clock.{IsClockLine, IsInRange, last_of, pcr_period, state_of}
 use Rattle.packet_arrival.specs.ByteLines.{line_to, first_after, line_of, LiesAfter, AreLater}
 
 -- at a constant rate a byte arrives at its time in whole ticks
@@ -48,7 +47,7 @@ Rounded = (scale : ℕ) (line : Line) (i : ℕ) → 0 < line.bytes →
 
 -- a moment and its reference differ by whole periods of the clock
 abbrev pub MomentLaw : Type 0
-MomentLaw = (samples : List PcrSample) → All IsInRange samples → IfSome (last_of samples) (λ last. last.moment % PCR_PERIOD ≡ last.sample.ticks % PCR_PERIOD)
+MomentLaw = (samples : List PcrSample) → All IsInRange samples → IfSome (last_of samples) (λ last. last.moment % pcr_period ≡ last.sample.ticks % pcr_period)
 
 -- a clock's line gives a moment to each byte that lies up to 2^24 before it
 abbrev pub ReachLaw : Type 0

@@ -1,9 +1,8 @@
 //! The program clock references of a program, as they come.
 ghost use Rattle.std.specs.Prelude.{◌≡◌, ◌+◌, ◌<◌, ◌^◌, None, IfSome};
 ghost use Rattle.std.specs.Option.{option_or};
-ghost use Rattle.packet_arrival.specs.declared.clock.TheConstants.{PCR_PERIOD};
 ghost use Rattle.packet_arrival.specs.Clock.{IsInRange, IsMoment, IsClockLine, IfGoesOn};
-ghost use Rattle.packet_arrival.specs.Clock.{elapsed, goes_on, step_from, step_after, moment_by, line_in, state_after};
+ghost use Rattle.packet_arrival.specs.Clock.{elapsed, goes_on, step_from, step_after, moment_by, line_in, pcr_period, state_after};
 
 use crate::line::Line;
 use std::marker::Model;
@@ -78,7 +77,7 @@ fn elapsed(before: u64, value: u64) -> u64
     requires before { before < 2 ^ 42 }
     requires value { value < 2 ^ 42 }
     ensures value { result ≡ elapsed before value }
-    ensures bound { result < PCR_PERIOD }
+    ensures bound { result < pcr_period }
 {
     (value + 2 * PCR_PERIOD - before) % PCR_PERIOD
 }

@@ -1,11 +1,15 @@
 -- Which measured values are errors (ETSI TR 101 290, 5.2.1 and 5.2.2).
 use Rattle.std.specs.Prelude.{ℕ, nat_lt, if◌then◌else◌, Option, Some, None}
+use Rattle.packet_arrival.specs.Clock.{greatest_interval}
 use Rattle.packet_arrival.specs.declared.clock.ClockStep.{ClockStep}
 use Rattle.packet_arrival.specs.declared.clock.ClockStep.TheVariants.{First, GoesOn, Announced, Jump}
 use Rattle.pcr_errors.specs.declared.report.Inaccuracy.{Inaccuracy}
 use Rattle.pcr_errors.specs.declared.report.PcrError.{PcrError}
 use Rattle.pcr_errors.specs.declared.report.PcrReport.{PcrReport}
-use Rattle.pcr_errors.specs.declared.report.TheConstants.{GREATEST_INTERVAL, GREATEST_INACCURACY}
+
+-- the greatest inaccuracy of a reference, in nanoseconds (ISO/IEC 13818-1, 2.4.2.2)
+abbrev pub greatest_inaccuracy : ℕ
+greatest_inaccuracy = 500
 
 -- a value at a byte that is beyond a limit
 abbrev pub beyond : ℕ → ℕ → ℕ → Option PcrError
@@ -17,7 +21,7 @@ beyond_if limit byte (Some value) = beyond limit byte value
 
 -- 2.3a, PCR_repetition_error: more than 100 ms after the reference before it
 abbrev pub repetition_error : PcrReport → Option PcrError
-repetition_error report = beyond_if GREATEST_INTERVAL report.byte report.interval
+repetition_error report = beyond_if greatest_interval report.byte report.interval
 
 -- the ticks from the value of the reference before it to its own, where no discontinuity_indicator stands beside it; values
 -- come round, so that one that falls has gone on by nearly a whole period
@@ -29,12 +33,12 @@ difference_in (Jump ticks) = Some ticks
 
 -- 2.3b, PCR_discontinuity_indicator_error: that is not within 0 to 100 ms
 abbrev pub discontinuity_error : PcrReport → Option PcrError
-discontinuity_error report = beyond_if GREATEST_INTERVAL report.byte (difference_in report.step)
+discontinuity_error report = beyond_if greatest_interval report.byte (difference_in report.step)
 
 -- 2.4, PCR_accuracy_error: a reference is inaccurate by more than 500 ns
 unfoldable pub off_beyond : Option Inaccuracy → Option PcrError
 off_beyond None = None
-off_beyond (Some off) = beyond GREATEST_INACCURACY off.byte off.nanoseconds
+off_beyond (Some off) = beyond greatest_inaccuracy off.byte off.nanoseconds
 
 abbrev pub accuracy_error : PcrReport → Option PcrError
 accuracy_error report = off_beyond report.inaccuracy

@@ -19,12 +19,13 @@ use Rattle.round_trip_job.specs.JoinedLaws.{JoinedAcceptedLaw, JoinedAgainLaw}
 use Rattle.round_trip_job.specs.Laws.{schedule_for}
 use Rattle.round_trip_job.proofs.AcceptedUnits.{all_kept_in}
 use Rattle.devices.specs.Devices.{Device}
+use Rattle.devices.specs.Files.{Files}
 use Rattle.devices.specs.Outcomes.{Outcome}
 use Rattle.job_outcomes.specs.declared.job_arguments.Subcommand.{Subcommand}
 use Rattle.job_outcomes.specs.JobArguments.{JobArgumentsView}
 use Rattle.job_outcomes.specs.Outcomes.{IsWritten}
 use Rattle.job_outcomes.specs.SeveralInputs.{GivesIn, GivesJobIn, InputsLead, JoinedLead, NamedStream, all_findings, all_joined, input_or_line, packets_input, stream_input, stream_inputs, with_first}
-use Rattle.job_outcomes.specs.StreamFiles.{Files, FilesLead, HasRead, IsStop, PerformsFiles, told_under}
+use Rattle.job_outcomes.specs.StreamFiles.{FilesLead, HasRead, IsStop, PerformsFiles, told_under}
 use Rattle.job_outcomes.specs.Streams.{findings_of}
 use Rattle.tsjob_cli.specs.Arguments.{arguments_in}
 use Rattle.tsjob_cli.specs.FileWords.{file_arguments, file_words, option_words, unless_streamed}
@@ -144,11 +145,11 @@ inputs_by a streams o (Err lines) e leads some = absurd (none_written o _ leads 
 inputs_by a streams o (Ok ms) e leads some = record { inputs = ms; are = e; of = joined_by a streams ms o (all_joined ms) refl leads some }
 
 -- a file that can't be opened or read leads to no output
-none_stopped : (o alone : Outcome) (number : ℕ) (name : List ℕ) → o ≡ told_under number name alone → IsStop alone → 0 < length o.output → ⊥
-none_stopped o alone number name told (inl e) some =
-    let none : length o.output ≡ 0 = ap (λ (x : Outcome). length x.output) told ∙ ap (λ (x : Outcome). length x.output) e in absurd (omega (arith, none, some))
-none_stopped o alone number name told (inr e) some =
-    let none : length o.output ≡ 0 = ap (λ (x : Outcome). length x.output) told ∙ ap (λ (x : Outcome). length x.output) e in absurd (omega (arith, none, some))
+none_stopped : (files : Files) (o alone : Outcome) (number : ℕ) (name : List ℕ) → o ≡ told_under number name alone → IsStop files name alone → 0 < length o.output → ⊥
+none_stopped files o alone number name told (inl e) some =
+    let none : length o.output ≡ 0 = ap (λ (x : Outcome). length x.output) told ∙ ap (λ (x : Outcome). length x.output) e.0 in absurd (omega (arith, none, some))
+none_stopped files o alone number name told (inr e) some =
+    let none : length o.output ≡ 0 = ap (λ (x : Outcome). length x.output) told ∙ ap (λ (x : Outcome). length x.output) e.0 in absurd (omega (arith, none, some))
 
 record StreamsOf (a : JobArgumentsView) (files : Files) (names : List Text) (o : Outcome) : Type 0 where
   streams : List NamedStream
@@ -157,7 +158,7 @@ record StreamsOf (a : JobArgumentsView) (files : Files) (names : List Text) (o :
 
 streams_by : (a : JobArgumentsView) (files : Files) (names : List Text) (o : Outcome) → FilesLead a files names o → 0 < length o.output →
     StreamsOf a files names o
-streams_by a files names o (inl stop) some = absurd (none_stopped o stop.alone stop.number stop.name stop.told stop.is some)
+streams_by a files names o (inl stop) some = absurd (none_stopped files o stop.alone stop.number stop.name stop.told stop.is some)
 streams_by a files names o (inr led) some =
     let of = inputs_by a led.streams o (stream_inputs a.options 0 led.streams) refl led.leads some in
     let size = led.all (ap (λ (r : Result (List JobInputView) (List ℕ)). is_ok r) of.are) in

@@ -12,11 +12,12 @@ use Rattle.stream_jobs.specs.JoinedInputs.{JoinedInputsView, findings_in}
 use Rattle.stream_jobs.specs.declared.joined_inputs.Origin.{Origin}
 use Rattle.stream_jobs.specs.declared.program_clock.ProgramClock.{ProgramClock}
 use Rattle.devices.specs.Devices.{Device, Takes}
+use Rattle.devices.specs.Files.{Files}
 use Rattle.devices.specs.Lines.{Reports}
 use Rattle.job_outcomes.specs.declared.job_arguments.Subcommand.TheVariants.{Whole}
 use Rattle.job_outcomes.specs.JobArguments.{JobArgumentsView}
 use Rattle.job_outcomes.specs.SeveralInputs.{GivesJobIn, NamedStream, all_findings, all_joined, stream_inputs}
-use Rattle.job_outcomes.specs.StreamFiles.{Files, HasRead}
+use Rattle.job_outcomes.specs.StreamFiles.{HasRead}
 use Rattle.job_outcomes.specs.Streams.{findings_of}
 use Rattle.tsjob_cli.specs.FileWords.{file_arguments, file_words}
 use Rattle.tsjob_cli.specs.NamedInputs.{ReadsFiles}

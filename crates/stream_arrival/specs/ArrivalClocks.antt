@@ -4,9 +4,8 @@
 -- line begins there: so no byte arrives before an earlier one.
 use Rattle.std.specs.Prelude.{ℕ, ◌+◌, ◌-◌, ◌*◌, ◌/◌, ◌^◌, min, max, Option, Some, None}
 use Rattle.std.specs.Option.{option_or}
-use Rattle.packet_arrival.specs.Clock.{ClockState, step_after, state_after}
+use Rattle.packet_arrival.specs.Clock.{ClockState, pcr_period, state_after, step_after}
 use Rattle.packet_arrival.specs.Lines.{parts_at}
-use Rattle.packet_arrival.specs.declared.clock.TheConstants.{PCR_PERIOD}
 use Rattle.packet_arrival.specs.declared.clock.PcrSample.{PcrSample}
 use Rattle.packet_arrival.specs.declared.clock.ClockStep.{ClockStep}
 use Rattle.packet_arrival.specs.declared.clock.ClockStep.TheVariants.{First, GoesOn, Announced, Jump}
@@ -22,7 +21,7 @@ abbrev pub no_clock : ClockState
 no_clock = record { last = None; line = None }
 
 abbrev pub no_reference : ArrivalClockState
-no_reference = record { clock = no_clock; moment = PCR_PERIOD; line = None }
+no_reference = record { clock = no_clock; moment = pcr_period; line = None }
 
 -- the line on which the clock goes on from a reference of that moment
 unfoldable pub line_from : ℕ → ClockStep → Option Line
@@ -38,8 +37,8 @@ tick_after line i = (parts_at line i + (line.bytes - 1)) / max 1 line.bytes
 -- the moment of a reference at a byte with which the clock begins anew: that of its byte on the line before, in whole ticks, which is no
 -- later than a second for each packet before; one period where there is no line
 unfoldable pub moment_anew : Option Line → ℕ → ℕ
-moment_anew None byte = PCR_PERIOD
-moment_anew (Some line) byte = max PCR_PERIOD (min (tick_after line byte) (2 ^ 44 + 143618 * byte))
+moment_anew None byte = pcr_period
+moment_anew (Some line) byte = max pcr_period (min (tick_after line byte) (2 ^ 44 + 143618 * byte))
 
 unfoldable pub moment_by : ℕ → ClockStep → Option Line → ℕ → ℕ
 moment_by moment First before byte = moment_anew before byte

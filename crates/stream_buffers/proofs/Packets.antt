@@ -7,11 +7,11 @@ use Rattle.stream_arrival.specs.declared.arrival.Arrival.TheVariants.{Unknown, A
 use Rattle.stream_arrival.specs.Arrivals.{has_times}
 use Rattle.transport_buffer.specs.declared.excess.Excess.{Excess}
 use Rattle.stream_view.specs.History.{transport_of}
+use Rattle.stream_view.specs.Limits.{last_bytes, last_index}
 use Rattle.stream_view.specs.declared.unit_seen.UnitSeen.{UnitSeen}
 use Rattle.stream_buffers.specs.declared.arriving.Arriving.{Arriving}
 use Rattle.stream_buffers.specs.declared.entered.Entered.{Entered}
 use Rattle.stream_buffers.specs.declared.buffers.StreamBuffers.{StreamBuffers}
-use Rattle.stream_buffers.specs.declared.entering.TheConstants.{LAST_INDEX, LAST_BYTES}
 use Rattle.stream_buffers.specs.Held.{Held, IsHeld}
 use Rattle.stream_buffers.specs.Entering.{after, after_begin, after_bytes, after_header, after_lead, after_unit, bytes_main, bytes_main_least, bytes_main_most, bytes_transport, bytes_transport_most, ended_with, entered, entered_view, lead_in, size_of, takes_in, unit_ended, with_packet}
 use Rattle.stream_buffers.proofs.Rows.{bytes_held}
@@ -24,11 +24,11 @@ within (AtRate rate) i j n e first last = grind (arith, nat_tests)
 within (OnLines lines) i j n e first last = grind (arith, nat_tests)
 
 -- a packet is taken in
-pub taken_in : (b : StreamBuffers) (h : Held) (arrival : Arrival) (p : Arriving) → IsHeld b h → p.index < LAST_INDEX → b.view.transport.bytes ≤ LAST_BYTES →
+pub taken_in : (b : StreamBuffers) (h : Held) (arrival : Arrival) (p : Arriving) → IsHeld b h → p.index < last_index → b.view.transport.bytes ≤ last_bytes →
     has_times arrival (188 * p.index) 188 ≡ true → takes_in h arrival p ≡ true
 taken_in b h arrival p k early few times =
-    let bytes : (transport_of h.rate h.parts).bytes ≤ LAST_BYTES = omega (arith, bytes_held b h k, few) in
-    by_tests p.index LAST_INDEX (transport_of h.rate h.parts).bytes LAST_BYTES (has_times arrival (188 * p.index) 188) early bytes times
+    let bytes : (transport_of h.rate h.parts).bytes ≤ last_bytes = omega (arith, bytes_held b h k, few) in
+    by_tests p.index last_index (transport_of h.rate h.parts).bytes last_bytes (has_times arrival (188 * p.index) 188) early bytes times
   where
     by_tests : (a b c d : ℕ) (e : Bool) → a < b → c ≤ d → e ≡ true → (nat_lt a b && nat_le c d && e) ≡ true
     by_tests a b c d e lt le is = rw is (grind (arith, nat_tests))

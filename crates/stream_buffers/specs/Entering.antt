@@ -6,12 +6,12 @@ use Rattle.stream_arrival.specs.declared.arrival.Arrival.{Arrival}
 use Rattle.stream_arrival.specs.Arrivals.{has_times, lead_of, times_at}
 use Rattle.transport_buffer.specs.declared.excess.Excess.{Excess}
 use Rattle.stream_view.specs.History.{transport_of}
+use Rattle.stream_view.specs.Limits.{last_bytes, last_index}
 use Rattle.stream_view.specs.declared.unit_seen.UnitSeen.{UnitSeen}
 use Rattle.stream_view.specs.declared.unit_seen.DueTime.{DueTime}
 use Rattle.stream_buffers.specs.Held.{Held, begun, carried, main_ended, main_found, main_least_found, passed, transport_ended, transport_found, unit_before}
 use Rattle.stream_buffers.specs.declared.arriving.Arriving.{Arriving}
 use Rattle.stream_buffers.specs.declared.entered.Entered.{Entered}
-use Rattle.stream_buffers.specs.declared.entering.TheConstants.{LAST_INDEX, LAST_BYTES}
 
 -- what has ended with a packet: excesses of the transport buffer, of the main buffer, and the unit before one that begins; the most
 -- that was in each buffer when a byte of it entered, and the least that one found in the main buffer
@@ -96,7 +96,7 @@ bytes_main_least h arrival enters i n = payload_main_least h enters n (times_at 
 
 -- a packet enters as long as its bytes have times and no more than 2^40 bytes come
 abbrev pub takes_in : Held → Arrival → Arriving → Bool
-takes_in h arrival p = nat_lt p.index LAST_INDEX && nat_le (transport_of h.rate h.parts).bytes LAST_BYTES && has_times arrival (188 * p.index) 188
+takes_in h arrival p = nat_lt p.index last_index && nat_le (transport_of h.rate h.parts).bytes last_bytes && has_times arrival (188 * p.index) 188
 
 -- its first bytes up to where another line begins, the rest of what stands before its payload, the unit that begins, and its payload
 abbrev pub after_lead : Held → Arrival → Arriving → ℕ → Held

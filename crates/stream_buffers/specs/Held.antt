@@ -8,12 +8,12 @@ use Rattle.transport_buffer.specs.Excesses.{excess_after, excesses_ended}
 use Rattle.stream_view.specs.History.{Part, arrivals_of, transport_of, last_of, left_after, main_fullness, main_peak, row_least, unit_of}
 use Rattle.stream_view.specs.History.Part.{Passes, Carries, Begins}
 use Rattle.stream_view.specs.Viewed.{IsViewOf}
+use Rattle.stream_view.specs.Limits.{tb_size}
 use Rattle.stream_view.specs.MainExcess.{after_row, ended_by}
 use Rattle.stream_view.specs.declared.main_watch.MainWatch.{MainWatch}
 use Rattle.stream_view.specs.declared.unit_seen.UnitSeen.{UnitSeen}
 use Rattle.stream_view.specs.declared.unit_seen.DueTime.{DueTime}
 use Rattle.stream_buffers.specs.declared.buffers.StreamBuffers.{StreamBuffers}
-use Rattle.stream_buffers.specs.declared.entering.TheConstants.{TRANSPORT_BYTES}
 
 pub record Held : Type 0 where
   pub rate : ℕ
@@ -29,7 +29,7 @@ empty rate rx size = record { rate = rate; rx = rx; parts = []; main = record { 
 pub record IsHeld (buffers : StreamBuffers) (h : Held) : Type 0 where
   pub rx : buffers.rx ≡ h.rx
   pub step : buffers.view.transport.step ≡ h.rate
-  pub size : buffers.view.watch.size ≡ TRANSPORT_BYTES
+  pub size : buffers.view.watch.size ≡ tb_size
   pub view : IsViewOf buffers.view h.parts
   pub main : buffers.main ≡ h.main
 
@@ -44,7 +44,7 @@ main_most h = main_peak h.rate h.parts
 
 -- the excess of the transport buffer that is under way
 abbrev pub transport_under_way : Held → Option Excess
-transport_under_way h = excess_after h.rate TRANSPORT_BYTES 0 None (arrivals_of h.parts)
+transport_under_way h = excess_after h.rate tb_size 0 None (arrivals_of h.parts)
 
 -- the unit under way
 abbrev pub unit_before : Held → Option UnitSeen
@@ -54,7 +54,7 @@ unit_before h = unit_of h.rate h.parts
 
 -- the excesses of the transport buffer that end before one of them
 abbrev pub transport_ended : Held → List ℕ → List Excess
-transport_ended h times = excesses_ended h.rate TRANSPORT_BYTES (last_of h.rate h.parts) (transport_under_way h) times
+transport_ended h times = excesses_ended h.rate tb_size (last_of h.rate h.parts) (transport_under_way h) times
 
 -- the most that was in the transport buffer when one of them arrived, itself included
 abbrev pub transport_found : Held → List ℕ → ℕ

@@ -1,5 +1,5 @@
 //! Both buffers of a stream.
-ghost use Rattle.std.specs.Prelude.{◌≡◌, ◌+◌, ◌<◌, ◌≤◌, ◌^◌, IfOk, None, OnOk, false, true};
+ghost use Rattle.std.specs.Prelude.{◌≡◌, ◌+◌, ◌<◌, ◌≤◌, ◌^◌, IfOk, None, OnOk, false, length, true};
 ghost use Rattle.std.specs.Option.{option_to_list};
 ghost use Rattle.stream_arrival.specs.Arrivals.{has_times, step_of, times_at};
 ghost use Rattle.stream_view.specs.MainExcess.{after_row, ended_by};
@@ -85,6 +85,13 @@ impl StreamBuffers {
         ensures { (h : Held) → IsHeld self.now h → result ≡ h.main.under_way }
     {
         self.main.under_way
+    }
+
+    /// The number of units before the one under way whose bytes wait in the main buffer.
+    pub fn units_waiting(&self) -> usize
+        ensures { result ≡ length self.now.view.main.earlier.items }
+    {
+        self.view.main.earlier.len()
     }
 
     /// The unit under way.
@@ -182,13 +189,8 @@ impl StreamBuffers {
         ensures unit { (h : Held) → IsHeld self.old h → OnOk result (unit.new ≡ unit_before h) }
         ensures bytes { self.new.view.transport.bytes ≡ self.old.view.transport.bytes }
     {
-        match self.view.begin(due) {
-            Ok(before) => {
-                *unit = before;
-                Ok(())
-            }
-            Err(_) => Err(AllocError),
-        }
+        *unit = self.view.begin(due)?;
+        Ok(())
     }
 
     // A unit begins, if one does: the one before it is written where none is yet.
@@ -250,8 +252,8 @@ impl StreamBuffers {
         }
     }
 
-    /// A packet of the stream enters: what has ended, and what was in the buffers, is written where nothing is yet, so that it is not moved. There
-    /// is no memory where 4,096 units wait in the main buffer, or none is left for one more; then drop them.
+    /// A packet of the stream enters: what has ended, and what was in the buffers, is written where nothing is yet, so that it is not moved. If
+    /// no memory is left for one unit more, drop the buffers.
     #[tactic(auto, unfolding(crate::specs::Entering::after, crate::specs::Entering::entered), using(crate::proofs::Packets::within))]
     pub fn enter_into(
         &mut self,
@@ -290,8 +292,7 @@ impl StreamBuffers {
         Ok(())
     }
 
-    /// A packet of the stream enters: what has ended, and what was in the buffers. There is no memory where 4,096 units wait in the main buffer, or none is left for
-    /// one more; then drop them.
+    /// A packet of the stream enters: what has ended, and what was in the buffers. If no memory is left for one unit more, drop the buffers.
     pub fn enter(&mut self, arrival: &Arrival, packet: &Arriving) -> Result<Entered, AllocError>
         ensures held { (h : Held) → IsHeld self.old h → OnOk result (IsHeld self.new (after h arrival.now packet.now)) }
         ensures entered { (h : Held) → IsHeld self.old h →

@@ -15,11 +15,11 @@ use Rattle.pes_packet.specs.declared.time_stamps.Stamps.TheVariants.{Absent, Pts
 use Rattle.stream_arrival.specs.Arrivals.{moment_on}
 use Rattle.stream_arrival.specs.declared.arrival.Arrival.{Arrival}
 use Rattle.stream_arrival.specs.declared.arrival.Arrival.TheVariants.{Unknown, AtRate, OnLines}
-use Rattle.packet_arrival.specs.declared.clock.TheConstants.{PCR_PERIOD}
+use Rattle.packet_arrival.specs.Clock.{pcr_period}
 use Rattle.packet_arrival.specs.declared.clock.PcrSample.{PcrSample}
 use Rattle.stream_view.specs.DueTimes.{due_on}
 use Rattle.stream_view.specs.declared.unit_seen.DueTime.{DueTime}
-use Rattle.stream_report.specs.declared.clocks.TheConstants.{LAST_TICK, LONGEST_STAY}
+use Rattle.stream_report.specs.declared.clocks.TheConstants.{LAST_TICK}
 use Rattle.stream_report.specs.declared.clocks.Beginning.{Beginning}
 use Rattle.stream_report.specs.declared.clocks.Beginning.TheVariants.{Nothing, Unread, Stamped}
 
@@ -85,9 +85,13 @@ beginning_of packet = by_payload packet.header.payload_unit_start_indicator pack
 
 -- 3. When a unit is due
 
+-- the longest time in ticks that a unit may stay in a decoder: one minute (2.4.2.6)
+abbrev pub longest_stay : ℕ
+longest_stay = 1620000000
+
 -- how long after a reference the clock next shows a stamp, in ticks
 abbrev pub ahead_of : PcrSample → ℕ → ℕ
-ahead_of clock dts = (dts % 2 ^ 33 * 300 + PCR_PERIOD - clock.ticks % PCR_PERIOD) % PCR_PERIOD
+ahead_of clock dts = (dts % 2 ^ 33 * 300 + pcr_period - clock.ticks % pcr_period) % pcr_period
 
 -- the whole ticks of 27 MHz from the stream's first byte to that of a reference: so its value is, that of the clock at its byte, cut down to
 -- whole ticks (2.4.2.2)
@@ -98,8 +102,8 @@ tick_of rate clock = min (clock.byte * 216000000 / max 1 rate) LAST_TICK
 -- later than a unit may stay after the reference
 abbrev pub due_tick : ℕ → PcrSample → ℕ → ℕ
 due_tick rate clock dts =
-    if nat_lt (ahead_of clock dts) (PCR_PERIOD / 2) then tick_of rate clock + min (ahead_of clock dts) LONGEST_STAY
-    else tick_of rate clock - (PCR_PERIOD - ahead_of clock dts)
+    if nat_lt (ahead_of clock dts) (pcr_period / 2) then tick_of rate clock + min (ahead_of clock dts) longest_stay
+    else tick_of rate clock - (pcr_period - ahead_of clock dts)
 
 -- in units of time at its buffer
 abbrev pub due_at : ℕ → ℕ → PcrSample → ℕ → DueTime

@@ -3,21 +3,20 @@
 use Rattle.std.specs.Prelude.{◌≡◌, ℕ, ◌/◌, ◌==◌, ◌&&◌, not, is_some, nat_le, nat_lt, unwrap_or, Bool, true, false, if◌then◌else◌, length, List, [], ◌++◌, Option, Some, None}
 use Rattle.ts_packet.specs.Views.{PacketView}
 use Rattle.stream_arrival.specs.Arrivals.{step_of}
-use Rattle.packet_arrival.specs.declared.clock.TheConstants.{PCR_PERIOD}
+use Rattle.packet_arrival.specs.Clock.{pcr_period}
 use Rattle.packet_arrival.specs.declared.clock.PcrSample.{PcrSample}
 use Rattle.stream_view.specs.declared.unit_seen.DueTime.{DueTime}
 use Rattle.stream_buffers.specs.Held.{Held, IsHeld, main_most, transport_most, unit_before}
-use Rattle.stream_buffers.specs.declared.entering.TheConstants.{TRANSPORT_BYTES}
+use Rattle.stream_view.specs.Limits.{tb_size}
 use Rattle.stream_buffers.specs.Entering.{EnteredView, after, entered}
 use Rattle.stream_buffers.specs.declared.arriving.Arriving.{Arriving}
 use Rattle.events.specs.declared.event.Event.{Event}
 use Rattle.stream_report.specs.declared.view_options.ViewOptions.{ViewOptions}
-use Rattle.stream_report.specs.declared.clocks.TheConstants.{LONGEST_STAY}
 use Rattle.stream_report.specs.declared.clocks.Beginning.{Beginning}
 use Rattle.stream_report.specs.declared.clocks.Beginning.TheVariants.{Nothing, Unread, Stamped}
 use Rattle.stream_report.specs.declared.stream_entry.StreamEntry.{StreamEntry}
 use Rattle.stream_report.specs.declared.tally.Tally.{Tally}
-use Rattle.stream_report.specs.Clocks.{ahead_of, beginning_of, due_at}
+use Rattle.stream_report.specs.Clocks.{ahead_of, beginning_of, due_at, longest_stay}
 use Rattle.stream_report.specs.EntryEvents.{ahead_events, closing_events, ended_events}
 use Rattle.stream_report.specs.HeldEvents.{tally_events}
 use Rattle.stream_report.specs.Tallies.{with_excesses, with_packet, with_unit_if}
@@ -67,7 +66,7 @@ ahead_by None beginning = None
 ahead_by (Some clock) Nothing = None
 ahead_by (Some clock) Unread = None
 ahead_by (Some clock) (Stamped dts) =
-    if nat_lt LONGEST_STAY (ahead_of clock dts) && nat_lt (ahead_of clock dts) (PCR_PERIOD / 2) then Some (ahead_of clock dts) else None
+    if nat_lt longest_stay (ahead_of clock dts) && nat_lt (ahead_of clock dts) (pcr_period / 2) then Some (ahead_of clock dts) else None
 
 unfoldable pub is_unread : Beginning → Bool
 is_unread Nothing = false
@@ -132,4 +131,4 @@ end_events options packets window e =
 
 -- neither buffer held more than its size, and no unit was late
 abbrev pub is_good : EntryState → Bool
-is_good e = nat_le (transport_most e.held) TRANSPORT_BYTES && (nat_le (main_most e.held) e.held.main.size && (closed 0 e).late == 0)
+is_good e = nat_le (transport_most e.held) tb_size && (nat_le (main_most e.held) e.held.main.size && (closed 0 e).late == 0)

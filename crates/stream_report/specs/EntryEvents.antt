@@ -7,14 +7,14 @@ use Rattle.stream_arrival.specs.Arrivals.{step_of}
 use Rattle.stream_programs.specs.Streams.{FoundStreamView}
 use Rattle.transport_buffer.specs.declared.excess.Excess.{Excess}
 use Rattle.stream_view.specs.declared.unit_seen.UnitSeen.{UnitSeen}
-use Rattle.stream_buffers.specs.declared.entering.TheConstants.{TRANSPORT_BYTES}
+use Rattle.stream_view.specs.Limits.{tb_size}
 use Rattle.stream_buffers.specs.Held.{Held, main_most, transport_most, transport_under_way, unit_before}
 use Rattle.stream_buffers.specs.Entering.{EnteredView}
 use Rattle.events.specs.declared.event.BufferExcess.{BufferExcess}
 use Rattle.events.specs.declared.event.Event.{Event}
 use Rattle.events.specs.declared.event.Event.TheVariants as found
 use Rattle.events.specs.PidNames.{of_coding}
-use Rattle.stream_report.specs.declared.clocks.TheConstants.{LONGEST_STAY}
+use Rattle.stream_report.specs.Clocks.{longest_stay}
 use Rattle.stream_report.specs.declared.entry_events.Place.{Place}
 use Rattle.stream_report.specs.declared.entry_events.MainFigures.{MainFigures}
 use Rattle.stream_report.specs.declared.tally.Tally.{Tally}
@@ -88,7 +88,7 @@ late_events options place (Some u) = if is_late u then late_event options place 
 
 -- a unit that is due too long after the clock
 abbrev pub ahead_event : Place → ℕ → Event
-ahead_event place ahead = found.Ahead (record { pid = place.pid; packet = place.packet; by = ahead; limit = LONGEST_STAY })
+ahead_event place ahead = found.Ahead (record { pid = place.pid; packet = place.packet; by = ahead; limit = longest_stay })
 
 unfoldable pub ahead_events : Place → Option ℕ → List Event
 ahead_events place None = []
@@ -100,7 +100,7 @@ with_size place size = record { pid = place.pid; packet = place.packet; rx = pla
 
 abbrev pub ended_events : ViewOptions → Place → EnteredView → List Event
 ended_events options place e =
-    excess_events options (with_size place TRANSPORT_BYTES) e.transport
+    excess_events options (with_size place tb_size) e.transport
     ++ (main_excess_events options place e.main ++ late_events options place e.unit)
 
 -- 3. At the end
@@ -110,7 +110,7 @@ abbrev pub with_one : ℕ → Option Excess → ℕ
 with_one ended under_way = ended + (if is_some under_way then 1 else 0)
 
 abbrev pub transport_event : ℕ → ℕ → ℕ → Event
-transport_event pid most excesses = found.Transport (record { pid = pid; most = most; size = TRANSPORT_BYTES; excesses = excesses })
+transport_event pid most excesses = found.Transport (record { pid = pid; most = most; size = tb_size; excesses = excesses })
 
 abbrev pub main_event : Place → MainFigures → Tally → Event
 main_event place figures t = found.Main (record {
@@ -126,7 +126,7 @@ main_event place figures t = found.Main (record {
 -- what is under way comes first
 abbrev pub under_way_events : ViewOptions → Place → Held → List Event
 under_way_events options place h =
-    excess_events options (with_size place TRANSPORT_BYTES) (option_to_list (transport_under_way h))
+    excess_events options (with_size place tb_size) (option_to_list (transport_under_way h))
     ++ (main_excess_events options place (option_to_list h.main.under_way) ++ late_events options place (unit_before h))
 
 -- and then what is found of both buffers

@@ -14,3 +14,4 @@ pub mod SystemEvents
 pub mod Seen
 pub mod Views
 pub mod ClockedViews
+pub mod Crowding

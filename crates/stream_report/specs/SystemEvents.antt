@@ -2,7 +2,7 @@
 use Rattle.std.specs.Prelude.{ℕ, ◌&&◌, ◌||◌, not, nat_le, Bool, if◌then◌else◌, List, [], ◌∷◌, ◌++◌, flat_map}
 use Rattle.std.specs.List.{list_all}
 use Rattle.std.specs.Option.{option_to_list}
-use Rattle.stream_view.specs.declared.system_buffers.TheConstants.{SYSTEM_BYTES, TABLE_TRANSPORT_BYTES}
+use Rattle.stream_view.specs.Limits.{bsys_size, tb_size}
 use Rattle.system_tables.specs.Programs.{ProgramState, system_most, told, transport_most}
 use Rattle.system_tables.specs.declared.program_tables.TheConstants.{DRAIN}
 use Rattle.system_tables.specs.declared.table_excess.TableBuffer.{TableBuffer}
@@ -18,8 +18,8 @@ use Rattle.stream_report.specs.EntryEvents.{moment_of, with_one}
 -- 1. An excess, of a program that is viewed
 
 unfoldable pub size_of : TableBuffer → ℕ
-size_of Transport = TABLE_TRANSPORT_BYTES
-size_of System = SYSTEM_BYTES
+size_of Transport = tb_size
+size_of System = bsys_size
 
 -- of the transport buffer, and of the system buffer, found at the packet with which it has ended
 unfoldable pub excess_by : TableBuffer → ProgramExcess → Event
@@ -49,10 +49,10 @@ abbrev pub system_event : ProgramState → Event
 system_event p = found.System (record {
   program = p.number;
   transport = transport_most p;
-  transport_size = TABLE_TRANSPORT_BYTES;
+  transport_size = tb_size;
   transport_excesses = with_one p.transport_excesses p.transport.watch.under_way;
   main = system_most p;
-  main_size = SYSTEM_BYTES;
+  main_size = bsys_size;
   main_excesses = with_one p.system_excesses p.system.watch.under_way;
 })
 
@@ -72,7 +72,7 @@ system_events options choice packets programs = flat_map (events_of options choi
 
 -- neither buffer held more than its size
 abbrev pub fits : ChoiceView → ProgramState → Bool
-fits choice p = not (takes choice p.number) || (nat_le (transport_most p) TABLE_TRANSPORT_BYTES && nat_le (system_most p) SYSTEM_BYTES)
+fits choice p = not (takes choice p.number) || (nat_le (transport_most p) tb_size && nat_le (system_most p) bsys_size)
 
 abbrev pub all_fit : ChoiceView → List ProgramState → Bool
 all_fit choice programs = list_all (fits choice) programs

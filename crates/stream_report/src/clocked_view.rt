@@ -1,8 +1,9 @@
 //! A stream, packet by packet, whose packets wait until it is known when they arrive.
-ghost use Rattle.std.specs.Prelude.{◌≡◌, ◌++◌, [], IfOk, OnOk};
+ghost use Rattle.std.specs.Prelude.{◌≡◌, ◌++◌, [], IfOk, OnOk, false};
 ghost use Rattle.clocked_packets.specs.Waiting.{last_arrival, released, stepped, with_held};
 ghost use Rattle.stream_report.specs.ClockedViews as spec;
 ghost use Rattle.stream_report.specs.ClockedViews.{ClockedState, IsClocked};
+ghost use Rattle.stream_report.specs.Crowding.{is_crowded};
 ghost use Rattle.stream_report.specs.Views.{IsView, ViewState};
 
 use crate::view::View;
@@ -101,7 +102,8 @@ fn take_waiting(
 impl ClockedView {
     /// Before the first packet.
     pub fn new(alloc: Global, request: ViewRequest) -> ClockedView
-        ensures { IsClocked result (spec.start request) }
+        ensures view { IsClocked result (spec.start request) }
+        ensures calm { is_crowded result ≡ false }
     {
         let queue = queue_of(alloc, &request.options.arrival, &request.choice.programs);
         ClockedView {
@@ -157,6 +159,13 @@ impl ClockedView {
                 view_waiting(&mut self.view, queue, arrival, events)
             }
         }
+    }
+
+    /// Whether so many units of one of the streams wait that no more is to be viewed: the memory of a view has no other bound.
+    pub fn is_crowded(&self) -> bool
+        ensures { result ≡ is_crowded self.now }
+    {
+        self.view.is_crowded()
     }
 
     /// The stream ends, `left` bytes after its last whole packet: the last events are appended. Whether nothing is wrong in it.

@@ -7,7 +7,8 @@
 //!   and [`ViewChoice`], the programs whose streams are viewed, and buffers that are given.
 //!
 //! What is kept does not grow with the stream: the counts and the last clock reference of each PID, what the first packets
-//! name, and for each stream that they name its buffers, with up to 4,096 units that wait in the main buffer.
+//! name, and for each stream that they name its buffers, with the units that wait in the main buffer. These have no bound of their own:
+//! who views a stream stops where a view is crowded, with 4,096 units or more of one of its streams (`is_crowded`).
 #![tactic(auto)]
 
 mod clock_events;

@@ -2,6 +2,7 @@
 ghost use Rattle.std.specs.Prelude.{◌≡◌, ◌++◌, OnOk};
 ghost use Rattle.stream_buffers.specs.Entering.{entered_view};
 ghost use Rattle.ts_packet.specs.Views.{packet_view};
+ghost use Rattle.stream_report.specs.Crowding.{is_entry_crowded};
 ghost use Rattle.stream_report.specs.Entries as spec;
 ghost use Rattle.stream_report.specs.Entries.{EntryState, IsEntry};
 
@@ -16,6 +17,9 @@ use std::alloc::AllocError;
 use stream_buffers::{Arriving, Entered, StreamBuffers, TRANSPORT_BYTES};
 use stream_view::DueTime;
 use ts_packet::Packet;
+
+/// The most units of a stream that may wait in its main buffer while more of its transport stream is viewed.
+const MOST_WAITING: usize = 4_096;
 
 /// A stream: its PID, the PID of its program's clock references, the counter of its last packet with a payload, its buffers, and what is
 /// counted of it.
@@ -201,6 +205,13 @@ impl StreamEntry {
         self.counter = counter_after(self.counter, packet);
         add_entered(&mut self.tally, window, is_unread(beginning), &entered);
         Ok(())
+    }
+
+    /// Whether so many units wait in its main buffer that no more of its transport stream is viewed.
+    pub fn is_crowded(&self) -> bool
+        ensures { result ≡ is_entry_crowded self.now }
+    {
+        self.buffers.units_waiting() >= MOST_WAITING
     }
 
     // What is counted, with the unit under way as the last one.

@@ -1,9 +1,10 @@
 //! The streams whose buffers have begun.
-ghost use Rattle.std.specs.Prelude.{◌≡◌, ◌++◌, ◌≤◌, List, OnOk, flat_map, nat_eq, option_map};
+ghost use Rattle.std.specs.Prelude.{◌≡◌, ◌++◌, ◌≤◌, List, OnOk, false, flat_map, nat_eq, option_map};
 ghost use Rattle.std.specs.List.{list_all};
 ghost use Rattle.std.specs.Map.{lookup};
 ghost use Rattle.ts_packet.specs.Views.{packet_view};
 ghost use Rattle.stream_report.specs.Choices as choices;
+ghost use Rattle.stream_report.specs.Crowding as crowding;
 ghost use Rattle.stream_report.specs.StreamTables as spec;
 ghost use Rattle.stream_report.specs.Entries.{EntryState, IsEntry, end_events, units_of};
 ghost use Rattle.stream_report.specs.Entries.{is_good as entry_is_good};
@@ -140,11 +141,18 @@ fn are_good(entries: &[StreamEntry]) -> bool
     true
 }
 
+fn are_crowded(entries: &[StreamEntry]) -> bool
+    ensures { result ≡ crowding.are_crowded entries.now }
+{
+    entries.iter().any(|entry| entry.is_crowded())
+}
+
 impl StreamTable {
     /// None has begun.
     #[tactic(auto, unfolding(crate::specs::StreamTables::AreEntries))]
     pub fn new(alloc: Global, choice: ViewChoice) -> StreamTable
-        ensures { IsTable result (spec.no_streams choice) }
+        ensures table { IsTable result (spec.no_streams choice) }
+        ensures calm { crowding.are_crowded result.entries.items ≡ false }
     {
         StreamTable {
             alloc,
@@ -268,6 +276,13 @@ impl StreamTable {
             ≡ events.old.items ++ spec.table_end options.now packets window t) }
     {
         push_all_ends(events, options, packets, window, &self.entries)
+    }
+
+    /// Whether so many units of one of the streams wait that no more is viewed.
+    pub fn is_crowded(&self) -> bool
+        ensures { result ≡ crowding.are_crowded self.now.entries.items }
+    {
+        are_crowded(&self.entries)
     }
 
     /// Whether no buffer held more than its size, and no unit was late.

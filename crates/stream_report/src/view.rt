@@ -1,9 +1,10 @@
 //! A stream, packet by packet, each with its arrival.
-ghost use Rattle.std.specs.Prelude.{◌≡◌, ◌++◌, OnOk, Result};
+ghost use Rattle.std.specs.Prelude.{◌≡◌, ◌++◌, OnOk, Result, false};
 ghost use Rattle.bit_fields.specs.Reading.{Gives};
 ghost use Rattle.ts_packet.specs.Reading.{packet_at};
 ghost use Rattle.ts_packet.specs.Views.{PacketView, packet_view};
 ghost use Rattle.ts_packet.specs.declared.packet.PacketError.{PacketError};
+ghost use Rattle.stream_report.specs.Crowding.{is_view_crowded};
 ghost use Rattle.stream_report.specs.Seen.{arrival_events, next_window};
 ghost use Rattle.stream_report.specs.Views as spec;
 ghost use Rattle.stream_report.specs.Views.{IsView, ViewState};
@@ -29,7 +30,8 @@ pub struct View {
 impl View {
     /// Before the first packet.
     pub fn new(alloc: Global, request: ViewRequest) -> View
-        ensures { IsView result (spec.start request) }
+        ensures view { IsView result (spec.start request) }
+        ensures calm { is_view_crowded result ≡ false }
     {
         View {
             seen: Seen::new(alloc, request.options),
@@ -214,6 +216,13 @@ impl View {
         self.seen.push_pid_ends(events)?;
         events.push(self.seen.end_event(left))?;
         Ok(())
+    }
+
+    /// Whether so many units of one of the streams wait that no more is viewed.
+    pub fn is_crowded(&self) -> bool
+        ensures { result ≡ is_view_crowded self.now }
+    {
+        self.table.is_crowded()
     }
 
     /// Whether nothing is wrong in a stream that ends, `left` bytes after its last whole packet.

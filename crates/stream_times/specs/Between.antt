@@ -7,9 +7,8 @@ use Rattle.packet_arrival.specs.declared.line.Line.{Line}
 use Rattle.stream_arrival.specs.Arrivals.{line_at}
 use Rattle.stream_arrival.specs.declared.arrival.Arrival.TheVariants.{OnLines}
 use Rattle.stream_arrival.specs.declared.arrival.ClockLines.{ClockLines}
-use Rattle.clocked_packets.specs.Waiting.{QueueState, no_packet, reference_in}
+use Rattle.clocked_packets.specs.Waiting.{QueueState, most_waiting, no_packet, reference_in}
 use Rattle.clocked_packets.specs.declared.packet_queue.ClockPid.{ClockPid}
-use Rattle.clocked_packets.specs.declared.packet_queue.TheConstants.{MOST_WAITING}
 use Rattle.stream_times.specs.TimedPackets.{Timed, timed_packets, with_one}
 
 -- what is kept once these packets have come
@@ -47,7 +46,7 @@ abbrev pub BetweenLaw : Type 0
 BetweenLaw = (pid : ClockPid) (before : List (List ℕ)) (a : List ℕ) (between : List (List ℕ)) (b : List ℕ) (later : List (List ℕ)) (r r' : ℕ × PcrSample) (k i : ℕ) →
     reference_in (with_all (no_packet pid) before) a ≡ Some r →
     AreQuiet (kept_with pid before a) between →
-    length (kept_with pid before a).held + length between ≤ MOST_WAITING →
+    length (kept_with pid before a).held + length between ≤ most_waiting →
     reference_in (with_all (kept_with pid before a) between) b ≡ Some r' →
     goes_on r.1 r'.1 ≡ true → r.1.byte < i → i ≤ r'.1.byte → 188 * k ≤ i → i < 188 * k + 188 →
     LiesOn (timed_packets pid (before ++ a ∷ between ++ b ∷ later)) k i (line_through (kept_with pid before a).clock.moment r.1 r'.1)

@@ -12,10 +12,10 @@ use Rattle.main_buffer_rows.proofs.RowEntries.{row_next, row_end}
 use Rattle.transport_buffer.specs.Excesses.{excess_after, excesses_ended}
 use Rattle.transport_buffer.specs.declared.excess.Excess.{Excess}
 use Rattle.transport_buffer.proofs.ExcessBytes.{after-append}
+use Rattle.stream_view.specs.Limits.{bsys_size, tb_size}
 use Rattle.stream_view.specs.SystemViewed.{IsSystemViewOf}
 use Rattle.stream_view.specs.WatchedQueues.{all_entered, empty_queue, ended_by, left_at}
 use Rattle.stream_view.specs.declared.system_buffers.SystemView.{SystemView}
-use Rattle.stream_view.specs.declared.system_buffers.TheConstants.{SYSTEM_BYTES, TABLE_TRANSPORT_BYTES}
 use Rattle.stream_view.specs.declared.watched_queue.WatchedQueue.{WatchedQueue}
 
 -- a buffer that one byte has entered
@@ -102,8 +102,8 @@ pub tables_more : (view view' : SystemView) (step system_step : ℕ) (times ts :
     view'.transport ≡ all_entered view.transport ts → view'.system ≡ all_entered view.system (left_at view.transport ts) →
     IsSystemViewOf view' step system_step (times ++ ts)
 tables_more view view' step system_step times ts v first second =
-    let q = empty_queue (2 * step) TABLE_TRANSPORT_BYTES in
-    let p = empty_queue system_step SYSTEM_BYTES in
+    let q = empty_queue (2 * step) tb_size in
+    let p = empty_queue system_step bsys_size in
     let steps : view.transport.queue.step ≡ 2 * step = ap (λ (b : WatchedQueue). b.queue.step) v.transport ∙ passed-step q.queue times in
     let last : view.transport.queue.last ≡ last_left (2 * step) 0 times = ap (λ (b : WatchedQueue). b.queue.last) v.transport ∙ passed-last q.queue times in
     record {
@@ -119,7 +119,7 @@ pub on_ok : {V E A B : Type 0} (r : Result V E) → (A → B) → OnOk r A → O
 on_ok (Ok v) f a = f a
 on_ok (Err e) f a = tt
 
-pub no_tables : (view : SystemView) (step system_step : ℕ) → view.transport ≡ empty_queue (2 * step) TABLE_TRANSPORT_BYTES →
-    view.system ≡ empty_queue system_step SYSTEM_BYTES → IsSystemViewOf view step system_step []
+pub no_tables : (view : SystemView) (step system_step : ℕ) → view.transport ≡ empty_queue (2 * step) tb_size →
+    view.system ≡ empty_queue system_step bsys_size → IsSystemViewOf view step system_step []
 unfolding departures excess_after
 no_tables view step system_step first second = record { transport = first; system = second }

@@ -4,7 +4,6 @@ pub mod Lows
 pub mod MainExcess
 pub mod ConstantRate
 pub mod Laws
-pub mod Refusal
 pub mod WatchedQueues
 pub mod DueTimes
 pub mod EvenBytes
@@ -12,3 +11,4 @@ pub mod SystemViewed
 pub mod Arriving
 pub mod TableQueues
 pub mod TableRows
+pub mod Limits

@@ -2,11 +2,11 @@
 use Rattle.std.specs.Prelude.{◌≡◌, ℕ, ◌*◌, List}
 use Rattle.clock27.specs.Departure.{departures}
 use Rattle.stream_view.specs.WatchedQueues.{all_entered, empty_queue}
-use Rattle.stream_view.specs.declared.system_buffers.TheConstants.{SYSTEM_BYTES, TABLE_TRANSPORT_BYTES}
+use Rattle.stream_view.specs.Limits.{bsys_size, tb_size}
 use Rattle.stream_view.specs.declared.system_buffers.SystemView.{SystemView}
 
 -- they have passed the first buffer, which a byte takes two steps to leave, and what left it the second, which a byte takes
 -- `system_step` to leave; the excess of each that is under way is theirs
 pub record IsSystemViewOf (view : SystemView) (step system_step : ℕ) (times : List ℕ) : Type 0 where
-  pub transport : view.transport ≡ all_entered (empty_queue (2 * step) TABLE_TRANSPORT_BYTES) times
-  pub system : view.system ≡ all_entered (empty_queue system_step SYSTEM_BYTES) (departures (2 * step) 0 times)
+  pub transport : view.transport ≡ all_entered (empty_queue (2 * step) tb_size) times
+  pub system : view.system ≡ all_entered (empty_queue system_step bsys_size) (departures (2 * step) 0 times)

@@ -31,5 +31,4 @@ pub use main_watch::MainWatch;
 pub use row_found::RowFound;
 pub use system_buffers::{EndedExcesses, SYSTEM_BYTES, SystemView, TABLE_TRANSPORT_BYTES};
 pub use unit_seen::{DueTime, UnitSeen};
-pub use view::{BeginError, MOST_WAITING};
 pub use watched_queue::WatchedQueue;

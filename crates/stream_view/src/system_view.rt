@@ -4,6 +4,7 @@ ghost use Rattle.std.specs.Option.{option_to_list};
 ghost use Rattle.packet_arrival.specs.Rows.{IsTimed, times_of};
 ghost use Rattle.decoder_buffers.specs.Queues.{bytes_within};
 ghost use Rattle.stream_view.specs.EvenBytes.{AreEven, PassEvenly};
+ghost use Rattle.stream_view.specs.Limits.{bsys_size, tb_size};
 ghost use Rattle.stream_view.specs.SystemViewed.{IsSystemViewOf};
 ghost use Rattle.stream_view.specs.TableQueues.{AreInTime};
 ghost use Rattle.stream_view.specs.TableRows.{HavePassed};
@@ -113,8 +114,8 @@ impl SystemView {
         requires system_some { 0 < system_step }
         requires system_slow { system_step ≤ 2 ^ 33 }
         ensures view { IsSystemViewOf result step system_step [] }
-        ensures transport { result.transport ≡ empty_queue (2 * step) TABLE_TRANSPORT_BYTES }
-        ensures system { result.system ≡ empty_queue system_step SYSTEM_BYTES }
+        ensures transport { result.transport ≡ empty_queue (2 * step) tb_size }
+        ensures system { result.system ≡ empty_queue system_step bsys_size }
         ensures bytes { result.bytes ≡ 0 }
     {
         SystemView {

@@ -1,5 +1,5 @@
 //! What comes of a stream, and what its buffers do with it.
-ghost use Rattle.std.specs.Prelude.{◌≡◌, ℕ, ◌+◌, ◌<◌, ◌≤◌, ◌^◌, [], ◌∷◌, List, None, length, IfOk, OnOk, OnErr, IfSome};
+ghost use Rattle.std.specs.Prelude.{◌≡◌, ℕ, ◌+◌, ◌<◌, ◌≤◌, ◌^◌, [], ◌∷◌, List, None, IfOk, OnOk, OnErr, IfSome};
 ghost use Rattle.std.specs.Option.{option_to_list};
 ghost use Rattle.clock27.specs.Departure.{departures};
 ghost use Rattle.clock27.specs.Peak.{greatest_at, most_found};
@@ -10,7 +10,6 @@ ghost use Rattle.main_buffer_rows.specs.RowEntry.{fullness_with};
 ghost use Rattle.main_buffer_rows.specs.Least.{least_in};
 ghost use Rattle.stream_view.specs.History.{Part, with_bytes};
 ghost use Rattle.stream_view.specs.History.Part.{Passes, Carries, Begins};
-ghost use Rattle.stream_view.specs.Refusal.{Answers};
 ghost use Rattle.stream_view.specs.Viewed.{IsViewOf};
 
 use crate::arrival::arrive;
@@ -20,23 +19,8 @@ use crate::unit_seen::{DueTime, UnitSeen};
 use decoder_buffers::MainBuffer;
 use main_buffer_rows::enter_leaving;
 use packet_arrival::Row;
-use std::alloc::Allocator;
-use thiserror::Error;
+use std::alloc::{AllocError, Allocator};
 use transport_buffer::{Excess, ExcessWatch, TransportBuffer};
-
-/// The most units whose bytes may wait in a main buffer together.
-pub const MOST_WAITING: usize = 4096;
-
-/// Why a unit can't begin.
-#[derive(Clone, Copy, Debug, PartialEq, Eq, Error)]
-pub enum BeginError {
-    /// Out of memory.
-    #[error("out of memory")]
-    Memory,
-    /// As many units as a view may hold wait in the main buffer.
-    #[error("too many units wait in the main buffer")]
-    TooManyWaiting,
-}
 
 // A unit has more bytes, the last of which leaves then.
 fn add_bytes(unit: &mut Option<UnitSeen>, count: u64, left: u128)
@@ -124,21 +108,17 @@ impl<A: Allocator> StreamView<A> {
         }
     }
 
-    /// A unit begins with the next payload byte: the unit before it, which has come whole. It is refused where as many units as
-    /// a view may hold wait in the main buffer, or memory is wanting; then the one under way goes on.
-    pub fn begin(&mut self, due: DueTime) -> Result<Option<UnitSeen>, BeginError>
+    /// A unit begins with the next payload byte: returns the unit before it, which has come whole. If memory is wanting the one under way
+    /// continues.
+    pub fn begin(&mut self, due: DueTime) -> Result<Option<UnitSeen>, AllocError>
         ensures view { OnOk result ((parts : List Part) → IsViewOf self.old parts → IsViewOf self.new (Begins due ∷ parts)) }
         ensures before { IfOk result (λ unit. unit ≡ self.old.unit) }
-        ensures refused { Answers result (length self.old.main.earlier.items) }
         ensures err { OnErr result ((parts : List Part) → IsViewOf self.old parts → IsViewOf self.new parts) }
         ensures transport { self.new.transport ≡ self.old.transport }
         ensures watch { self.new.watch ≡ self.old.watch }
     {
-        if self.main.earlier.len() >= MOST_WAITING {
-            return Err(BeginError::TooManyWaiting);
-        }
         let Ok(()) = self.main.begin(due.until) else {
-            return Err(BeginError::Memory);
+            return Err(AllocError);
         };
         let before = self.unit;
         self.unit = Some(UnitSeen {

@@ -8,12 +8,11 @@ use Rattle.transport_buffer.specs.declared.excess.Excess.{Excess}
 use Rattle.stream_arrival.specs.Arrivals.{has_times, lead_of, step_of, times_at}
 use Rattle.stream_arrival.specs.declared.arrival.Arrival.{Arrival}
 use Rattle.stream_arrival.specs.declared.arrival.Arrival.TheVariants.{Unknown, AtRate, OnLines}
+use Rattle.stream_view.specs.Limits.{bsys_size, last_index, most_bytes, tb_size}
 use Rattle.stream_view.specs.WatchedQueues.{all_entered, empty_queue, ended_by, left_at}
-use Rattle.stream_view.specs.declared.system_buffers.TheConstants.{SYSTEM_BYTES, TABLE_TRANSPORT_BYTES}
 use Rattle.stream_view.specs.declared.watched_queue.WatchedQueue.{WatchedQueue}
 use Rattle.stream_programs.specs.Programs.{FoundProgramView}
 use Rattle.named_streams.specs.NamedStreams.{NamedView}
-use Rattle.system_tables.specs.declared.program_tables.TheConstants.{LAST_INDEX}
 use Rattle.system_tables.specs.declared.table_excess.TableBuffer.{TableBuffer}
 use Rattle.system_tables.specs.declared.table_excess.TableBuffer.TheVariants.{Transport, System}
 use Rattle.system_tables.specs.declared.table_excess.TableExcess.{TableExcess}
@@ -40,8 +39,8 @@ abbrev pub program_of : Arrival → FoundProgramView → ProgramState
 program_of arrival found = record {
   number = found.number;
   map_pid = found.map_pid;
-  transport = empty_queue (2 * step_of arrival) TABLE_TRANSPORT_BYTES;
-  system = empty_queue (system_step arrival) SYSTEM_BYTES;
+  transport = empty_queue (2 * step_of arrival) tb_size;
+  system = empty_queue (system_step arrival) bsys_size;
   bytes = 0;
   transport_excesses = 0;
   system_excesses = 0;
@@ -49,9 +48,9 @@ program_of arrival found = record {
 
 -- 1. Bytes of the stream
 
--- n bytes from byte i on enter, where they have times and no more than 2^40 bytes come
+-- n bytes from byte i on enter, where they have times and no more than `most_bytes` come
 abbrev pub enters : Arrival → ℕ → ℕ → ProgramState → Bool
-enters arrival i n p = nat_le (p.bytes + n) (2 ^ 40) && has_times arrival i n
+enters arrival i n p = nat_le (p.bytes + n) most_bytes && has_times arrival i n
 
 abbrev pub passed_at : ProgramState → ℕ → List ℕ → ProgramState
 passed_at p n times = record p {
@@ -103,7 +102,7 @@ with_packet arrival index p =
 
 -- a packet of a PID enters where it is of one of the tables of all programs or of the program's map
 abbrev pub is_of : ℕ → ℕ → ProgramState → Bool
-is_of index pid p = nat_lt index LAST_INDEX && (nat_le pid 3 || pid == p.map_pid)
+is_of index pid p = nat_lt index last_index && (nat_le pid 3 || pid == p.map_pid)
 
 abbrev pub entered : Arrival → ℕ → ℕ → ProgramState → ProgramState
 entered arrival index pid p = if is_of index pid p then with_packet arrival index p else p

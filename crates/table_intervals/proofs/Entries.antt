@@ -1,5 +1,5 @@
 -- The entry of a key is that of its own sections.
-use Rattle.std.proofs.Common.{◌≡◌, ◌∙◌, ℕ, ◌-◌, ◌*◌, ◌==◌, Bool, true, false, cond, nat_eq, nat_lt, List, [], ◌∷◌, filter, Option, Some, refl, ap, subst, arith}
+use Rattle.std.proofs.Common.{◌≡◌, ◌∙◌, ℕ, ◌-◌, ◌*◌, ◌==◌, Bool, true, false, cond, nat_eq, nat_lt, List, [], ◌∷◌, filter, Option, Some, None, refl, ap, subst, arith}
 use Rattle.std.specs.Prelude.{max}
 use Rattle.std.specs.Map.{lookup}
 use Rattle.std.proofs.lemmas.Bool.Decides.{nat_tests}
@@ -8,8 +8,8 @@ use Rattle.std.proofs.lemmas.Grind.{div_ceil_times}
 use Rattle.indexmap.specs.IndexMap.{insert_entry}
 use Rattle.table_intervals.specs.declared.intervals.SectionBegin.{SectionBegin}
 use Rattle.table_intervals.specs.declared.intervals.SectionPlaces.{SectionPlaces}
-use Rattle.table_intervals.specs.Intervals.{section_key, places_after, places_at}
-use Rattle.table_intervals.specs.Laws.{state_of, sections_of, places_of, greatest_gap, EntryLaw, GreatestLaw, TimeLaw}
+use Rattle.table_intervals.specs.Intervals.{part_key, part_places_at, parts_after, section_key, places_after, places_at}
+use Rattle.table_intervals.specs.Laws.{state_of, sections_of, sections_of_part, is_part, places_of, greatest_gap, EntryLaw, GreatestLaw, PartLaw, TimeLaw}
 
 same_number : (a b : ℕ) → (a == b) ≡ true → a ≡ b
 same_number a b e = grind (arith, nat_tests)
@@ -50,6 +50,26 @@ entry_law timing key (s ∷ earlier) =
         ap (λ (k : ℕ). Some (places_after (places_at (state_of timing earlier) k) s)) (same_number (section_key s) key e)
         ∙ ap (λ (before : Option SectionPlaces). Some (places_after before s)) rest
     by false e rest = rest
+
+pub part_law : PartLaw
+unfolding state_of places_of parts_after is_part
+part_law timing key [] = refl
+part_law timing key (s ∷ earlier) = by s.part (part_law timing key earlier)
+  where
+    test : (p : ℕ) (t : Bool) → (part_key s p == key) ≡ t → part_places_at (state_of timing earlier) key ≡ places_of (sections_of_part key earlier) →
+        cond t (Some (places_after (part_places_at (state_of timing earlier) (part_key s p)) s)) (part_places_at (state_of timing earlier) key)
+        ≡ places_of (cond t (s ∷ sections_of_part key earlier) (sections_of_part key earlier))
+    test p true e rest =
+        ap (λ (k : ℕ). Some (places_after (part_places_at (state_of timing earlier) k) s)) (same_number (part_key s p) key e)
+        ∙ ap (λ (before : Option SectionPlaces). Some (places_after before s)) rest
+    test p false e rest = rest
+
+    by : (part : Option ℕ) → part_places_at (state_of timing earlier) key ≡ places_of (sections_of_part key earlier) →
+        lookup (nat_eq key) (parts_after (state_of timing earlier) s part) ≡ places_of (cond (is_part key s part) (s ∷ sections_of_part key earlier) (sections_of_part key earlier))
+    by None rest = rest
+    by (Some p) rest =
+        found key (part_key s p) (places_after (part_places_at (state_of timing earlier) (part_key s p)) s) (state_of timing earlier).parts (part_key s p == key) refl
+        ∙ test p (part_key s p == key) refl rest
 
 -- the greater of two
 greater : (a b : ℕ) → cond (nat_lt a b) b a ≡ max b a

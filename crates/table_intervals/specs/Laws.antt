@@ -1,9 +1,9 @@
 -- What is kept of sections, by these alone: lists have the last section first.
-use Rattle.std.specs.Prelude.{◌≡◌, ◌↔◌, ℕ, ◌-◌, ◌*◌, ◌<◌, ◌==◌, max, List, [], ◌∷◌, filter, IfSome, Option, Some, None}
+use Rattle.std.specs.Prelude.{◌≡◌, ◌↔◌, ℕ, ◌-◌, ◌*◌, ◌<◌, ◌==◌, max, Bool, false, List, [], ◌∷◌, filter, IfSome, Option, Some, None}
 use Rattle.table_intervals.specs.declared.intervals.SectionBegin.{SectionBegin}
 use Rattle.table_intervals.specs.declared.intervals.SectionPlaces.{SectionPlaces}
 use Rattle.table_intervals.specs.declared.intervals.TableTiming.{TableTiming}
-use Rattle.table_intervals.specs.Intervals.{IntervalState, no_section, section_key, places_after, places_at, taken, time_of_packets}
+use Rattle.table_intervals.specs.Intervals.{IntervalState, no_section, part_key, part_places_at, section_key, places_after, places_at, taken, time_of_packets}
 
 -- after these sections
 unfoldable pub state_of : TableTiming → List SectionBegin → IntervalState
@@ -18,6 +18,14 @@ unfoldable pub places_of : List SectionBegin → Option SectionPlaces
 places_of [] = None
 places_of (section ∷ earlier) = Some (places_after (places_of earlier) section)
 
+-- and those of a key with a part
+unfoldable pub is_part : ℕ → SectionBegin → Option ℕ → Bool
+is_part key section None = false
+is_part key section (Some part) = part_key section part == key
+
+abbrev pub sections_of_part : ℕ → List SectionBegin → List SectionBegin
+sections_of_part key sections = filter (λ s. is_part key s s.part) sections
+
 -- the greatest time from one to the next
 unfoldable pub greatest_gap : List SectionBegin → ℕ
 greatest_gap [] = 0
@@ -27,6 +35,10 @@ greatest_gap (section ∷ before ∷ earlier) = max (section.place - before.plac
 -- the entry of a key is that of its own sections, whatever others come between
 abbrev pub EntryLaw : Type 0
 EntryLaw = (timing : TableTiming) (key : ℕ) (sections : List SectionBegin) → places_at (state_of timing sections) key ≡ places_of (sections_of key sections)
+
+-- and that of a key with a part is that of the sections of this part, whatever parts come between
+abbrev pub PartLaw : Type 0
+PartLaw = (timing : TableTiming) (key : ℕ) (sections : List SectionBegin) → part_places_at (state_of timing sections) key ≡ places_of (sections_of_part key sections)
 
 -- its greatest is the greatest from one section to the next, and its last one the last
 abbrev pub GreatestLaw : Type 0

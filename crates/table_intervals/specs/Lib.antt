@@ -2,3 +2,4 @@ pub mod Limits
 pub mod Intervals
 pub mod Sections
 pub mod Laws
+pub mod Parts

@@ -4,6 +4,7 @@ ghost use Rattle.std.specs.Map.{lookup};
 ghost use Rattle.table_intervals.specs.Intervals as spec;
 
 use crate::limits::limit_of;
+use crate::parts::has_parts;
 use clock27::Rate;
 use indexmap::IndexMap;
 use std::alloc::{AllocError, Allocator};
@@ -22,11 +23,12 @@ pub enum TableTiming {
     Ticks,
 }
 
-/// A section of a table_id begins in a packet of a PID, at a place in time.
+/// A section of a table_id, and of a part of its table if it has parts, begins in a packet of a PID, at a place in time.
 #[derive(Clone, Copy)]
 pub struct SectionBegin {
     pub pid: u16,
     pub table_id: u8,
+    pub part: Option<u16>,
     pub packet: u64,
     pub place: u64,
 }
@@ -41,7 +43,7 @@ pub struct SectionPlaces {
     pub at: u64,
 }
 
-/// A section begins too long after the one before it of its table_id: the time between in ticks, and the limit.
+/// A section begins too long after the one before it of its table_id, or of its part: the time between in ticks, and the limit.
 #[derive(Clone, Copy)]
 pub struct TableError {
     pub section: SectionBegin,
@@ -53,11 +55,15 @@ pub struct TableError {
 /// which these are.
 pub type TableEntries<A> = IndexMap<u32, SectionPlaces, BuildHasherDefault<FoldHasher>, A>;
 
+/// Sections by PID, table_id and part.
+type PartEntries<A> = IndexMap<u64, SectionPlaces, BuildHasherDefault<FoldHasher>, A>;
+
 /// The sections of a stream as far as they have come.
 #[derive(Drop)]
 pub struct TableIntervals<A: Allocator> {
     timing: TableTiming,
     entries: TableEntries<A>,
+    parts: PartEntries<A>,
 }
 
 impl<A: Allocator> Model for TableIntervals<A> {
@@ -65,7 +71,7 @@ impl<A: Allocator> Model for TableIntervals<A> {
 
     ghost Value = { IntervalState };
 
-    ghost view = { λ t. record { timing = t.timing; entries = t.entries.entries } };
+    ghost view = { λ t. record { timing = t.timing; entries = t.entries.entries; parts = t.parts.entries } };
 }
 
 /// The key of a PID and a table_id.
@@ -73,6 +79,13 @@ pub fn key_of(pid: u16, table_id: u8) -> u32
     ensures { result ≡ spec.key_of pid table_id }
 {
     u32::from(pid) * 256 + u32::from(table_id)
+}
+
+// The key of a section's part.
+fn part_key(section: SectionBegin, part: u16) -> u64
+    ensures { result ≡ spec.part_key section part }
+{
+    u64::from(key_of(section.pid, section.table_id)) * 65_536 + u64::from(part)
 }
 
 /// The PID of a key.
@@ -175,6 +188,15 @@ fn places_at<A: Allocator>(entries: &TableEntries<A>, key: u32) -> Option<Sectio
     }
 }
 
+fn part_places_at<A: Allocator>(parts: &PartEntries<A>, key: u64) -> Option<SectionPlaces>
+    ensures { result ≡ lookup (nat_eq key) parts.now.entries }
+{
+    match parts.get(&key) {
+        None => None,
+        Some(places) => Some(*places),
+    }
+}
+
 impl<A: Allocator + Copy> TableIntervals<A> {
     /// Before the first section.
     pub fn new(alloc: A, timing: TableTiming) -> TableIntervals<A>
@@ -183,6 +205,7 @@ impl<A: Allocator + Copy> TableIntervals<A> {
         TableIntervals {
             timing,
             entries: IndexMap::new(alloc),
+            parts: IndexMap::new(alloc),
         }
     }
 
@@ -200,6 +223,42 @@ impl<A: Allocator + Copy> TableIntervals<A> {
         &self.entries
     }
 
+    // The sections of a part before this one.
+    #[tactic(auto, unfolding(crate::specs::Intervals::part_before))]
+    fn part_before(&self, section: SectionBegin) -> Option<SectionPlaces>
+        ensures { result ≡ spec.part_before self.now section section.part }
+    {
+        match section.part {
+            None => None,
+            Some(part) => part_places_at(&self.parts, part_key(section, part)),
+        }
+    }
+
+    // The sections before this one after which it has to come in time.
+    fn before_in(&self, section: SectionBegin) -> Option<SectionPlaces>
+        ensures { result ≡ spec.before_in self.now section }
+    {
+        if has_parts(section.pid, section.table_id) {
+            self.part_before(section)
+        } else {
+            places_at(&self.entries, key_of(section.pid, section.table_id))
+        }
+    }
+
+    // A section is one of its part, if it has one.
+    #[tactic(auto, unfolding(crate::specs::Intervals::parts_after))]
+    fn take_part(&mut self, section: SectionBegin) -> Result<(), AllocError>
+        ensures { OnOk result (self.new ≡ spec.with_part self.old section) }
+    {
+        let Some(part) = section.part else {
+            return Ok(());
+        };
+        let before = part_places_at(&self.parts, part_key(section, part));
+        let places = places_after(&before, section);
+        self.parts.insert(part_key(section, part), places)?;
+        Ok(())
+    }
+
     /// The next section, and its error.
     ///
     /// After an `AllocError` the intervals are those of no stream: drop it.
@@ -207,11 +266,11 @@ impl<A: Allocator + Copy> TableIntervals<A> {
         ensures intervals { OnOk result (self.new ≡ spec.taken self.old section) }
         ensures error { IfOk result (λ error. error ≡ spec.error_at self.old section) }
     {
-        let key = key_of(section.pid, section.table_id);
-        let before = places_at(&self.entries, key);
         let limit = limit_of(section.pid, section.table_id);
-        let error = error_if(self.timing, section, &before, limit);
-        let places = places_after(&before, section);
+        let error = error_if(self.timing, section, &self.before_in(section), limit);
+        self.take_part(section)?;
+        let key = key_of(section.pid, section.table_id);
+        let places = places_after(&places_at(&self.entries, key), section);
         self.entries.insert(key, places)?;
         Ok(error)
     }

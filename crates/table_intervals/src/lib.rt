@@ -1,8 +1,8 @@
 //! How long the tables of a stream stay away (ETSI TR 101 290, 5.2.1 and 5.2.3; ETSI TR 101 211, 4.4): the greatest time from
 //! one section of a table_id on a PID to the next, and which of these times are too long.
 //!
-//! - [`TableIntervals`]: takes where sections begin; keeps one entry for each PID and table_id, whatever the length of
-//!   the stream.
+//! - [`TableIntervals`]: takes where sections begin; keeps one entry for each PID and table_id, and one for each part of a table whose
+//!   parts have to come again by themselves ([`has_parts`]), whatever the length of the stream.
 //! - [`section_begin`]: where the section of a finding begins.
 //! - [`limit_of`]: the time within which a table has to come again.
 //! - [`laws`]: an entry is that of all sections of its PID and table_id.
@@ -14,6 +14,7 @@
 mod intervals;
 pub mod laws;
 mod limits;
+mod parts;
 mod sections;
 
 pub use intervals::{
@@ -21,4 +22,5 @@ pub use intervals::{
     pid_of, table_id_of, time_between,
 };
 pub use limits::limit_of;
+pub use parts::has_parts;
 pub use sections::section_begin;

@@ -1,20 +1,27 @@
 //! Where sections begin, by what is found in a stream.
 ghost use Rattle.std.specs.Prelude.{◌≡◌};
-ghost use Rattle.demux.specs.Shown.{finding_view};
+ghost use Rattle.demux.specs.Shown.{finding_view, what_view};
 ghost use Rattle.table_intervals.specs.Sections as spec;
 
 use crate::intervals::SectionBegin;
-use demux::{Finding, Kind};
+use crate::parts::part_of;
+use demux::{Finding, Kind, What};
 use std::alloc::Allocator;
 
 #[tactic(auto, unfolding(crate::specs::Sections::begin_of))]
-fn begin_of(pid: u16, packet: u64, kind: Kind) -> Option<SectionBegin>
-    ensures { result ≡ spec.begin_of pid packet kind }
+fn begin_of<A: Allocator>(
+    pid: u16,
+    packet: u64,
+    kind: Kind,
+    what: &What<'_, A>,
+) -> Option<SectionBegin>
+    ensures { result ≡ spec.begin_of pid packet kind (what_view what.now) }
 {
     match kind {
         Kind::Table(table_id) => Some(SectionBegin {
             pid,
             table_id,
+            part: part_of(pid, table_id, what),
             packet,
             place: packet,
         }),
@@ -28,7 +35,7 @@ pub fn section_begin<A: Allocator>(finding: &Finding<'_, A>) -> Option<SectionBe
     ensures { result ≡ spec.section_begin (finding_view finding.now) }
 {
     match (finding.pid, finding.begun) {
-        (Some(pid), Some((packet, kind))) => begin_of(pid, packet, kind),
+        (Some(pid), Some((packet, kind))) => begin_of(pid, packet, kind, &finding.what),
         _ => None,
     }
 }

@@ -8,12 +8,13 @@ use Rattle.std.proofs.lemmas.List.{length-map}
 use Rattle.std.proofs.lemmas.Bool.{cases_Bool}
 use Rattle.clap.specs.Words.{Text}
 use Rattle.devices.specs.Devices.{Device, IsUntouched}
+use Rattle.devices.specs.Files.{Files}
 use Rattle.devices.specs.Lines.{Reports}
 use Rattle.devices.specs.Outcomes.{halt_line}
 use Rattle.devices.specs.declared.halt.Halt.TheVariants as halt
 use Rattle.word_faults.specs.UsageReport.{is_version}
 use Rattle.job_outcomes.specs.JobArguments.{JobArgumentsView}
-use Rattle.job_outcomes.specs.StreamFiles.{Files, PerformsFiles}
+use Rattle.job_outcomes.specs.StreamFiles.{PerformsFiles}
 use Rattle.tsjob_cli.specs.FileMark.{is_mark}
 use Rattle.tsjob_cli.specs.FileWords.{file_arguments, file_words}
 use Rattle.tsjob_cli.specs.NamedInputs.{ReadsFiles}

@@ -8,12 +8,16 @@ use Rattle.checked_jobs.specs.Jobs.{described}
 use Rattle.description.specs.Described.{Described, DescribedStream}
 use Rattle.description.specs.declared.fault.DescError.TheVariants as refused_by
 use Rattle.unit_feed.specs.Feeding.{FedStreamView}
-use Rattle.devices.specs.Devices.{Device, IsUntouched, Port}
+use Rattle.devices.specs.Devices.{Device, HasFailed, IsUntouched, Port}
+use Rattle.devices.specs.Files.{Files, IsOpened}
 use Rattle.devices.specs.Lines.{Reports, line_text}
 use Rattle.description.specs.Codes.{fault_code, fault_item}
 use Rattle.description.specs.declared.fault.DescFault.{DescFault}
 use Rattle.devices.specs.Outcomes.{halt_line, Outcome}
+use Rattle.devices.specs.WholeInput.{ReadsInput}
+use Rattle.devices.specs.declared.halt.Halt.{Halt}
 use Rattle.devices.specs.declared.halt.Halt.TheVariants as halt
+use Rattle.devices.proofs.NamedReaders.{is_unread}
 use Rattle.devices.specs.Runs.{Performs}
 use Rattle.description.specs.Ranges.{IsInRange}
 use Rattle.job_outcomes.specs.JobArguments.{JobArgumentsView}
@@ -48,16 +52,27 @@ streams_all streams k fed all over so =
 -- 2. A description in a file
 
 -- whose bytes are those that were read, where they are known
-pub of_text : (known : Option (List ℕ)) (text : List ℕ) (r : Result Described NoDescription) → ((xs : List ℕ) → known ≡ Some xs → text ≡ xs) → IsDescriptionIn text r → IsNamedDescription known r
-of_text known text (Ok d) same is = λ xs e. subst (λ (t : List ℕ). described t ≡ Ok d) (same xs e) is
-of_text known text (Err Unopened) same is = absurd is
-of_text known text (Err (Stopped halt.Read)) same is = tt
-of_text known text (Err (Stopped halt.Write)) same is = absurd (not_memory is)
+pub of_text : (files : Files) (name text : List ℕ) (r : Result Described NoDescription) → IsOpened files name → ((xs : List ℕ) → files.contents name ≡ Some xs → text ≡ xs) → IsDescriptionIn text r →
+    IsNamedDescription files name r
+of_text files name text (Ok d) opened same is = (opened, λ xs e. subst (λ (t : List ℕ). described t ≡ Ok d) (same xs e) is)
+of_text files name text (Err Unopened) opened same is = absurd is
+of_text files name text (Err (Stopped halt.Read)) opened same is = absurd (not_memory is)
+  where
+    not_memory : halt.Read ≡ halt.Memory → ⊥
+    not_memory e = absurd cc
+of_text files name text (Err (Stopped halt.Write)) opened same is = absurd (not_memory is)
   where
     not_memory : halt.Write ≡ halt.Memory → ⊥
     not_memory e = absurd cc
-of_text known text (Err (Stopped halt.Memory)) same is = tt
-of_text known text (Err (Refused f)) same is = λ xs e. subst (λ (t : List ℕ). described t ≡ Err (refused_by.Refused f)) (same xs e) is
+of_text files name text (Err (Stopped halt.Memory)) opened same is = tt
+of_text files name text (Err (Refused f)) opened same is = (opened, λ xs e. subst (λ (t : List ℕ). described t ≡ Err (refused_by.Refused f)) (same xs e) is)
+
+-- or that were not read
+pub of_none : (files : Files) (name : List ℕ) (input : Device) (why : Halt) → IsOpened files name → input.before.bytes ≡ files.contents name → (files.never_fails ≡ true → HasFailed input → ⊥) →
+    ReadsInput input (Err why) → IsNamedDescription files name (Err (Stopped why))
+of_none files name input halt.Read opened same never read = is_unread files name input opened same never read
+of_none files name input halt.Write opened same never read = absurd read
+of_none files name input halt.Memory opened same never read = tt
 
 -- 3. What the words lead to
 
@@ -66,10 +81,10 @@ pub no_memory_for_words : (Leads : List ℕ → Outcome → Type 0) (input outpu
 no_memory_for_words Leads input output faults status i o t s =
     inr (inr (inl (record { clean = ap (λ (p : Port). p.failed) i; unwritten = o; reports = t; status_is = s })))
 
-pub no_memory_for_stream : (known : Option (List ℕ)) (input output faults : Device) (status : ℕ) → IsUntouched input → IsUntouched output → Reports faults (halt_line halt.Memory) → status ≡ 3 →
-    StreamsUnits known input output faults status
+pub no_memory_for_stream : (files : Files) (name : Text) (input output faults : Device) (status : ℕ) → IsUntouched input → IsUntouched output → Reports faults (halt_line halt.Memory) → status ≡ 3 →
+    StreamsUnits files name input output faults status
 unfolding none_outcome
-no_memory_for_stream known input output faults status i o r s = inr (record { why = Stopped halt.Memory; is = tt; unread = i; unwritten = o; reports = r; status_is = s })
+no_memory_for_stream files name input output faults status i o r s = inr (record { why = Stopped halt.Memory; is = tt; unread = i; unwritten = o; reports = r; status_is = s })
 
 same_arguments : (x : Option JobArgumentsView) (a b : JobArgumentsView) → Some a ≡ x → x ≡ Some b → a ≡ b
 same_arguments x a b e f = let both : Some a ≡ Some b = e ∙ f in cc
@@ -79,10 +94,10 @@ pub job_asked : (x : Option JobArgumentsView) (a b : JobArgumentsView) (input ou
 job_asked x a b input output faults status e f p =
     subst (λ (v : JobArgumentsView). v.stream ≡ None → Performs (Leads v) input output faults status) (same_arguments x a b e f) p
 
-pub stream_asked : (x : Option JobArgumentsView) (a b : JobArgumentsView) (known : Option (List ℕ)) (name : Text) (input output faults : Device) (status : ℕ) → Some a ≡ x → x ≡ Some b →
-    (a.stream ≡ Some name → StreamsUnits known input output faults status) → b.stream ≡ Some name → StreamsUnits known input output faults status
-stream_asked x a b known name input output faults status e f p =
-    subst (λ (v : JobArgumentsView). v.stream ≡ Some name → StreamsUnits known input output faults status) (same_arguments x a b e f) p
+pub stream_asked : (x : Option JobArgumentsView) (a b : JobArgumentsView) (files : Files) (name : Text) (input output faults : Device) (status : ℕ) → Some a ≡ x → x ≡ Some b →
+    (a.stream ≡ Some name → StreamsUnits files name input output faults status) → b.stream ≡ Some name → StreamsUnits files name input output faults status
+stream_asked x a b files name input output faults status e f p =
+    subst (λ (v : JobArgumentsView). v.stream ≡ Some name → StreamsUnits files name input output faults status) (same_arguments x a b e f) p
 
 -- the name of the file is the one that was asked for
 pub same_name : (shown name : Text) (asked : Option Text) → Some shown ≡ asked → asked ≡ Some name → shown ≡ name

@@ -10,6 +10,7 @@ use Rattle.checked_jobs.specs.Jobs.{described}
 use Rattle.description.specs.Codes.{fault_code, fault_item}
 use Rattle.description.specs.declared.fault.DescFault.{DescFault}
 use Rattle.devices.specs.Devices.{Device, IsUntouched}
+use Rattle.devices.specs.Files.{Files, IsOpened, IsUnopened, IsUnread}
 use Rattle.devices.specs.Lines.{Reports, line_text}
 use Rattle.devices.specs.Outcomes.{Outcome, halted, reported}
 use Rattle.devices.specs.Runs.{LacksMemory}
@@ -50,14 +51,15 @@ IsDescriptionIn text (Err Unopened) = ⊥
 IsDescriptionIn text (Err (Stopped halt)) = halt ≡ Memory
 IsDescriptionIn text (Err (Refused f)) = described text ≡ Err (refused_by.Refused f)
 
--- of a file that is opened and read; where its bytes are not known, nothing is said of the description
-abbrev pub IsNamedDescription : Option (List ℕ) → Result Described NoDescription → Type 0
-IsNamedDescription known (Ok d) = (text : List ℕ) → known ≡ Some text → described text ≡ Ok d
-IsNamedDescription known (Err Unopened) = ⊤
-IsNamedDescription known (Err (Stopped Read)) = ⊤
-IsNamedDescription known (Err (Stopped Write)) = ⊥
-IsNamedDescription known (Err (Stopped Memory)) = ⊤
-IsNamedDescription known (Err (Refused f)) = (text : List ℕ) → known ≡ Some text → described text ≡ Err (refused_by.Refused f)
+-- in the file of a name; where its bytes are not known, nothing is said of the description
+abbrev pub IsNamedDescription : Files → List ℕ → Result Described NoDescription → Type 0
+IsNamedDescription files name (Ok d) = IsOpened files name × ((text : List ℕ) → files.contents name ≡ Some text → described text ≡ Ok d)
+IsNamedDescription files name (Err Unopened) = IsUnopened files name
+IsNamedDescription files name (Err (Stopped Read)) = IsUnread files name
+IsNamedDescription files name (Err (Stopped Write)) = ⊥
+IsNamedDescription files name (Err (Stopped Memory)) = ⊤
+IsNamedDescription files name (Err (Refused f)) =
+    IsOpened files name × ((text : List ℕ) → files.contents name ≡ Some text → described text ≡ Err (refused_by.Refused f))
 
 -- what is told where there is none
 abbrev pub refused_line : DescFault → List ℕ
@@ -75,19 +77,19 @@ abbrev pub GoesBy : Described → Device → Device → Device → ℕ → Type 
 GoesBy d input output faults status = RunsStream (feed_of d) (pids_of d) input output faults status ⊎ LacksMemory input output faults status
 
 -- there is a description in the file
-pub record GoesByFile (known : Option (List ℕ)) (input output faults : Device) (status : ℕ) : Type 0 where
+pub record GoesByFile (files : Files) (name : List ℕ) (input output faults : Device) (status : ℕ) : Type 0 where
   pub description : Described
-  pub is : IsNamedDescription known (Ok description)
+  pub is : IsNamedDescription files name (Ok description)
   pub goes : GoesBy description input output faults status
 
 -- there is none: nothing is read and nothing written
-pub record HasNoDescription (known : Option (List ℕ)) (input output faults : Device) (status : ℕ) : Type 0 where
+pub record HasNoDescription (files : Files) (name : List ℕ) (input output faults : Device) (status : ℕ) : Type 0 where
   pub why : NoDescription
-  pub is : IsNamedDescription known (Err why)
+  pub is : IsNamedDescription files name (Err why)
   pub unread : IsUntouched input
   pub unwritten : IsUntouched output
   pub reports : Reports faults (none_outcome why).report
   pub status_is : status ≡ (none_outcome why).status
 
-abbrev pub StreamsUnits : Option (List ℕ) → Device → Device → Device → ℕ → Type 0
-StreamsUnits known input output faults status = GoesByFile known input output faults status ⊎ HasNoDescription known input output faults status
+abbrev pub StreamsUnits : Files → List ℕ → Device → Device → Device → ℕ → Type 0
+StreamsUnits files name input output faults status = GoesByFile files name input output faults status ⊎ HasNoDescription files name input output faults status

@@ -2,6 +2,7 @@
 
 ghost use Rattle.std.specs.Prelude.{◌≡◌, ◌⊎◌, None, Some, true, false, codes, map};
 ghost use Rattle.devices.specs.Devices.{reads, writes};
+ghost use Rattle.devices.specs.Files.{files_of};
 ghost use Rattle.devices.specs.Lines.{Reports};
 ghost use Rattle.devices.specs.Runs.{LacksMemory, Performs};
 ghost use Rattle.devices.specs.Usage.{TellsUsage};
@@ -78,7 +79,8 @@ fn answer<F: NamedFiles, R: Source, W: Sink, E: Sink>(
     ensures job { arguments.now.stream ≡ None → Performs (spec.Leads arguments.now) (reads R.Source input.old input.new)
         (writes W.Sink output.old output.new) (writes E.Sink faults.old faults.new) result }
     ensures stream { (name : Text) → arguments.now.stream ≡ Some name →
-        StreamsUnits (F.contents_of files.now name) (reads R.Source input.old input.new)
+        StreamsUnits (files_of (F.contents_of files.now) (F.opens files.now) F.never_fails) name
+        (reads R.Source input.old input.new)
         (writes W.Sink output.old output.new) (writes E.Sink faults.old faults.new) result }
 {
     match arguments.stream() {
@@ -97,7 +99,8 @@ fn run_on_files<F: NamedFiles, R: Source, W: Sink, E: Sink>(
     faults: &mut E,
 ) -> u8
     ensures files { (a : JobArgumentsView) → file_arguments (map (λ s. s.now) words.now) ≡ Some a →
-        ReadsFiles a (F.contents_of files.now) (file_words (map (λ s. s.now) words.now)) (reads R.Source input.old input.new)
+        ReadsFiles a (files_of (F.contents_of files.now) (F.opens files.now) F.never_fails)
+        (file_words (map (λ s. s.now) words.now)) (reads R.Source input.old input.new)
         (writes W.Sink output.old output.new) (writes E.Sink faults.old faults.new) result }
     ensures version { is_version (map (λ s. s.now) words.now) ≡ true →
         Prints (version_text (codes "tsjob")) (reads R.Source input.old input.new)
@@ -137,11 +140,13 @@ fn run_on_stream<F: NamedFiles, R: Source, W: Sink, E: Sink>(
         (writes E.Sink faults.old faults.new) result }
     // A stream that comes, to the units of the streams of a description that stands in a file.
     ensures stream { (a : JobArgumentsView) (name : Text) → arguments words.now ≡ Some a → a.stream ≡ Some name →
-        StreamsUnits (F.contents_of files.now name) (reads R.Source input.old input.new)
+        StreamsUnits (files_of (F.contents_of files.now) (F.opens files.now) F.never_fails) name
+        (reads R.Source input.old input.new)
         (writes W.Sink output.old output.new) (writes E.Sink faults.old faults.new) result }
     // Streams in files to what the words before their names ask for.
     ensures files { (a : JobArgumentsView) → arguments words.now ≡ None → file_arguments (map (λ s. s.now) words.now) ≡ Some a →
-        ReadsFiles a (F.contents_of files.now) (file_words (map (λ s. s.now) words.now)) (reads R.Source input.old input.new)
+        ReadsFiles a (files_of (F.contents_of files.now) (F.opens files.now) F.never_fails)
+        (file_words (map (λ s. s.now) words.now)) (reads R.Source input.old input.new)
         (writes W.Sink output.old output.new) (writes E.Sink faults.old faults.new) result }
     // `--version` alone.
     ensures version { arguments words.now ≡ None → is_version (map (λ s. s.now) words.now) ≡ true →
@@ -186,12 +191,14 @@ pub fn run<F: NamedFiles, R: Source, W: Sink, E: Sink>(
     // A stream that comes, to the units of the streams of a description that stands in a file.
     ensures stream { is_explain (map (λ s. s.now) words.now) ≡ false → (a : JobArgumentsView) (name : Text) →
         arguments words.now ≡ Some a → a.stream ≡ Some name →
-        StreamsUnits (F.contents_of files.now name) (reads R.Source input.old input.new)
+        StreamsUnits (files_of (F.contents_of files.now) (F.opens files.now) F.never_fails) name
+        (reads R.Source input.old input.new)
         (writes W.Sink output.old output.new) (writes E.Sink faults.old faults.new) result }
     // Streams in files to what the words before their names ask for.
     ensures files { is_explain (map (λ s. s.now) words.now) ≡ false → (a : JobArgumentsView) → arguments words.now ≡ None →
         file_arguments (map (λ s. s.now) words.now) ≡ Some a →
-        ReadsFiles a (F.contents_of files.now) (file_words (map (λ s. s.now) words.now)) (reads R.Source input.old input.new)
+        ReadsFiles a (files_of (F.contents_of files.now) (F.opens files.now) F.never_fails)
+        (file_words (map (λ s. s.now) words.now)) (reads R.Source input.old input.new)
         (writes W.Sink output.old output.new) (writes E.Sink faults.old faults.new) result }
     // `--version` alone.
     ensures version { is_explain (map (λ s. s.now) words.now) ≡ false → arguments words.now ≡ None →

@@ -2,6 +2,7 @@
 
 ghost use Rattle.std.specs.Prelude.{◌≡◌, ◌≤◌, ◌<◌, ◌++◌, ◌∷◌, [], IfOk, OnOk, length};
 ghost use Rattle.devices.specs.Devices.{reads, writes};
+ghost use Rattle.devices.specs.Files.{files_of};
 ghost use Rattle.devices.specs.Lines.{Reports};
 ghost use Rattle.tsjob_cli.specs.StreamedUnits as spec;
 
@@ -107,7 +108,7 @@ fn named_description<F: NamedFiles>(
     files: &F,
     name: &str,
 ) -> Result<Description, NoDescription>
-    ensures { spec.IsNamedDescription (F.contents_of files.now name.now) result }
+    ensures { spec.IsNamedDescription (files_of (F.contents_of files.now) (F.opens files.now) F.never_fails) name.now result }
 {
     let Some(mut file) = files.open_named(name) else {
         return Err(NoDescription::Unopened);
@@ -175,7 +176,8 @@ pub(crate) fn stream_units<F: NamedFiles, R: Source, W: Sink, E: Sink>(
     output: &mut W,
     faults: &mut E,
 ) -> u8
-    ensures { spec.StreamsUnits (F.contents_of files.now name.now) (reads R.Source input.old input.new)
+    ensures { spec.StreamsUnits (files_of (F.contents_of files.now) (F.opens files.now) F.never_fails) name.now
+        (reads R.Source input.old input.new)
         (writes W.Sink output.old output.new) (writes E.Sink faults.old faults.new) result }
 {
     match named_description(alloc, files, name) {

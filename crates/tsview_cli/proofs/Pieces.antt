@@ -1,5 +1,5 @@
 -- A stream that is viewed piece by piece, whole packets in each but the last.
-use Rattle.std.proofs.Common.{◌≡◌, ℕ, zero, suc, ◌+◌, ◌*◌, ◌/◌, ◌%◌, ◌<◌, min, Bool, List, [], ◌∷◌, ◌++◌, length, take, drop, refl, sym, ap, subst, ◌∙◌, arith, append_assoc, length-append, Option, Some, None, Result, Ok, Err, inl, inr}
+use Rattle.std.proofs.Common.{◌≡◌, ℕ, zero, suc, ◌+◌, ◌*◌, ◌/◌, ◌%◌, ◌<◌, min, Bool, true, List, [], ◌∷◌, ◌++◌, length, take, drop, refl, sym, ap, subst, ◌∙◌, arith, append_assoc, length-append, Option, Some, None, Result, Ok, Err, inl, inr}
 use Rattle.std.proofs.KnownBytes.{Appends-nil, Appends-trans}
 use Rattle.std.proofs.lemmas.Grind.{flat_map-append}
 use Rattle.std.proofs.lemmas.List.{length-drop, length-take-le, take-append-drop}
@@ -10,6 +10,7 @@ use Rattle.stream_report.specs.declared.clocked_view.ClockedView.{ClockedView}
 use Rattle.events.specs.EventLines.{event_line, lines_of}
 use Rattle.events.specs.declared.event.Event.{Event}
 use Rattle.stream_report.specs.ClockedViews.{IsClocked, ClockedState, after_all, after_packet, events_all, events_at}
+use Rattle.stream_report.specs.Crowding.{is_crowded}
 use Rattle.counted_io.specs.Device.{Failed, IsFront}
 use Rattle.devices.specs.Devices.{Port, Device, between}
 use Rattle.devices.specs.Lines.{Stopped, WritesLine}
@@ -18,7 +19,7 @@ use Rattle.devices.specs.declared.halt.Halt.{Halt}
 use Rattle.std.specs.Prelude.{IfOk, IfErr}
 use Rattle.devices.specs.declared.halt.Halt.TheVariants.{Read, Write, Memory}
 use Rattle.devices.proofs.TakenInput.{IsAfter, TakesFront}
-use Rattle.tsview_cli.specs.Viewing.{BeginsWith, Breaks, Seen, StopsNext, lines_all}
+use Rattle.tsview_cli.specs.Viewing.{BeginsWith, Breaks, Reaches, Seen, StopsNext, lines_all}
 
 -- 1. Bytes that are whole packets, and bytes after them
 
@@ -211,3 +212,15 @@ if_err HasTaken json first now old mid new output size n piece before middle (Ok
 if_err HasTaken json first now old mid new output size n piece before middle (Err halt) f r t e takes =
     subst (Breaks json first (between old new) output) (sym e.0)
     (too_long_then json first now old mid new output f.bytes piece n f.known r (t f.bytes f.whole f.taken) (subst (λ (h : Halt). ReadsInput (between old new) (Err h)) e.0 takes))
+
+-- 5. All of it, or a front after which so many units of a stream wait that no more is viewed
+
+pub if_whole : (json : Bool) (first : ClockedState) (input output : Device) (now : ClockedView) (r : Result ℕ Halt) → IfOk r (λ size. TakesInput (Seen json first output now) input (Ok size)) →
+    IfOk r (Reaches json first input output now)
+if_whole json first input output now (Ok size) t = inl t
+if_whole json first input output now (Err halt) t = tt
+
+pub crowds : (json : Bool) (first : ClockedState) (now : ClockedView) (old new : Port) (output : Device) (size : ℕ) → TakesFront (Seen json first output now) 188 old new size → is_crowded now ≡ true →
+    Reaches json first (between old new) output now size
+crowds json first now old new output size f crowded =
+    inr (record { bytes = f.bytes; size_is = f.size_is; front = begins old new f.bytes f.known; seen = f.taken; clean = f.clean; crowded = crowded })

@@ -1,19 +1,20 @@
 -- All lines of an input, or those of a front of it.
-use Rattle.std.proofs.Common.{◌≡◌, ℕ, ◌+◌, ◌%◌, Bool, cond, List, [], ◌++◌, length, take, refl, sym, ap, subst, ◌∙◌, inl, inr, append-nil, Option, Some, None, Err}
+use Rattle.std.proofs.Common.{◌≡◌, ℕ, ◌+◌, ◌%◌, Bool, true, false, cond, List, [], ◌++◌, length, take, refl, sym, ap, subst, ◌∙◌, inl, inr, append-nil, Option, Some, None, Ok, Err}
 use Rattle.std.proofs.KnownBytes.{Appends-nil, Appends-trans}
 use Rattle.std.specs.Io.KnownBytes.{Appends}
 use Rattle.stream_report.specs.Choices.{RequestView}
+use Rattle.stream_report.specs.Crowding.{is_crowded}
 use Rattle.stream_report.specs.declared.clocked_view.ClockedView.{ClockedView}
 use Rattle.stream_report.specs.ClockedViews.{IsClocked, ClockedState, start, events_all, is_good}
 use Rattle.counted_io.specs.Device.{Failed}
-use Rattle.devices.specs.Devices.{Port, Device, between}
+use Rattle.devices.specs.Devices.{Port, Device, IsClean, between}
 use Rattle.devices.specs.Lines.{Stopped, WritesLine}
 use Rattle.devices.specs.WholeInput.{IsWhole, TakesAll}
 use Rattle.devices.specs.declared.halt.Halt.{Halt}
 use Rattle.devices.specs.declared.halt.Halt.TheVariants.{Read, Write, Memory}
 use Rattle.devices.proofs.Performances.{reports_none}
 use Rattle.tsview_cli.proofs.Pieces.{take_past}
-use Rattle.tsview_cli.specs.Viewing.{BeginsWith, Breaks, BreaksOff, Seen, SeesAll, Views, all_lines, end_lines, kept_of, settled, viewed}
+use Rattle.tsview_cli.specs.Viewing.{AreViewed, BeginsWith, Breaks, BreaksOff, Reaches, Seen, Sees, SeesAll, Views, all_lines, as_viewed, end_lines, kept_of, settled, viewed}
 
 -- before the first byte
 pub none_seen : (request : RequestView) (json : Bool) (input output : Port) (halt : Halt) → halt ≡ Memory → BreaksOff request json (between input input) (between output output) halt
@@ -34,16 +35,39 @@ whole_front : (known : Option (List ℕ)) (bytes : List ℕ) → IsWhole known b
 whole_front None bytes w xs e = absurd cc
 whole_front (Some ys) bytes w xs e = let same : ys ≡ xs = cc in ([], sym same ∙ sym w ∙ sym (append-nil bytes))
 
--- before its last lines
-pub no_end : (request : RequestView) (json : Bool) (input output : Device) (now : ClockedView) (size : ℕ) (halt : Halt) → halt ≡ Memory → TakesAll (Seen json (start request) output now) input size →
-    BreaksOff request json input output halt
-no_end request json input output now size halt is t = subst (BreaksOff request json input output) (sym is) (record {
+-- what was viewed of an input, all of it or a front
+record Reached (request : RequestView) (json : Bool) (input output : Device) (now : ClockedView) (size : ℕ) : Type 0 where
+  pub bytes : List ℕ
+  pub size_is : size ≡ length bytes
+  pub front : BeginsWith input.before.bytes bytes
+  pub seen : Seen json (start request) output now bytes
+  pub clean : IsClean input
+  pub all : AreViewed request input bytes
+
+reached : (request : RequestView) (json : Bool) (input output : Device) (now : ClockedView) (size : ℕ) → Reaches json (start request) input output now size → Reached request json input output now size
+reached request json input output now size (inl t) = record {
   bytes = t.bytes;
+  size_is = t.size_is;
   front = whole_front input.before.bytes t.bytes t.read.0;
-  text = settled request json t.bytes;
-  text_is = inl refl;
-  at = (t.taken.written, t.read.1.clean);
-})
+  seen = t.taken;
+  clean = t.read.1.clean;
+  all = inl t.read;
+}
+reached request json input output now size (inr c) = record {
+  bytes = c.bytes;
+  size_is = c.size_is;
+  front = c.front;
+  seen = c.seen;
+  clean = c.clean;
+  all = inr (record { now = now; kept = c.seen.kept; crowded = c.crowded });
+}
+
+-- before its last lines
+pub no_end : (request : RequestView) (json : Bool) (input output : Device) (now : ClockedView) (size : ℕ) (halt : Halt) → halt ≡ Memory → Reaches json (start request) input output now size →
+    BreaksOff request json input output halt
+no_end request json input output now size halt is t =
+    let r : Reached request json input output now size = reached request json input output now size t in
+    subst (BreaksOff request json input output) (sym is) (record { bytes = r.bytes; front = r.front; text = settled request json r.bytes; text_is = inl refl; at = (r.seen.written, r.clean) })
 
 -- the last lines
 last_lines : (request : RequestView) (json : Bool) (now : ClockedView) (size : ℕ) (bytes text : List ℕ) → IsClocked now (kept_of request bytes) → size ≡ length bytes →
@@ -53,41 +77,67 @@ last_lines request json now size bytes text kept count is =
 
 -- within them
 pub not_ended : (V : Type 0) (request : RequestView) (json : Bool) (input : Device) (begin mid end : Port) (now : ClockedView) (size : ℕ) (text : List ℕ) (halt : Halt) →
-    TakesAll (Seen json (start request) (between begin mid) now) input size → ((s : ClockedState) → IsClocked now s → text ≡ end_lines json s (size % 188)) → WritesLine {V = V} text (between mid end) (Err halt) →
+    Reaches json (start request) input (between begin mid) now size → ((s : ClockedState) → IsClocked now s → text ≡ end_lines json s (size % 188)) → WritesLine {V = V} text (between mid end) (Err halt) →
     BreaksOff request json input (between begin end) halt
 not_ended V request json input begin mid end now size text Read t is w = absurd w
 not_ended V request json input begin mid end now size text Write t is w =
-    let a = settled request json t.bytes in
+    let r : Reached request json input (between begin mid) now size = reached request json input (between begin mid) now size t in
+    let a = settled request json r.bytes in
     let stopped : Stopped text (between mid end) = w.0 in
-    let front : a ++ take stopped.taken text ≡ take (length a + stopped.taken) (all_lines request json t.bytes) =
-    sym (take_past a text stopped.taken) ∙ ap (take (length a + stopped.taken)) (last_lines request json now size t.bytes text t.taken.kept t.size_is is) in
+    let front : a ++ take stopped.taken text ≡ take (length a + stopped.taken) (all_lines request json r.bytes) =
+    sym (take_past a text stopped.taken) ∙ ap (take (length a + stopped.taken)) (last_lines request json now size r.bytes text r.seen.kept r.size_is is) in
     record {
-      bytes = t.bytes;
-      front = whole_front input.before.bytes t.bytes t.read.0;
-      text = all_lines request json t.bytes;
-      text_is = inr (refl, t.read);
+      bytes = r.bytes;
+      front = r.front;
+      text = all_lines request json r.bytes;
+      text_is = inr (refl, r.all);
       at = (
         record {
           taken = length a + stopped.taken;
-          appends = subst (Appends begin.bytes end.bytes) front (Appends-trans begin.bytes mid.bytes end.bytes a (take stopped.taken text) t.taken.written stopped.appends);
+          appends = subst (Appends begin.bytes end.bytes) front (Appends-trans begin.bytes mid.bytes end.bytes a (take stopped.taken text) r.seen.written stopped.appends);
         },
-        subst (λ (k : ℕ). Failed k end.failed) t.taken.clean w.1,
+        subst (λ (k : ℕ). Failed k end.failed) r.seen.clean w.1,
       );
     }
 not_ended V request json input begin mid end now size text Memory t is w = absurd w
 
 -- to its end
-pub all_seen : (request : RequestView) (json : Bool) (input : Device) (begin mid end : Port) (now : ClockedView) (size : ℕ) (text : List ℕ) (good : Bool) →
+all_written : (request : RequestView) (json : Bool) (input : Device) (begin mid end : Port) (now : ClockedView) (size : ℕ) (text bytes : List ℕ) → Seen json (start request) (between begin mid) now bytes → size ≡ length bytes →
+    ((s : ClockedState) → IsClocked now s → text ≡ end_lines json s (size % 188)) → Appends mid.bytes end.bytes text → Appends begin.bytes end.bytes (all_lines request json bytes)
+all_written request json input begin mid end now size text bytes seen count is written =
+    subst (Appends begin.bytes end.bytes) (last_lines request json now size bytes text seen.kept count is)
+    (Appends-trans begin.bytes mid.bytes end.bytes (settled request json bytes) text seen.written written)
+
+all_seen : (request : RequestView) (json : Bool) (input : Device) (begin mid end : Port) (now : ClockedView) (size : ℕ) (text : List ℕ) (good : Bool) →
     TakesAll (Seen json (start request) (between begin mid) now) input size → ((s : ClockedState) → IsClocked now s → text ≡ end_lines json s (size % 188)) → Appends mid.bytes end.bytes text →
     end.failed ≡ mid.failed → ((s : ClockedState) → IsClocked now s → good ≡ is_good s (size % 188)) → SeesAll request json input (between begin end) good
 all_seen request json input begin mid end now size text good t is written clean g = record {
   bytes = t.bytes;
   read = t.read;
-  written = subst (Appends begin.bytes end.bytes) (last_lines request json now size t.bytes text t.taken.kept t.size_is is)
-      (Appends-trans begin.bytes mid.bytes end.bytes (settled request json t.bytes) text t.taken.written written);
+  written = all_written request json input begin mid end now size text t.bytes t.taken t.size_is is written;
   clean = clean ∙ t.taken.clean;
   good_is = g (kept_of request t.bytes) t.taken.kept ∙ ap (λ (n : ℕ). is_good (kept_of request t.bytes) (n % 188)) t.size_is;
 }
+
+not_both : (b : Bool) → b ≡ true → b ≡ false → ⊥
+not_both b e f = let both : true ≡ false = sym e ∙ f in absurd cc
+
+-- or to where the view is crowded
+pub viewed_so : (request : RequestView) (json : Bool) (input : Device) (begin mid end : Port) (now : ClockedView) (size : ℕ) (text : List ℕ) (crowded good : Bool) → crowded ≡ is_crowded now →
+    Reaches json (start request) input (between begin mid) now size → ((s : ClockedState) → IsClocked now s → text ≡ end_lines json s (size % 188)) → Appends mid.bytes end.bytes text →
+    end.failed ≡ mid.failed → ((s : ClockedState) → IsClocked now s → good ≡ is_good s (size % 188)) → Sees request json input (between begin end) (Ok (as_viewed crowded good))
+viewed_so request json input begin mid end now size text true good so t is written clean g =
+    let r : Reached request json input (between begin mid) now size = reached request json input (between begin mid) now size t in
+    record {
+      bytes = r.bytes;
+      front = r.front;
+      read = r.clean;
+      crowded = record { now = now; kept = r.seen.kept; crowded = sym so };
+      written = all_written request json input begin mid end now size text r.bytes r.seen r.size_is is written;
+      clean = clean ∙ r.seen.clean;
+    }
+viewed_so request json input begin mid end now size text false good so (inl t) is written clean g = all_seen request json input begin mid end now size text good t is written clean g
+viewed_so request json input begin mid end now size text false good so (inr c) is written clean g = absurd (not_both (is_crowded now) c.crowded (sym so))
 
 whole_is : (bytes : Option (List ℕ)) (read xs : List ℕ) → IsWhole bytes read → bytes ≡ Some xs → read ≡ xs
 whole_is None read xs w e = absurd cc

@@ -59,15 +59,15 @@ impl Drawing {
         Ok(())
     }
 
-    // The packets of the next piece.
+    // The packets of the next piece. A view that is crowded is refused as if there were no memory: a page of a part is not drawn.
     fn take_packets(&mut self, piece: &[u8]) -> Result<(), Halt>
         ensures taken { OnOk result (TakesPackets (cut_packets piece.now) self.old self.new) }
         ensures memory { IfErr result (λ halt. halt ≡ Halt.Memory) }
     {
         let (packets, _) = piece.as_chunks::<188>();
         match self.take_all(packets) {
-            Ok(()) => Ok(()),
-            Err(_) => Err(Halt::Memory),
+            Ok(()) if !self.view.is_crowded() => Ok(()),
+            _ => Err(Halt::Memory),
         }
     }
 

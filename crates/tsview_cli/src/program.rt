@@ -19,9 +19,9 @@ use crate::drawing::draw_stream;
 use crate::known_words::KnownWords;
 use crate::plan_drawing::{draw_plan, is_plan};
 use crate::request::Request;
-use crate::viewing::view_input;
+use crate::viewing::{Viewed, view_input};
 use counted_io::{Sink, Source};
-use devices::{Halt, report_halt, report_text};
+use devices::{Halt, report_halt, report_line, report_text};
 use std::alloc::Global;
 use stream_report::ViewRequest;
 use word_faults::answer_other_words;
@@ -76,7 +76,11 @@ fn view_stream<R: Source, W: Sink, E: Sink>(
         (writes E.Sink faults.old faults.new) result }
 {
     match view_input(alloc, request, json, input, output) {
-        Ok(good) => status_of(good),
+        Ok(Viewed::Whole(good)) => status_of(good),
+        Ok(Viewed::Crowded) => {
+            report_line(faults, "waiting", &[]);
+            3
+        }
         Err(halt) => report_halt(faults, halt),
     }
 }
@@ -123,7 +127,7 @@ fn run_on_stream<R: Source, W: Sink, E: Sink>(
 
 /// The whole program: it reads the input piece by piece, writes the lines of what a piece settles before it reads the next, or
 /// draws a page of it and writes that at the end; or draws a page of the plan in a job. It returns the exit status: 0 good, 1
-/// something is wrong in the stream or the job, 2 a usage error, 3 a device failed or out of memory.
+/// something is wrong in the stream or the job, 2 a usage error, 3 a device failed, out of memory, or too many units of a stream wait.
 pub fn run<R: Source, W: Sink, E: Sink>(
     alloc: Global,
     words: &[&str],

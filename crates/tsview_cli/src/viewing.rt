@@ -1,12 +1,14 @@
 //! The input, read piece by piece, and the lines of the events that each piece settles.
-ghost use Rattle.std.specs.Prelude.{◌≡◌, ◌%◌, ◌<◌, ◌≤◌, ◌++◌, [], IfOk, IfErr, OnOk, Ok, length, take, string_bytes};
+ghost use Rattle.std.specs.Prelude.{◌≡◌, ◌%◌, ◌<◌, ◌≤◌, ◌++◌, [], IfOk, IfErr, OnOk, Ok, false, length, take, string_bytes};
 ghost use Rattle.ts_packet.specs.PidList.{cut_packets};
 ghost use Rattle.stream_report.specs.ClockedViews.{ClockedState, IsClocked, after_all, is_good, start};
 ghost use Rattle.devices.specs.Devices.{reads, writes};
 ghost use Rattle.devices.specs.Lines.{WritesLine};
-ghost use Rattle.devices.specs.WholeInput.{ReadsFront, TakesInput};
+ghost use Rattle.devices.specs.WholeInput.{ReadsFront};
 ghost use Rattle.stream_report.specs.Choices.{RequestView};
-ghost use Rattle.tsview_cli.specs.Viewing.{Breaks, Seen, Sees, StopsNext, end_lines, lines_all, longest_piece};
+ghost use Rattle.stream_report.specs.Crowding.{is_crowded};
+ghost use Rattle.tsview_cli.specs.Viewing.{Breaks, Reaches, Sees, StopsNext, end_lines, lines_all, longest_piece};
+ghost use Rattle.tsview_cli.specs.Viewing as spec;
 
 use counted_io::{Sink, Source};
 use devices::{Halt, LONGEST_INPUT, new_piece, read_piece, size_within, write_text};
@@ -16,6 +18,15 @@ use stream_report::{ClockedView, ViewRequest};
 
 /// The size of a piece in bytes: 349 packets, somewhat more than 64 KiB, so that it is read past the buffer of standard input.
 const PIECE: usize = 349 * 188;
+
+/// What an input is, as far as it was viewed.
+#[derive(Clone, Copy)]
+pub(crate) enum Viewed {
+    /// It was viewed to its end: whether nothing is wrong in it.
+    Whole(bool),
+    /// So many units of a stream wait that no more of the input was viewed.
+    Crowded,
+}
 
 // Views packets: the lines of the events that they settle are appended to the text.
 fn view_packets(
@@ -68,6 +79,8 @@ fn view_next<R: Source>(
     requires bound { length piece.old ≤ longest_piece }
     // No line that is settled waits to be written.
     requires out { string_bytes text.old ≡ [] }
+    // Of no stream so many units wait that no more is viewed.
+    requires calm { is_crowded view.old ≡ false }
     ensures read { IfOk result (λ n. ReadsFront (reads R.Source input.old input.new) piece.new n) }
     ensures view { (s : ClockedState) → IsClocked view.old s →
         IfOk result (λ n. IsClocked view.new (after_all s (cut_packets (take n piece.new)))) }
@@ -90,7 +103,7 @@ fn write_settled<W: Sink>(text: &mut String, output: &mut W) -> Result<(), Halt>
     Ok(())
 }
 
-// Views the input to its end, and returns its size.
+// Views the input to its end, or until the view is crowded, and returns the size of what was viewed.
 fn view_pieces<R: Source, W: Sink>(
     alloc: Global,
     json: bool,
@@ -104,9 +117,9 @@ fn view_pieces<R: Source, W: Sink>(
     requires bound { length piece.old ≤ longest_piece }
     requires whole { length piece.old % 188 ≡ 0 }
     requires text { string_bytes text.old ≡ [] }
+    requires calm { is_crowded view.old ≡ false }
     ensures ok { (s : ClockedState) → IsClocked view.old s →
-        IfOk result (λ size. TakesInput (Seen json s (writes W.Sink output.old output.new) view.new)
-        (reads R.Source input.old input.new) (Ok size)) }
+        IfOk result (Reaches json s (reads R.Source input.old input.new) (writes W.Sink output.old output.new) view.new) }
     ensures err { (s : ClockedState) → IsClocked view.old s → IfErr result (Breaks json s (reads R.Source input.old input.new)
         (writes W.Sink output.old output.new)) }
     ensures text { OnOk result (string_bytes text.new ≡ []) }
@@ -121,6 +134,9 @@ fn view_pieces<R: Source, W: Sink>(
         size += n;
         if n < piece.len() {
             return size_within(size);
+        }
+        if view.is_crowded() {
+            return Ok(size);
         }
     }
     Err(Halt::Read)
@@ -163,7 +179,18 @@ fn end_view(
     }
 }
 
-// Views the input to its end, and writes its last lines.
+// What an input is after whose view it is crowded or not, and in which nothing is wrong or something.
+fn viewed(crowded: bool, good: bool) -> Viewed
+    ensures { result ≡ spec.as_viewed crowded good }
+{
+    if crowded {
+        Viewed::Crowded
+    } else {
+        Viewed::Whole(good)
+    }
+}
+
+// Views the input to its end, or until the view is crowded, and writes the last lines of what was viewed.
 fn view_whole<R: Source, W: Sink>(
     alloc: Global,
     json: bool,
@@ -172,11 +199,12 @@ fn view_whole<R: Source, W: Sink>(
     piece: &mut [u8],
     view: &mut ClockedView,
     text: &mut String,
-) -> Result<bool, Halt>
+) -> Result<Viewed, Halt>
     requires some { 0 < length piece.old }
     requires bound { length piece.old ≤ longest_piece }
     requires whole { length piece.old % 188 ≡ 0 }
     requires text { string_bytes text.old ≡ [] }
+    requires calm { is_crowded view.old ≡ false }
     ensures { (r : RequestView) → IsClocked view.old (start r) →
         Sees r json (reads R.Source input.old input.new) (writes W.Sink output.old output.new) result }
 {
@@ -184,24 +212,25 @@ fn view_whole<R: Source, W: Sink>(
         Ok(size) => size,
         Err(halt) => return Err(halt),
     };
+    let crowded = view.is_crowded();
     let good = match end_view(alloc, json, view, size % 188, text) {
         Ok(good) => good,
         Err(halt) => return Err(halt),
     };
     match write_text(text.as_str(), output) {
-        Ok(()) => Ok(good),
+        Ok(()) => Ok(viewed(crowded, good)),
         Err(halt) => Err(halt),
     }
 }
 
-/// Views the input, and writes all its lines; returns whether nothing is wrong in it.
+/// Views the input, and writes all its lines, or all of what was viewed until the view was crowded; returns what the input is.
 pub(crate) fn view_input<R: Source, W: Sink>(
     alloc: Global,
     request: ViewRequest,
     json: bool,
     input: &mut R,
     output: &mut W,
-) -> Result<bool, Halt>
+) -> Result<Viewed, Halt>
     ensures { Sees request json (reads R.Source input.old input.new) (writes W.Sink output.old output.new) result }
 {
     let mut piece = match new_piece(alloc, PIECE) {

@@ -6,12 +6,12 @@ use Rattle.events.specs.declared.event.HeldFigures.{HeldFigures}
 use Rattle.events.specs.declared.event.StreamBegin.{StreamBegin}
 use Rattle.events.specs.declared.event.UnitFigures.{UnitFigures}
 use Rattle.events.specs.Windows.{WindowView}
+use Rattle.unit_timing.specs.Buffers.{tb_size}
 use Rattle.page_curves.specs.Curves.{sample}
 use Rattle.events.specs.declared.pid_name.PidName.{PidName}
 use Rattle.page_charts.specs.PidCurves.{AreCurves, KeptCurve, kept_name, opened, with_sample}
 use Rattle.events.specs.PidNames.{of_pid}
 use Rattle.view_page.specs.declared.values.Values.{Values}
-use Rattle.view_page.specs.declared.values.TheConstants.{TRANSPORT_BYTES}
 use Rattle.view_page.specs.Cells.{short}
 
 -- the number of windows; bit rates by PID, the most bytes in the transport buffer of a stream, the most and the least in its main buffer,
@@ -51,7 +51,7 @@ with_window v w = record v {
 -- `stream`: its buffers begin
 abbrev pub with_stream : KeptValues → StreamBegin → KeptValues
 with_stream v e = record v {
-  transports = opened e.pid e.coding TRANSPORT_BYTES v.transports;
+  transports = opened e.pid e.coding tb_size v.transports;
   mains = opened e.pid e.coding e.main v.mains;
   slacks = opened e.pid e.coding 0 v.slacks;
 }

@@ -9,7 +9,7 @@ use Rattle.transport_buffer.specs.declared.excess.Excess.{Excess}
 use Rattle.transport_buffer.specs.Excesses.{after_byte, excess_after, excesses_ended, is_over}
 use Rattle.transport_buffer.proofs.ExcessBytes.{after-append, ended-append}
 use Rattle.stream_view.specs.History.{arrivals_of}
-use Rattle.stream_buffers.specs.declared.entering.TheConstants.{TRANSPORT_BYTES}
+use Rattle.stream_view.specs.Limits.{tb_size}
 use Rattle.stream_buffers.specs.Held.{Held, transport_ended}
 use Rattle.stream_buffers.specs.Entering.{payload_transport}
 use Rattle.viewed_streams.proofs.EnteredBytes.{Arrives, no_times}
@@ -19,8 +19,8 @@ pub ended_two : (h h' : Held) (ts us : List ℕ) → Arrives h h' ts → transpo
 ended_two h h' ts us a =
     let old : List ℕ = arrivals_of h.parts in
     let r : ℕ = h.rate in
-    ended-append r TRANSPORT_BYTES (last_left r 0 old) (excess_after r TRANSPORT_BYTES 0 None old) ts us
-    ∙ rw (a.alike.rate, a.arrivals, last_left-append r 0 old ts, after-append r TRANSPORT_BYTES 0 None old ts) refl
+    ended-append r tb_size (last_left r 0 old) (excess_after r tb_size 0 None old) ts us
+    ∙ rw (a.alike.rate, a.arrivals, last_left-append r 0 old ts, after-append r tb_size 0 None old ts) refl
 
 pub none_ended : (h : Held) → transport_ended h [] ≡ []
 unfolding excesses_ended
@@ -47,4 +47,4 @@ few_ended step size prev under_way (t ∷ ts) =
     one false (Some e) = omega arith
 
 pub few_told : (h : Held) (ts : List ℕ) → length (transport_ended h ts) ≤ length ts
-few_told h ts = few_ended h.rate TRANSPORT_BYTES _ _ ts
+few_told h ts = few_ended h.rate tb_size _ _ ts

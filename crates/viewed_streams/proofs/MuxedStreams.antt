@@ -23,7 +23,7 @@ use Rattle.mux_core.proofs.Whole.{headline}
 use Rattle.mux_core.proofs.JobWriting.{output_bytes}
 use Rattle.mux_core.specs.Histories.{content_at}
 use Rattle.round_trip_run.proofs.MonitoredJobs.{job_kept}
-use Rattle.stream_buffers.specs.declared.entering.TheConstants.{TRANSPORT_BYTES}
+use Rattle.stream_view.specs.Limits.{tb_size}
 use Rattle.stream_buffers.specs.Held.{transport_most, transport_under_way}
 use Rattle.stream_report.specs.Choices.{RequestView}
 use Rattle.stream_report.specs.Entries.{EntryState}
@@ -61,14 +61,14 @@ none_last (x ∷ xs) (Some y) e = absurd (let no : ⊥ = cc in no)
 
 -- of a view whose transport buffer holds 512 bytes at most
 pub fits : (request : RequestView) (rate : ℕ) (packets : List (List ℕ)) (e : EntryState) → 0 < rate → 0 < e.held.rx → IsWhole request rate packets e →
-    transport_most e.held ≤ TRANSPORT_BYTES → NoExcess request rate packets e
+    transport_most e.held ≤ tb_size → NoExcess request rate packets e
 fits request rate packets e some drained w few =
     let slots : List ℕ = indices_of e.pid (length w.begun.before) (w.begun.first ∷ w.begun.later) in
     let ts : List ℕ = arrivals e.held.rx slots in
     let climbs = climbs_low 0 (length w.begun.before) slots (omega arith) (packets_climb e.pid (length w.begun.before) (w.begun.first ∷ w.begun.later)) in
     let peak = most_law rate ts some (climbs_rises 0 ts (arrivals_climb e.held.rx slots drained climbs)) in
-    let most : most_found rate 0 ts ≤ TRANSPORT_BYTES = omega (arith, peak.reached, w.lines.transport.never_more peak.moment, few) in
-    let none : excesses rate TRANSPORT_BYTES ts ≡ [] = no_excesses rate TRANSPORT_BYTES ts most in
+    let most : most_found rate 0 ts ≤ tb_size = omega (arith, peak.reached, w.lines.transport.never_more peak.moment, few) in
+    let none : excesses rate tb_size ts ≡ [] = no_excesses rate tb_size ts most in
     let told = w.lines.told ∙ none in
     record {
       whole = w;

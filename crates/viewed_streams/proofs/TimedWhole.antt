@@ -19,7 +19,7 @@ use Rattle.stream_coding.specs.declared.buffers.Buffers.{Buffers}
 use Rattle.stream_view.specs.History.{arrivals_of, main_fullness, transport_of, unit_of}
 use Rattle.stream_view.specs.declared.unit_seen.UnitSeen.{UnitSeen}
 use Rattle.stream_view.proofs.AllMoments.{figures_law}
-use Rattle.stream_buffers.specs.declared.entering.TheConstants.{TRANSPORT_BYTES}
+use Rattle.stream_view.specs.Limits.{tb_size}
 use Rattle.stream_buffers.specs.Entering.{EnteredView}
 use Rattle.stream_buffers.specs.Held.{Held, empty, main_most, transport_most, transport_under_way, unit_before}
 use Rattle.stream_report.specs.declared.view_options.ViewOptions.{ViewOptions}
@@ -97,9 +97,9 @@ pub record FiguresBy (step : ℕ) (h : Held) (f : Followed) (xs : List Entering)
   pub arrived : arrivals_of (after_entering h xs).parts ≡ times
   pub transport : IsPeak (λ x. fullness x times (departures step 0 times)) (transport_most (after_entering h xs))
   pub main : IsPeak (main_fullness step (after_entering h xs).parts) (main_most (after_entering h xs))
-  pub ended : told_of (entered_by h xs) ≡ excesses_ended step TRANSPORT_BYTES 0 None times
-  pub under_way : transport_under_way (after_entering h xs) ≡ excess_after step TRANSPORT_BYTES 0 None times
-  pub number : excesses_more 0 (entered_by h xs) ≡ length (excesses_ended step TRANSPORT_BYTES 0 None times)
+  pub ended : told_of (entered_by h xs) ≡ excesses_ended step tb_size 0 None times
+  pub under_way : transport_under_way (after_entering h xs) ≡ excess_after step tb_size 0 None times
+  pub number : excesses_more 0 (entered_by h xs) ≡ length (excesses_ended step tb_size 0 None times)
 
 pub figures_by : (step rx size : ℕ) (f : Followed) (b : Before) (packets : List Timed) (times : List ℕ) → 0 < step → AllLead b.index packets →
     b.index + length packets ≤ most_packets → times_among (on_pid f.pid) rx b.index packets ≡ times → Rises 0 times →
@@ -113,8 +113,8 @@ figures_by step rx size f b packets times some leads few same rises =
     let arrive : arrivals_of h'.parts ≡ times = all.arrivals ∙ same in
     let rate : h'.rate ≡ step = rate_by h xs in
     let both = figures_law step h'.parts some (subst (λ (l : List ℕ). Rises 0 l) (sym arrive) rises) in
-    let ended : told_of (entered_by h xs) ≡ excesses_ended step TRANSPORT_BYTES 0 None times =
-    each_told_by h f b packets leads few (omega arith) ∙ ap (λ (l : List ℕ). excesses_ended step TRANSPORT_BYTES 0 None l) same in
+    let ended : told_of (entered_by h xs) ≡ excesses_ended step tb_size 0 None times =
+    each_told_by h f b packets leads few (omega arith) ∙ ap (λ (l : List ℕ). excesses_ended step tb_size 0 None l) same in
     let short : length times ≤ 188 * length packets = subst (λ (l : List ℕ). length l ≤ 188 * length packets) same (among_short (on_pid f.pid) rx b.index packets) in
     let many : length (told_of (entered_by h xs)) ≤ length times = subst (λ (es : List Excess). length es ≤ length times) (sym ended) (few_told h times) in
     let number = excesses_exact 0 (entered_by h xs) (omega (arith, many, short, few)) in
@@ -125,7 +125,7 @@ figures_by step rx size f b packets times some leads few same rises =
           (subst (λ (l : List ℕ). IsPeak (λ x. fullness x l (departures step 0 l)) (transport_of step h'.parts).most) arrive both.0);
       main = subst (λ (r : ℕ). IsPeak (main_fullness step h'.parts) (main_most (record { rate = r; rx = h'.rx; parts = h'.parts; main = h'.main }))) (sym rate) both.1;
       ended = ended;
-      under_way = ap (λ (r : ℕ). excess_after r TRANSPORT_BYTES 0 None (arrivals_of h'.parts)) rate ∙ ap (λ (l : List ℕ). excess_after step TRANSPORT_BYTES 0 None l) arrive;
+      under_way = ap (λ (r : ℕ). excess_after r tb_size 0 None (arrivals_of h'.parts)) rate ∙ ap (λ (l : List ℕ). excess_after step tb_size 0 None l) arrive;
       number = omega (arith, number, ap (λ (es : List Excess). length es) ended);
     }
 
@@ -216,8 +216,8 @@ assemble_by request step packets e some order few b =
     let there : AllLead k.index rest = subst (λ (i : ℕ). AllLead i rest) (let place : 0 + length b.before ≡ k.index = omega (arith, index) in place) leads in
     let fig : FiguresBy step h f xs times = figures_by step e.held.rx e.held.main.size f k rest times some there (omega (arith, few, lengths, index)) times_are rises in
     let arrived : arrivals_of e.held.parts ≡ times = ap (λ (g : Held). arrivals_of g.parts) held ∙ fig.arrived in
-    let ended : List Excess = excesses_ended step TRANSPORT_BYTES 0 None times in
-    let under : transport_under_way e.held ≡ excess_after step TRANSPORT_BYTES 0 None times = ap (λ (g : Held). transport_under_way g) held ∙ fig.under_way in
+    let ended : List Excess = excesses_ended step tb_size 0 None times in
+    let under : transport_under_way e.held ≡ excess_after step tb_size 0 None times = ap (λ (g : Held). transport_under_way g) held ∙ fig.under_way in
     let zero_told : first.tally.excesses ≡ 0 = ap (λ (x : EntryState). x.tally.excesses) new in
     let zero_units : first.tally.units ≡ 0 = ap (λ (x : EntryState). x.tally.units) new in
     let zero_late : first.tally.late ≡ 0 = ap (λ (x : EntryState). x.tally.late) new in
@@ -231,7 +231,7 @@ assemble_by request step packets e some order few b =
     b.grown.late ∙ ap (λ (n : ℕ). late_more n (entered_by first.held (entering_among (followed s first) (known s first) rest))) zero_late
     ∙ ap (λ (l : List EnteredView). late_more 0 l) entered_is in
     let units = units_by step e.held.rx e.held.main.size e xs held (omega (arith, few_entering f k rest, lengths, few)) units_are late_are in
-    let all_of : ended ++ option_to_list (transport_under_way e.held) ≡ excesses step TRANSPORT_BYTES times = ap (λ (o : Option Excess). ended ++ option_to_list o) under in
+    let all_of : ended ++ option_to_list (transport_under_way e.held) ≡ excesses step tb_size times = ap (λ (o : Option Excess). ended ++ option_to_list o) under in
     record {
       begun = record {
         before = b.before;

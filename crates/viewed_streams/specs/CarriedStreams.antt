@@ -9,9 +9,8 @@ use Rattle.pes_packet.specs.StreamIds.{fits_packet}
 use Rattle.slot_contents.specs.Contents.{Piece, payload_at}
 use Rattle.unit_queue.specs.Payloads.{marked, piece_in}
 use Rattle.packet_arrival.specs.declared.clock.PcrSample.{PcrSample}
-use Rattle.packet_arrival.specs.declared.clock.TheConstants.{PCR_PERIOD}
-use Rattle.stream_report.specs.Clocks.{tick_of}
-use Rattle.stream_report.specs.declared.clocks.TheConstants.{LONGEST_STAY}
+use Rattle.packet_arrival.specs.Clock.{pcr_period}
+use Rattle.stream_report.specs.Clocks.{longest_stay, tick_of}
 use Rattle.viewed_streams.specs.StreamPackets.{Before, Followed, clocks_seen}
 
 -- ---- the PES packets of units, in payloads
@@ -52,9 +51,9 @@ pub record CarriesUnits (id base0 pid : ℕ) (cuts : List CutUnit) (bytes : List
 -- a clock reference says what a clock shows at its byte that goes on from `base0`, in units of 90 kHz, at the stream's first byte; and the unit
 -- is due no later after it than a unit may stay, a minute, nor longer before it than half the time in which the clock comes round
 pub record GoesBy (rate base0 : ℕ) (clock : PcrSample) (u : AccessUnit) : Type 0 where
-  pub agrees : clock.ticks % PCR_PERIOD ≡ (tick_of rate clock + 300 * base0) % PCR_PERIOD
-  pub soon : 300 * u.dts ≤ tick_of rate clock + LONGEST_STAY
-  pub late : tick_of rate clock ≤ 300 * u.dts + PCR_PERIOD / 2
+  pub agrees : clock.ticks % pcr_period ≡ (tick_of rate clock + 300 * base0) % pcr_period
+  pub soon : 300 * u.dts ≤ tick_of rate clock + longest_stay
+  pub late : tick_of rate clock ≤ 300 * u.dts + pcr_period / 2
 
 -- so does each unit that begins with one of these packets of the PID, by the program's last clock reference then, if one has come; `packets`
 -- are all packets from the one on before which this is known

@@ -9,7 +9,7 @@ use Rattle.mux_core.specs.Scheduled.{Scheduled}
 use Rattle.mux_core.specs.Headline.{Headline}
 use Rattle.mux_core.specs.WholeJobs.{capacity_for, first_refused, job_history, output_of}
 use Rattle.stream_arrival.specs.declared.arrival.Arrival.TheVariants.{AtRate}
-use Rattle.stream_buffers.specs.declared.entering.TheConstants.{TRANSPORT_BYTES}
+use Rattle.stream_view.specs.Limits.{tb_size}
 use Rattle.stream_buffers.specs.Held.{empty, transport_most, transport_under_way}
 use Rattle.stream_report.specs.Choices.{RequestView}
 use Rattle.stream_report.specs.EntryEvents.{with_one}
@@ -22,7 +22,7 @@ use Rattle.viewed_streams.specs.WholeStreams.{IsWhole, stream_packets}
 -- `transport` says no more than 512 bytes and no excess
 pub record NoExcess (request : RequestView) (rate : ℕ) (packets : List (List ℕ)) (e : EntryState) : Type 0 where
   pub whole : IsWhole request rate packets e
-  pub most : transport_most e.held ≤ TRANSPORT_BYTES
+  pub most : transport_most e.held ≤ tb_size
   pub none_ended : flat_map (λ v. v.transport)
       (entered_each (empty rate e.held.rx e.held.main.size) (AtRate rate) (stream_packets request e whole.begun.before (whole.begun.first ∷ whole.begun.later))) ≡ []
   pub none_under_way : transport_under_way e.held ≡ None

@@ -18,7 +18,7 @@ use Rattle.named_streams.specs.NamedStreams.{clock_of as program_clock}
 use Rattle.transport_buffer.specs.Laws.{excesses}
 use Rattle.stream_view.specs.History.{main_fullness}
 use Rattle.stream_buffers.specs.declared.arriving.Arriving.{Arriving}
-use Rattle.stream_buffers.specs.declared.entering.TheConstants.{TRANSPORT_BYTES}
+use Rattle.stream_view.specs.Limits.{tb_size}
 use Rattle.stream_buffers.specs.Entering.{EnteredView}
 use Rattle.stream_buffers.specs.Held.{empty, main_most, transport_most, transport_under_way}
 use Rattle.stream_report.specs.declared.view_options.ViewOptions.{ViewOptions}
@@ -56,8 +56,8 @@ pub record SaysAll (step : ℕ) (times : List ℕ) (vs : List EnteredView) (e : 
   -- the line `transport` has the greatest number of bytes in the transport buffer over all moments
   pub transport : IsPeak (λ x. fullness x times (departures step 0 times)) (transport_most e.held)
   -- and the number of all excesses: those of the events `excess`, one after another, with the one under way at the end
-  pub told : flat_map (λ v. v.transport) vs ++ option_to_list (transport_under_way e.held) ≡ excesses step TRANSPORT_BYTES times
-  pub excesses : (window : ℕ) → with_one (closed window e).excesses (transport_under_way e.held) ≡ length (excesses step TRANSPORT_BYTES times)
+  pub told : flat_map (λ v. v.transport) vs ++ option_to_list (transport_under_way e.held) ≡ excesses step tb_size times
+  pub excesses : (window : ℕ) → with_one (closed window e).excesses (transport_under_way e.held) ≡ length (excesses step tb_size times)
   -- the line `main` has the greatest number of bytes in the main buffer over all moments: of the payload bytes that have left the transport
   -- buffer by then, and whose unit is not gone
   pub main : IsPeak (main_fullness step e.held.parts) (main_most e.held)

@@ -3,7 +3,7 @@ use Rattle.std.specs.Prelude.{codes}
 use Rattle.std.specs.Option.{option_to_list}
 use Rattle.transport_buffer.specs.declared.excess.Excess.{Excess}
 use Rattle.stream_view.specs.declared.unit_seen.UnitSeen.{UnitSeen}
-use Rattle.stream_buffers.specs.declared.entering.TheConstants.{TRANSPORT_BYTES}
+use Rattle.stream_view.specs.Limits.{tb_size}
 use Rattle.stream_report.specs.EntryEvents.{excess_events, late_events, main_excess_events, with_size}
 use Rattle.stream_report.proofs.Tables.{on_ok, three}
 use Rattle.stream_report.proofs.entry_events.push_under_way.Goals as goal
@@ -14,7 +14,7 @@ returns c = λ h k.
     let place = c.args.place.now in
     let events = c.args.events.now.items in
     let first = c.in_ok-push_excess_if.ensures
-    ∙ ap (λ (e : Option Excess). events ++ excess_events options (with_size place TRANSPORT_BYTES) (option_to_list e)) (c.transport_excess.ensures h k) in
+    ∙ ap (λ (e : Option Excess). events ++ excess_events options (with_size place tb_size) (option_to_list e)) (c.transport_excess.ensures h k) in
     let second = c.in_ok-push_main_excess_if.ensures
     ∙ ap (λ (e : Option Excess). c.push_excess_if.new.events.items ++ main_excess_events options place (option_to_list e)) (c.main_excess.ensures h k) in
     on_ok c.push_late_if.result (λ e. three events (c.push_excess_if.new.events.items) (c.push_main_excess_if.new.events.items) (c.push_late_if.new.events.items) _ _ _

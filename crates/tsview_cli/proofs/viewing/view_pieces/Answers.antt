@@ -1,11 +1,12 @@
-use Rattle.std.proofs.Common.{rules, ◌≡◌, ◌%◌, ℕ, length, take, refl, sym, subst, arith, string_bytes}
+use Rattle.std.proofs.Common.{rules, ◌≡◌, ◌+◌, ◌%◌, ℕ, true, false, length, take, refl, sym, subst, arith, string_bytes}
 use Rattle.ts_packet.specs.PidList.{cut_packets}
 use Rattle.stream_report.specs.ClockedViews.{IsClocked, ClockedState}
+use Rattle.stream_report.specs.Crowding.{is_crowded}
 use Rattle.devices.specs.Devices.{Port, between}
 use Rattle.devices.proofs.TakenInput.{TakesFront, front_end, front_more, front_none}
 use Rattle.devices.specs.declared.halt.Halt.{Halt}
 use Rattle.tsview_cli.specs.Viewing.{Breaks, Seen, StopsNext, lines_all}
-use Rattle.tsview_cli.proofs.Pieces.{if_err, if_ok, next_stopped, seen_none, seen_then, write_stopped}
+use Rattle.tsview_cli.proofs.Pieces.{crowds, if_err, if_ok, if_whole, next_stopped, seen_none, seen_then, write_stopped}
 use Rattle.tsview_cli.proofs.viewing.view_pieces.Goals as goal
 
 pub loop-size-init : goal.loop-size-init
@@ -15,6 +16,7 @@ loop-size-init g c =
     record {
       room = refl;
       none = c.requires.text;
+      calm = c.requires.calm;
       front = λ s k. front_none (Seen c.args.json s (between output output) c.args.view.now) 188 input (seen_none c.args.json s c.args.view.now output k);
     }
 
@@ -30,9 +32,11 @@ loop-size-preserved g c =
     let room : length c.view_next.new.piece ≡ length c.args.piece.now = omega (arith, c.view_next.auto.piece, c.loop-size.invariant.room) in
     let text : (v : ClockedState) → IsClocked c.loop-size.view v → string_bytes c.view_next.new.text ≡ lines_all c.args.json v (cut_packets piece) =
     c.in_ok-n.ensures.lines in
+    let calm : is_crowded c.view_next.new.view ≡ false = search rules in
     record {
       room = room;
       none = c.in-Ok.ensures.empty;
+      calm = calm;
       front = λ s k. front_more (Seen c.args.json s (between begin middle) c.loop-size.view) (Seen c.args.json s (between begin end) c.view_next.new.view) 188 old mid new
           c.loop-size.size c.in_ok-n.n c.view_next.new.piece (c.loop-size.invariant.front s k) c.in_ok-n.ensures.read
           (seen_then c.args.json s c.loop-size.view c.view_next.new.view begin middle end (string_bytes c.view_next.new.text) piece text
@@ -65,12 +69,33 @@ returns-then-n-piece-clause-ok g c = λ s k.
     let piece = take c.in_ok-n.n c.view_next.new.piece in
     let text : (v : ClockedState) → IsClocked c.loop-size.view v → string_bytes c.view_next.new.text ≡ lines_all c.args.json v (cut_packets piece) =
     c.in_ok-n.ensures.lines in
-    if_ok (Seen c.args.json s (between begin end) c.view_next.new.view) (between old new) c.size_within.result
+    if_whole c.args.json s (between old new) (between begin end) c.view_next.new.view c.size_within.result
+    (if_ok (Seen c.args.json s (between begin end) c.view_next.new.view) (between old new) c.size_within.result
     (front_end (Seen c.args.json s (between begin middle) c.loop-size.view) (Seen c.args.json s (between begin end) c.view_next.new.view) 188 old mid new
     c.loop-size.size c.in_ok-n.n c.view_next.new.piece c.size_within.result (c.loop-size.invariant.front s k) c.in_ok-n.ensures.read
     (seen_then c.args.json s c.loop-size.view c.view_next.new.view begin middle end (string_bytes c.view_next.new.text) piece text
     c.in_ok-n.ensures.view c.in-Ok.ensures.written.0 c.in-Ok.ensures.written.1)
-    (omega (arith, c.if-n-piece.true)) c.size_within.ensures.ok c.size_within.ensures.err)
+    (omega (arith, c.if-n-piece.true)) c.size_within.ensures.ok c.size_within.ensures.err))
+
+pub returns-then-is_crowded-clause-ok : goal.returns-then-is_crowded-clause-ok
+returns-then-is_crowded-clause-ok g c = λ s k.
+    let old : Port = record { bytes = g.R.Read.remaining c.args.input.now; failed = g.R.Source.fault_count c.args.input.now } in
+    let mid : Port = record { bytes = g.R.Read.remaining c.loop-size.input; failed = g.R.Source.fault_count c.loop-size.input } in
+    let new : Port = record { bytes = g.R.Read.remaining c.view_next.new.input; failed = g.R.Source.fault_count c.view_next.new.input } in
+    let begin : Port = record { bytes = g.W.Write.contents c.args.output.now; failed = g.W.Sink.fault_count c.args.output.now } in
+    let middle : Port = record { bytes = g.W.Write.contents c.loop-size.output; failed = g.W.Sink.fault_count c.loop-size.output } in
+    let end : Port = record { bytes = g.W.Write.contents c.write_settled.new.output; failed = g.W.Sink.fault_count c.write_settled.new.output } in
+    let piece = take c.in_ok-n.n c.view_next.new.piece in
+    let room : length c.view_next.new.piece ≡ length c.args.piece.now = omega (arith, c.view_next.auto.piece, c.loop-size.invariant.room) in
+    let text : (v : ClockedState) → IsClocked c.loop-size.view v → string_bytes c.view_next.new.text ≡ lines_all c.args.json v (cut_packets piece) =
+    c.in_ok-n.ensures.lines in
+    let crowded : is_crowded c.view_next.new.view ≡ true = search rules in
+    crowds c.args.json s c.view_next.new.view old new (between begin end) (c.loop-size.size + c.in_ok-n.n)
+    (front_more (Seen c.args.json s (between begin middle) c.loop-size.view) (Seen c.args.json s (between begin end) c.view_next.new.view) 188 old mid new
+    c.loop-size.size c.in_ok-n.n c.view_next.new.piece (c.loop-size.invariant.front s k) c.in_ok-n.ensures.read
+    (seen_then c.args.json s c.loop-size.view c.view_next.new.view begin middle end (string_bytes c.view_next.new.text) piece text
+    c.in_ok-n.ensures.view c.in-Ok.ensures.written.0 c.in-Ok.ensures.written.1)
+    (subst (λ (n : ℕ). n % 188 ≡ 0) (sym room) c.requires.whole) (omega (arith, c.if-n-piece.false))) crowded
 
 pub returns-then-n-piece-clause-err : goal.returns-then-n-piece-clause-err
 returns-then-n-piece-clause-err g c = λ s k.

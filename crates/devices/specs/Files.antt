@@ -1,0 +1,29 @@
+-- Files by their names: what is known of them.
+use Rattle.std.specs.Prelude.{◌≡◌, ◌⊎◌, ℕ, Bool, true, false, List, Option, Some, None, ⊤}
+use Rattle.devices.specs.WholeInput.{IsLong}
+
+-- the bytes of each and whether it can be opened, where that is known; and whether it is known that no read of any of them fails
+pub record Files : Type 0 where
+  pub contents : List ℕ → Option (List ℕ)
+  pub opens : List ℕ → Option Bool
+  pub never_fails : Bool
+
+abbrev pub files_of : (List ℕ → Option (List ℕ)) → (List ℕ → Option Bool) → Bool → Files
+files_of contents opens never_fails = record { contents = contents; opens = opens; never_fails = never_fails }
+
+-- it is so, where it is known whether it is
+abbrev pub IsAsKnown : Option Bool → Bool → Type 0
+IsAsKnown None is = ⊤
+IsAsKnown (Some known) is = is ≡ known
+
+-- the file of a name was opened
+abbrev pub IsOpened : Files → List ℕ → Type 0
+IsOpened files name = IsAsKnown (files.opens name) true
+
+-- it can't be opened
+abbrev pub IsUnopened : Files → List ℕ → Type 0
+IsUnopened files name = IsAsKnown (files.opens name) false
+
+-- it was opened, and can't be read to its end: reads of files may fail, or it is longer than an input may be
+abbrev pub IsUnread : Files → List ℕ → Type 0
+IsUnread files name = IsOpened files name × ((files.never_fails ≡ false) ⊎ IsLong (files.contents name))
