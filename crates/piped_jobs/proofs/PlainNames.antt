@@ -8,7 +8,7 @@ use Rattle.std.proofs.lemmas.Bool.{and_parts, cond_both, false≢true}
 use Rattle.std.proofs.lemmas.List.Elements.{All-nil, All-cons, All-from_get_or, All-head, All-tail}
 use Rattle.std.proofs.lemmas.List.Sums.{list_all-from_AllPass}
 use Rattle.std.proofs.lemmas.Str.{NoCharPasses-byte}
-use Rattle.clap.specs.Words.{Kinds, Row, Text, fault_of, first_of, matches_of}
+use Rattle.clap.specs.Words.{Row, Text, first_of}
 use Rattle.demux.specs.Views.{FindingView}
 use Rattle.stream_programs.specs.NetworkInformation.{FoundNetworkView}
 use Rattle.stream_programs.specs.Services.{FoundServiceView}
@@ -22,13 +22,15 @@ use Rattle.stream_jobs.specs.Events.{first_start, start_found, start_of as begin
 use Rattle.stream_jobs.specs.GivenNames.{NetworkNameView, ServiceNameView, name_given}
 use Rattle.stream_jobs.specs.JobOptions.{JobOptionsView}
 use Rattle.stream_jobs.specs.Information.{named_service, network_found, network_of, network_or, renamed, service_with}
-use Rattle.devices.specs.Options.{number_if_given, number_option}
-use Rattle.tsjob_cli.specs.CommandLine.{tsjob_app}
+use Rattle.word_faults.specs.GivenOptions.{given_options, number_if, number_of, numbers_of}
 use Rattle.tsjob_cli.specs.FileMark.{has_mark}
 use Rattle.job_outcomes.specs.JobArguments.{JobArgumentsView}
-use Rattle.tsjob_cli.specs.Arguments.{arguments_in, arguments_of, base_of, declare_by_of, greatest_lead, greatest_limit, greatest_pid, greatest_program, greatest_rate, is_of_time, least_lead, least_limit, least_rate, options_in, start_of, stream_of, subcommand_of, unless_faulty, values_of}
-use Rattle.option_lists.specs.Lists.{all_of, buffer_list, colon_parts, number_in, number_list}
-use Rattle.tsjob_cli.specs.NameLists.{are_printable, is_printable, name_list, name_of, network_if_given, network_in, network_of as network_named, network_with}
+use Rattle.tsjob_cli.specs.Arguments.{arguments_in, arguments_of, options_in, stream_of, values_of}
+use Rattle.tsjob_cli.specs.Options.{options}
+use Rattle.tsjob_cli.specs.Subcommands.{subcommand_of}
+use Rattle.option_lists.specs.JobValues.{base_of, declare_by_of, is_of_time, start_of}
+use Rattle.option_lists.specs.Lists.{all_of, buffer_list, colon_parts, number_in}
+use Rattle.option_lists.specs.NameLists.{are_printable, is_printable, name_list, name_of, network_if_given, network_in, network_of as network_named, network_with}
 use Rattle.piped_jobs.proofs.PlainTexts.{decimal_flat}
 use Rattle.piped_jobs.proofs.PlainLines.{flat_both, flat_if, flat_more, inside_ne, is_flat, is_inside}
 
@@ -157,10 +159,10 @@ unfolding values_of
 values_plain rows v e =
     let subcommand = given_some (subcommand_of (first_of (codes "subcommand") rows)) _ v e in
     let stream = given_some (stream_of subcommand.0 (first_of (codes "stream") rows)) _ v subcommand.1.1 in
-    let rate = given_some (number_if_given least_rate greatest_rate (first_of (codes "rate") rows)) _ v stream.1.1 in
+    let rate = given_some (number_if options (codes "rate") rows) _ v stream.1.1 in
     let start = given_some (start_of (first_of (codes "start") rows)) _ v rate.1.1 in
-    let pcr_limit = given_some (number_option least_limit greatest_limit 40 (first_of (codes "pcr") rows)) _ v start.1.1 in
-    let lead = given_some (number_option least_lead greatest_lead greatest_lead (first_of (codes "lead") rows)) _ v pcr_limit.1.1 in
+    let pcr_limit = given_some (number_of options (codes "pcr") rows) _ v start.1.1 in
+    let lead = given_some (number_of options (codes "lead") rows) _ v pcr_limit.1.1 in
     let declare_by = given_some (declare_by_of (first_of (codes "declare") rows)) _ v lead.1.1 in
     let base = given_some (base_of (first_of (codes "base") rows)) _ v declare_by.1.1 in
     subst (λ (x : JobArgumentsView). PlainIfAny x.options.start) (same_value _ v base.1.1) (start_plain (first_of (codes "start") rows) start.0 start.1.0)
@@ -169,8 +171,8 @@ rows_plain : (rows : List Row) (a : JobArgumentsView) → arguments_of rows ≡ 
 unfolding arguments_of
 rows_plain rows a e =
     let values = given_some (values_of rows) _ a e in
-    let programs = given_some (number_list greatest_program (first_of (codes "program") rows)) _ a values.1.1 in
-    let without = given_some (number_list greatest_pid (first_of (codes "without") rows)) _ a programs.1.1 in
+    let programs = given_some (numbers_of options (codes "program") rows) _ a values.1.1 in
+    let without = given_some (numbers_of options (codes "without") rows) _ a programs.1.1 in
     let buffers = given_some (buffer_list (first_of (codes "buffers") rows)) _ a without.1.1 in
     let network = given_some (network_if_given (first_of (codes "network") rows)) _ a buffers.1.1 in
     let names = given_some (name_list (first_of (codes "name") rows)) _ a network.1.1 in
@@ -181,16 +183,11 @@ rows_plain rows a e =
       names = list_plain (first_of (codes "name") rows) names.0 names.1.0;
     })
 
-sound_words : (ks : Kinds) (o : Option JobArgumentsView) (a : JobArgumentsView) → unless_faulty ks o ≡ Some a → o ≡ Some a
-unfolding unless_faulty
-sound_words [] o a e = e
-sound_words (k ∷ ks) o a e = absurd cc
-
 -- the names that words give, and the moment
 pub options_plain : (words : List Text) (a : JobArgumentsView) → arguments_in words ≡ Some a → PlainOptions a.options
 options_plain words a e =
-    rows_plain (matches_of tsjob_app words) a
-    (sound_words (fault_of tsjob_app words) (arguments_of (matches_of tsjob_app words)) a (else_some (has_mark words) (options_in words) a e))
+    let read = given_some (given_options (codes "tsjob") options words) arguments_of a (else_some (has_mark words) (options_in words) a e) in
+    rows_plain read.0 a read.1.1
 
 -- 4. Names that stand in a stream
 

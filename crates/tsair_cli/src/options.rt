@@ -101,5 +101,6 @@ pub(crate) fn known_words() -> KnownWords
         words: &[],
         alone: &[],
         required: None,
+        barred: None,
     }
 }

@@ -1,4 +1,3 @@
-pub mod CommandLines
 pub mod StreamedUnits
 pub mod Explaining
 mod FileWords

@@ -1,10 +1,8 @@
-pub mod CommandLine
-pub mod KnownWords
-pub mod NameLists
-pub mod Arguments
 pub mod FileMark
+pub mod Subcommands
+pub mod Options
+pub mod Arguments
 pub mod FileWords
 pub mod NamedInputs
-pub mod UsageText
 pub mod StreamedUnits
 pub mod Explaining

@@ -1,18 +1,16 @@
 //! What the program `tsjob` does, over any files, a reader and two writers (`run`).
 //!
-//! `command_line`, `name_lists` and `arguments` read the command line, and `known_words` says what it may have; `file_mark` finds `--`, and `file_words` has the
-//! names of files after it. What it asks for of streams is done by `job_outcomes`. `streaming` has the units of the streams of a
+//! `options` is the table of options, with the usage; `arguments` reads the command line by it; `file_mark` finds `--`, and
+//! `file_words` has the names of files after it. What it asks for of streams is done by `job_outcomes`. `streaming` has the units of the streams of a
 //! description that stands in a file written while the stream comes; `explained_input` says what is wrong with a description.
 //! `program` is `run`.
 #![tactic(auto)]
 
 mod arguments;
-mod command_line;
 mod explained_input;
 mod file_mark;
 mod file_words;
-mod known_words;
-mod name_lists;
+mod options;
 mod program;
 mod streaming;
 

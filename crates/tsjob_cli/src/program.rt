@@ -9,54 +9,24 @@ ghost use Rattle.devices.specs.Usage.{TellsUsage};
 ghost use Rattle.job_outcomes.specs.JobArguments.{JobArgumentsView};
 ghost use Rattle.tsjob_cli.specs.Arguments.{arguments};
 ghost use Rattle.tsjob_cli.specs.Explaining.{ExplainLeads, is_explain};
-ghost use Rattle.tsjob_cli.specs.KnownWords.{known_for};
 ghost use Rattle.job_outcomes.specs.Outcomes as spec;
 ghost use Rattle.tsjob_cli.specs.FileWords.{file_arguments, file_words};
 ghost use Rattle.tsjob_cli.specs.NamedInputs.{ReadsFiles};
+ghost use Rattle.tsjob_cli.specs.Options.{known_for, usage_text};
 ghost use Rattle.tsjob_cli.specs.StreamedUnits.{StreamsUnits};
-ghost use Rattle.tsjob_cli.specs.UsageText.{usage_text};
 ghost use Rattle.word_faults.specs.CommandLine.{Text};
 ghost use Rattle.word_faults.specs.UsageReport.{Prints, is_version, usage_report, version_text};
 
 use crate::arguments::read_arguments;
 use crate::explained_input::{explain_input, is_explain};
 use crate::file_words::{file_words, read_file_arguments};
-use crate::known_words::known_for;
+use crate::options::{known_for, usage};
 use crate::streaming::stream_units;
 use counted_io::{Sink, Source};
 use devices::{Halt, NamedFiles, report_halt, report_text};
 use job_outcomes::{JobArguments, perform, perform_files};
 use std::alloc::Global;
 use word_faults::answer_other_words;
-
-/// The usage, written to the second writer on a usage error.
-const USAGE: &str = "usage: tsjob [describe|units|why] [OPTIONS] < PACKETS > JOB
-       tsjob [describe|units|why] [OPTIONS] -- FILE.. > JOB
-       tsjob explain < DESCRIPTION [PLAN]
-  --rate 100000..100000000       bits a second; else the least at which a plan is found
-  --program N,..                 the programs that are taken
-  --without PID,..               PIDs that are left out
-  --buffers PID:RX:MAIN,..       buffers of a PID, in bits a second and bytes
-  --lead 1..90000                the greatest lead of a unit, in units of 90 kHz
-  --declare groups|time          by what packets are declared; else by groups where they ask for little more
-  --pcr 1..100                   the greatest time between clock references, in ms
-  --start YYYY-MM-DDThh:mm:ss    the moment of the first packet
-  --base 0..8589934591|input     the system clock as the run begins, in units of 90 kHz, or that of the input
-  --network ID:NAME[:ORIGINAL]   the network, and original_network_id
-  --name N:NAME[:PROVIDER],..    the names of the services of programs
-  --make-dts                     DTS are made from PTS
-  --whole                        the input is no capture: its last PES packets are whole
-  --stream FILE                  with units: those of the streams of this description, while the stream comes
-  --progress                     how many bytes are read is told each second, on a terminal
-  --version                      alone: the version, and the kit that proved it
-";
-
-// The usage.
-fn usage() -> &'static str
-    ensures { result.now ≡ usage_text }
-{
-    USAGE
-}
 
 /// Writes the usage, and returns the status.
 pub fn report_usage<E: Sink>(faults: &mut E) -> u8

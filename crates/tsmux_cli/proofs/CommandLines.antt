@@ -4,14 +4,15 @@ use Rattle.std.specs.Prelude.{IfOk}
 use Rattle.clap.specs.Words.{App, FailsBy, HasMatchesOf, Text, fault_of, is_simple, is_simple_and_free, subcommand_of, subcommand_rows_of}
 use Rattle.clap.specs.declared.error.Error.{Error}
 use Rattle.clap.specs.declared.parser.matches.ArgMatches.{ArgMatches}
+use Rattle.word_faults.specs.GivenOptions.{with_options}
 use Rattle.tsmux_cli.specs.CommandLine.{tsmux_app}
 
 pub simple : is_simple tsmux_app ≡ true
-unfolding tsmux_app
+unfolding tsmux_app with_options
 simple = refl
 
 pub simple_and_free : is_simple_and_free tsmux_app ≡ true
-unfolding tsmux_app
+unfolding tsmux_app with_options
 simple_and_free = refl
 
 pub named : {E : Type 0} (app : App) (words : List Text) (r : Result ArgMatches E) → is_simple app ≡ true → IfOk r (HasMatchesOf app words) →

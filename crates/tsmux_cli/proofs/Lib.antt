@@ -1,4 +1,4 @@
-pub mod UsageErrors
+pub mod OptionNumbers
 pub mod CommandLines
 pub mod Subcommands
 pub mod Listing

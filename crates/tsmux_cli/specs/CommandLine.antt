@@ -1,35 +1,31 @@
 -- The command line as it is declared to `clap`: subcommands and their options.
-use Rattle.std.specs.Prelude.{true, codes}
-use Rattle.clap.specs.Words.{App, new_app, with_rule, with_subcommand}
-use Rattle.devices.specs.Options.{flag_rule, option_rule}
+use Rattle.std.specs.Prelude.{codes}
+use Rattle.clap.specs.Words.{App, new_app, with_subcommand}
+use Rattle.word_faults.specs.GivenOptions.{subcommand_by, top_app as top_of}
+use Rattle.tsmux_cli.specs.Options.{carry_options, check_options, monitor_options, mux_options}
 
--- carry [--hex] [--pid N] [--id N]
+-- each with the options of its table
 abbrev pub carry_app : App
-carry_app = with_rule (with_rule (with_rule (new_app (codes "carry")) (flag_rule (codes "hex"))) (option_rule (codes "pid"))) (option_rule (codes "id"))
+carry_app = subcommand_by (codes "carry") carry_options
 
--- plan
 abbrev pub plan_app : App
 plan_app = new_app (codes "plan")
 
--- demux
 abbrev pub demux_app : App
 demux_app = new_app (codes "demux")
 
--- check [--switch]
 abbrev pub check_app : App
-check_app = with_rule (new_app (codes "check")) (flag_rule (codes "switch"))
+check_app = subcommand_by (codes "check") check_options
 
--- mux [--hex] [--slots N] [--switch Q]
 abbrev pub mux_app : App
-mux_app = with_rule (with_rule (with_rule (new_app (codes "mux")) (flag_rule (codes "hex"))) (option_rule (codes "slots"))) (option_rule (codes "switch"))
+mux_app = subcommand_by (codes "mux") mux_options
 
--- monitor --rate R [--pcr N]
 abbrev pub monitor_app : App
-monitor_app = with_rule (with_rule (new_app (codes "monitor")) (option_rule (codes "rate"))) (option_rule (codes "pcr"))
+monitor_app = subcommand_by (codes "monitor") monitor_options
 
 -- tsmux and its subcommands
 abbrev pub top_app : App
-top_app = record (new_app (codes "tsmux")) { top = record (new_app (codes "tsmux")).top { no_binary_name = true } }
+top_app = top_of (codes "tsmux")
 
 abbrev pub without_mux : App
 without_mux = with_subcommand (with_subcommand (with_subcommand (with_subcommand top_app carry_app.top) plan_app.top) demux_app.top) check_app.top

@@ -1,7 +1,6 @@
+pub mod Options
 pub mod CommandLine
 pub mod Request
-pub mod KnownWords
-pub mod UsageText
 pub mod Carrying
 pub mod FindingLines
 pub mod Demultiplexing

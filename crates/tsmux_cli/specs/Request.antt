@@ -1,5 +1,5 @@
 -- What the command line asks for.
-use Rattle.std.specs.Prelude.{ℕ, IsTrue, ◌-◌, ◌^◌, ◌<◌, Bool, true, List, [], ◌∷◌, Option, Some, None, if◌then◌else◌, codes, map}
+use Rattle.std.specs.Prelude.{ℕ, IsTrue, ◌<◌, Bool, true, List, [], ◌∷◌, Option, Some, None, if◌then◌else◌, codes, map}
 use Rattle.std.specs.Borrow.{Bor}
 use Rattle.std.specs.Str.{bytes_eq}
 use Rattle.clap.specs.Words.{Row, Text, Kinds, fault_of, first_of, subcommand_of}
@@ -7,26 +7,9 @@ use Rattle.tsmux_cli.specs.declared.request.Request.{Request}
 use Rattle.tsmux_cli.specs.declared.request.Request.TheVariants.{Carry, Check, Demux, Monitor, Mux, Plan}
 use Rattle.pes_packet.specs.StreamIds.{is_unit_id}
 use Rattle.tsmux_cli.specs.CommandLine.{tsmux_app}
-use Rattle.devices.specs.Options.{is_given, number_given, number_if_given, number_option}
-
--- the numbers of options: PIDs, rates in bits a second, limits of clock references in milliseconds
-abbrev pub least_pid : ℕ
-least_pid = 32
-
-abbrev pub greatest_pid : ℕ
-greatest_pid = 8190
-
-abbrev pub least_rate : ℕ
-least_rate = 100000
-
-abbrev pub greatest_rate : ℕ
-greatest_rate = 100000000
-
-abbrev pub least_limit : ℕ
-least_limit = 1
-
-abbrev pub greatest_limit : ℕ
-greatest_limit = 100
+use Rattle.devices.specs.Options.{is_given, number_option}
+use Rattle.word_faults.specs.GivenOptions.{number_if, number_of}
+use Rattle.tsmux_cli.specs.Options.{carry_options, monitor_options, mux_options}
 
 -- the options of `carry`
 unfoldable pub carry_of : Bool → Option ℕ → Option ℕ → Option Request
@@ -36,7 +19,7 @@ carry_of hex (Some pid) (Some id) = if is_unit_id id then Some (Carry (record { 
 
 unfoldable pub carry_request : List Row → Option Request
 carry_request rows = carry_of (is_given (first_of (codes "hex") rows))
-    (number_option least_pid greatest_pid 256 (first_of (codes "pid") rows))
+    (number_of carry_options (codes "pid") rows)
     (number_option 0 255 192 (first_of (codes "id") rows))
 
 -- the options of `mux`
@@ -47,8 +30,8 @@ mux_of hex (Some slots) (Some periods) = Some (Mux (record { hex = hex; slots = 
 
 unfoldable pub mux_request : List Row → Option Request
 mux_request rows = mux_of (is_given (first_of (codes "hex") rows))
-    (number_if_given 0 (2 ^ 64 - 1) (first_of (codes "slots") rows))
-    (number_if_given 0 (2 ^ 64 - 1) (first_of (codes "switch") rows))
+    (number_if mux_options (codes "slots") rows)
+    (number_if mux_options (codes "switch") rows)
 
 -- the options of `monitor`: the rate is in bits a second, the limit in milliseconds
 unfoldable pub monitor_of : Option ℕ → Option ℕ → Option Request
@@ -57,8 +40,8 @@ monitor_of (Some rate) None = None
 monitor_of (Some rate) (Some limit) = Some (Monitor (record { rate = rate; pcr_limit = limit }))
 
 unfoldable pub monitor_request : List Row → Option Request
-monitor_request rows = monitor_of (number_given least_rate greatest_rate (first_of (codes "rate") rows))
-    (number_option least_limit greatest_limit 40 (first_of (codes "pcr") rows))
+monitor_request rows = monitor_of (number_of monitor_options (codes "rate") rows)
+    (number_of monitor_options (codes "pcr") rows)
 
 unfoldable pub request_of : Text → List Row → Option Request
 request_of name rows =

@@ -5,18 +5,16 @@ ghost use Rattle.clap.specs.declared.builder.command.Command.TheViews.{out-Comma
 ghost use Rattle.tsmux_cli.specs.CommandLine.{carry_app, check_app, demux_app, monitor_app, mux_app};
 ghost use Rattle.tsmux_cli.specs.CommandLine.{plan_app, tsmux_app, without_mux};
 
+use crate::options::{CARRY, CHECK, MONITOR, MUX};
 use clap::{ArgMatches, Command, Error};
-use devices::{flag, option};
 use std::alloc::{AllocError, Global};
+use word_faults::subcommand;
 
 fn carry<'a>(alloc: Global) -> Result<Command<'a>, AllocError>
     ensures app { IfOk result (λ c. app_of c ≡ carry_app) }
     ensures local { IfOk result (λ c. (fields_of c).has_globals ≡ false) }
 {
-    Command::new(alloc, "carry")
-        .arg(flag(alloc, "hex"))?
-        .arg(option(alloc, "pid"))?
-        .arg(option(alloc, "id"))
+    subcommand(alloc, "carry", &CARRY)
 }
 
 fn plan<'a>(alloc: Global) -> Command<'a>
@@ -37,26 +35,21 @@ fn check<'a>(alloc: Global) -> Result<Command<'a>, AllocError>
     ensures app { IfOk result (λ c. app_of c ≡ check_app) }
     ensures local { IfOk result (λ c. (fields_of c).has_globals ≡ false) }
 {
-    Command::new(alloc, "check").arg(flag(alloc, "switch"))
+    subcommand(alloc, "check", &CHECK)
 }
 
 fn mux<'a>(alloc: Global) -> Result<Command<'a>, AllocError>
     ensures app { IfOk result (λ c. app_of c ≡ mux_app) }
     ensures local { IfOk result (λ c. (fields_of c).has_globals ≡ false) }
 {
-    Command::new(alloc, "mux")
-        .arg(flag(alloc, "hex"))?
-        .arg(option(alloc, "slots"))?
-        .arg(option(alloc, "switch"))
+    subcommand(alloc, "mux", &MUX)
 }
 
 fn monitor<'a>(alloc: Global) -> Result<Command<'a>, AllocError>
     ensures app { IfOk result (λ c. app_of c ≡ monitor_app) }
     ensures local { IfOk result (λ c. (fields_of c).has_globals ≡ false) }
 {
-    Command::new(alloc, "monitor")
-        .arg(option(alloc, "rate"))?
-        .arg(option(alloc, "pcr"))
+    subcommand(alloc, "monitor", &MONITOR)
 }
 
 /// A command with one more subcommand.

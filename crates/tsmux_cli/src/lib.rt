@@ -1,6 +1,6 @@
 //! The subcommands of `tsmux`, over any reader and two writers (`run`).
 //!
-//! `command_line` and `request` read the command line, and `known_words` says what it may have, for the line of a usage error.
+//! `options` has the table of options of each subcommand, and the usage; `command_line` and `request` read the command line by them.
 //! Each subcommand has a module: `carrying`; `demultiplexing`, with the lines of `finding_lines`; `planning`; `checking`;
 //! `multiplexing`, for a job with its units (`mux_jobs`) and, without `--slots`, the number of slots in `default_slots`;
 //! `monitoring`. A job is taken as its bytes come (`job_taker`), and so is what stands after its plans (`rest_taker`,
@@ -14,10 +14,10 @@ mod default_slots;
 mod demultiplexing;
 mod finding_lines;
 mod job_taker;
-mod known_words;
 mod monitoring;
 mod multiplexing;
 mod mux_jobs;
+mod options;
 mod planning;
 mod program;
 mod request;

@@ -10,9 +10,8 @@ ghost use Rattle.devices.specs.Runs.{LacksMemory, Performs};
 ghost use Rattle.tsmux_cli.specs.Planning.{MakesPlan};
 ghost use Rattle.devices.specs.Lines.{Reports};
 ghost use Rattle.devices.specs.Usage.{TellsUsage};
-ghost use Rattle.tsmux_cli.specs.KnownWords.{known_after, known_words};
+ghost use Rattle.tsmux_cli.specs.Options.{known_after, known_words, usage_text};
 ghost use Rattle.tsmux_cli.specs.Request.{asked};
-ghost use Rattle.tsmux_cli.specs.UsageText.{usage_text};
 ghost use Rattle.word_faults.specs.UsageReport.{Prints, is_version, usage_report, version_text};
 ghost use Rattle.tsmux_cli.specs.declared.request.CarryOptions.{CarryOptions};
 ghost use Rattle.tsmux_cli.specs.declared.request.MonitorOptions.{MonitorOptions};
@@ -22,34 +21,15 @@ ghost use Rattle.tsmux_cli.specs.declared.request.Request.TheVariants.{Carry, Ch
 use crate::carrying::carry_records;
 use crate::checking::check_job;
 use crate::demultiplexing::demultiplex;
-use crate::known_words::known_after;
 use crate::monitoring::monitor_stream;
 use crate::multiplexing::multiplex_job;
+use crate::options::{known_for, usage};
 use crate::planning::make_plan;
 use crate::request::{Request, requested};
 use counted_io::{Sink, Source};
 use devices::{Halt, report_halt, report_text};
 use std::alloc::Global;
 use word_faults::answer_other_words;
-
-/// The usage, written to the second writer on a usage error.
-const USAGE: &str =
-    "usage: tsmux carry [--hex] [--pid 32..8190] [--id 189|192..239] < RECORDS > PACKETS
-       tsmux plan < DESCRIPTION > PLAN
-       tsmux demux < PACKETS > FINDINGS
-       tsmux check [--switch] < JOB
-       tsmux mux [--hex] [--slots N] [--switch Q] < JOB > PACKETS
-       tsmux monitor --rate 100000..100000000 [--pcr 1..100] < PACKETS > REPORT
-       tsmux --version
-with no words: tsmux carry --hex
-";
-
-/// The usage.
-fn usage() -> &'static str
-    ensures { result.now ≡ usage_text }
-{
-    USAGE
-}
 
 /// Writes the usage, and returns the status.
 pub fn report_usage<E: Sink>(faults: &mut E) -> u8
@@ -117,7 +97,7 @@ pub fn run<R: Source, W: Sink, E: Sink>(
             monitor_stream(alloc, options, input, output, faults)
         }
         Ok(None) => {
-            let known = known_after(words);
+            let known = known_for(words);
             answer_other_words(alloc, "tsmux", known, words, usage(), output, faults)
         }
         Err(_) => report_halt(faults, Halt::Memory),

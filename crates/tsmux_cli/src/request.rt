@@ -4,12 +4,14 @@ ghost use Rattle.clap.specs.Words.{found_of, rows_of, subcommand_rows_of};
 ghost use Rattle.tsmux_cli.specs.Request as asked;
 
 use crate::command_line;
+use crate::options::{CARRY, MONITOR, MUX};
 use clap::ArgMatches;
 use clap::error::ErrorKind;
-use clock27::{GREATEST_RATE, LEAST_RATE, Rate};
-use devices::{is_given, number_given, number_if_given, number_option, text_of};
+use clock27::Rate;
+use devices::{is_given, number_option, text_of};
 use pes_packet::is_unit_id;
 use std::alloc::{AllocError, Global};
+use word_faults::{number_if, number_of};
 
 /// The options of `carry`: it writes the packets of one PID.
 #[derive(Clone, Copy)]
@@ -86,7 +88,7 @@ fn carry_request(matches: &ArgMatches<'_>) -> Option<Request>
     ensures fits { asked.Fits result }
 {
     let hex = is_given(text_of(matches, "hex"));
-    let pid = number_option(text_of(matches, "pid"), 32, 8190, 256);
+    let pid = number_of(&CARRY, matches, "pid");
     let id = number_option(text_of(matches, "id"), 0, 255, 192);
     carry_of(hex, pid, id)
 }
@@ -115,8 +117,8 @@ fn mux_request(matches: &ArgMatches<'_>) -> Option<Request>
     ensures fits { asked.Fits result }
 {
     let hex = is_given(text_of(matches, "hex"));
-    let slots = number_if_given(text_of(matches, "slots"), 0, u64::MAX);
-    let periods = number_if_given(text_of(matches, "switch"), 0, u64::MAX);
+    let slots = number_if(&MUX, matches, "slots");
+    let periods = number_if(&MUX, matches, "switch");
     mux_of(hex, slots, periods)
 }
 
@@ -146,8 +148,8 @@ fn monitor_request(matches: &ArgMatches<'_>) -> Option<Request>
     ensures value { result ≡ asked.monitor_request (rows_of (found_of matches.now)) }
     ensures fits { asked.Fits result }
 {
-    let rate = number_given(text_of(matches, "rate"), LEAST_RATE, GREATEST_RATE);
-    let pcr_limit = number_option(text_of(matches, "pcr"), 1, 100, 40);
+    let rate = number_of(&MONITOR, matches, "rate");
+    let pcr_limit = number_of(&MONITOR, matches, "pcr");
     monitor_of(rate, pcr_limit)
 }
 

@@ -1,4 +1,3 @@
-pub mod CommandLines
 pub mod Pieces
 pub mod Viewed
 pub mod Drawn

@@ -1,7 +1,5 @@
-pub mod CommandLine
+pub mod Options
 pub mod Arguments
-pub mod KnownWords
-pub mod UsageText
 pub mod Viewing
 pub mod Drawing
 pub mod PlanDrawing

@@ -1,33 +1,42 @@
 //! What the command line asks for.
 
-ghost use Rattle.std.specs.Prelude.{◌≡◌, IfOk, option_map};
+ghost use Rattle.std.specs.Prelude.{◌≡◌, ◌≤◌, IfOk, IfSome};
 ghost use Rattle.clap.specs.Words.{found_of, rows_of};
 ghost use Rattle.tsview_cli.specs.Arguments as spec;
 
-use crate::command_line::matches_for;
+use crate::options::OPTIONS;
 use crate::request::Request;
 use clap::ArgMatches;
-use clap::error::ErrorKind;
 use clock27::Rate;
-use devices::{is_given, number_in, number_option, text_of};
-use option_lists::{buffer_list, number_list};
+use devices::{is_given, text_of};
+use option_lists::buffer_list;
 use std::alloc::{AllocError, Global};
 use stream_arrival::Arrival;
 use stream_report::{ViewChoice, ViewOptions, ViewRequest};
+use word_faults::{given_options, number_if, number_of, numbers_of};
 
-// How packets arrive: at a rate that is given, or else by clock references; none where it is out of its range.
-#[tactic(auto, unfolding(crate::specs::Arguments::arrival_of, devices::specs::Options::number_if_given))]
-fn arrival_in(text: Option<&str>) -> Option<Arrival>
-    ensures { result ≡ spec.arrival_in (option_map (λ s. s.now) text.entry) }
+// How packets arrive: at this rate, or else by clock references.
+#[tactic(auto, unfolding(crate::specs::Arguments::arrival_of))]
+fn arrival_at(bits: Option<u64>) -> Arrival
+    requires lower { IfSome bits (λ n. 100000 ≤ n) }
+    requires upper { IfSome bits (λ n. n ≤ 100000000) }
+    ensures { result ≡ spec.arrival_of bits }
 {
-    let Some(text) = text else {
-        return Some(Arrival::Unknown);
+    let Some(bits) = bits else {
+        return Arrival::Unknown;
     };
-    let bits = number_in(text, 100_000, 100_000_000)?;
     let Ok(rate) = Rate::new(bits) else {
         unreachable!()
     };
-    Some(Arrival::AtRate(rate))
+    Arrival::AtRate(rate)
+}
+
+// How packets arrive; none where the rate is out of its range.
+fn arrival_in(matches: &ArgMatches<'_>) -> Option<Arrival>
+    ensures { result ≡ spec.arrival_in (rows_of (found_of matches.now)) }
+{
+    let rate = number_if(&OPTIONS, matches, "rate")?;
+    Some(arrival_at(rate))
 }
 
 // The values of the options; none where one is out of its range.
@@ -35,12 +44,12 @@ fn arrival_in(text: Option<&str>) -> Option<Arrival>
 fn options_of(matches: &ArgMatches<'_>) -> Option<ViewOptions>
     ensures { result ≡ spec.options_of (rows_of (found_of matches.now)) }
 {
-    let arrival = arrival_in(text_of(matches, "rate"))?;
-    let window = number_option(text_of(matches, "window"), 10, 3_600_000, 1_000)?;
+    let arrival = arrival_in(matches)?;
+    let window = number_of(&OPTIONS, matches, "window")? as u32;
     Some(ViewOptions {
         arrival,
         origin: 0,
-        window: window as u32,
+        window,
     })
 }
 
@@ -63,7 +72,7 @@ fn request_of(alloc: Global, matches: &ArgMatches<'_>) -> Result<Option<Request>
     let Some(options) = options_of(matches) else {
         return Ok(None);
     };
-    let Some(programs) = number_list(alloc, 65_535, text_of(matches, "program"))? else {
+    let Some(programs) = numbers_of(alloc, &OPTIONS, matches, "program")? else {
         return Ok(None);
     };
     let Some(buffers) = buffer_list(alloc, text_of(matches, "buffers"))? else {
@@ -79,11 +88,8 @@ fn request_of(alloc: Global, matches: &ArgMatches<'_>) -> Result<Option<Request>
 pub(crate) fn read_arguments(alloc: Global, words: &[&str]) -> Result<Option<Request>, AllocError>
     ensures { IfOk result (λ r. r ≡ spec.asked words.now) }
 {
-    match matches_for(alloc, words) {
-        Ok(matches) => request_of(alloc, &matches),
-        Err(error) => match error.kind() {
-            ErrorKind::OutOfMemory => Err(AllocError),
-            _ => Ok(None),
-        },
+    match given_options(alloc, "tsview", &OPTIONS, words)? {
+        Some(matches) => request_of(alloc, &matches),
+        None => Ok(None),
     }
 }

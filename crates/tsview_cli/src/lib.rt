@@ -1,15 +1,14 @@
 //! The words of `tsview`, over any reader and two writers (`run`): a stream is viewed as it comes.
 //!
-//! `command_line` and `arguments` read the command line, and `known_words` says what it may have, for the line of a usage
-//! error; `viewing` reads the input piece by piece, and writes the lines of the events that each piece settles before it reads the next;
+//! `options` is the table of options, with the usage; `arguments` reads the command line by it; `viewing` reads the input piece by
+//! piece, and writes the lines of the events that each piece settles before it reads the next;
 //! `drawing` draws a page of the events, and writes it at the end; `plan_drawing` a page of the plan in a job;
 //! `program` is `run`.
 #![tactic(auto)]
 
 mod arguments;
-mod command_line;
 mod drawing;
-mod known_words;
+mod options;
 mod plan_drawing;
 mod program;
 mod request;

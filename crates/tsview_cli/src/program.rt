@@ -8,15 +8,14 @@ ghost use Rattle.devices.specs.Usage.{TellsUsage};
 ghost use Rattle.stream_report.specs.Choices.{RequestView};
 ghost use Rattle.tsview_cli.specs.Arguments.{asked};
 ghost use Rattle.tsview_cli.specs.Drawing.{DrawsPage};
-ghost use Rattle.tsview_cli.specs.KnownWords.{known_words};
+ghost use Rattle.tsview_cli.specs.Options.{known_words, usage_text};
 ghost use Rattle.tsview_cli.specs.PlanDrawing.{DrawsPlan, is_plan};
-ghost use Rattle.tsview_cli.specs.UsageText.{usage_text};
 ghost use Rattle.tsview_cli.specs.Viewing.{Views};
 ghost use Rattle.word_faults.specs.UsageReport.{Prints, is_version, usage_report, version_text};
 
 use crate::arguments::read_arguments;
 use crate::drawing::draw_stream;
-use crate::known_words::KnownWords;
+use crate::options::{known_words, usage};
 use crate::plan_drawing::{draw_plan, is_plan};
 use crate::request::Request;
 use crate::viewing::{Viewed, view_input};
@@ -25,27 +24,6 @@ use devices::{Halt, report_halt, report_line, report_text};
 use std::alloc::Global;
 use stream_report::ViewRequest;
 use word_faults::answer_other_words;
-
-/// The usage, written to the second writer on a usage error.
-const USAGE: &str = "usage: tsview [OPTIONS] < PACKETS
-       tsview --plan < JOB
-  --rate 100000..100000000       the rate of the stream in bits a second; else by its clock references
-  --window 10..3600000           the length of a window in ms; else 1000
-  --json                         a JSON object a line
-  --page                         a page of HTML with pictures instead
-  --program N,..                 view the streams of these programs alone
-  --buffers PID:RX:MAIN,..       buffers of a PID, in bits a second and bytes
-  --progress                     how many bytes are read is told each second, on a terminal
-  --plan                         alone: a page of HTML of the plan in a job
-  --version                      alone: the version, and the kit that proved it
-";
-
-// The usage.
-fn usage() -> &'static str
-    ensures { result.now ≡ usage_text }
-{
-    USAGE
-}
 
 /// Writes the usage, and returns the status.
 pub fn report_usage<E: Sink>(faults: &mut E) -> u8
@@ -119,7 +97,8 @@ fn run_on_stream<R: Source, W: Sink, E: Sink>(
         }
         Ok(Some(Request::Page(request))) => draw_stream(alloc, request, input, output, faults),
         Ok(None) => {
-            answer_other_words(alloc, "tsview", KnownWords, words, usage(), output, faults)
+            let known = known_words();
+            answer_other_words(alloc, "tsview", known, words, usage(), output, faults)
         }
         Err(_) => report_halt(faults, Halt::Memory),
     }

@@ -1,21 +1,21 @@
 -- The values that a command line gives to the options of a table, as `clap` reads them.
-use Rattle.std.specs.Prelude.{ℕ, true, max, unwrap_or, List, [], ◌∷◌, Option, Some, None}
-use Rattle.clap.specs.Words.{App, Kinds, Row, fault_of, first_of, matches_of, new_app, with_rule}
+use Rattle.std.specs.Prelude.{ℕ, true, max, min, unwrap_or, List, [], ◌∷◌, Option, Some, None}
+use Rattle.clap.specs.Words.{App, Kinds, Row, fault_of, first_of, matches_of, new_app, new_rule, with_rule}
 use Rattle.devices.specs.Options.{flag_rule, number_given, number_if_given, number_option, option_rule}
 use Rattle.option_lists.specs.Lists.{number_list}
 use Rattle.word_faults.specs.CommandLine.{Text}
 use Rattle.word_faults.specs.OptionRows.{OptionRow, kind_named}
 use Rattle.word_faults.specs.declared.option_row.ValueKind.{ValueKind}
-use Rattle.word_faults.specs.declared.option_row.ValueKind.TheVariants.{Flag, Alone, Number, Numbers, Buffers}
+use Rattle.word_faults.specs.declared.option_row.ValueKind.TheVariants.{Flag, Alone, Word, Number, Numbers}
 
--- 1. The command line as it is declared to `clap`: the options of the rows; a word beside which nothing may stand is none of them
+-- 1. The command line as it is declared to `clap`: the options of the rows, and a word beside them; a word beside which nothing may stand
+-- is none of them
 
 abbrev pub option_by : App → ValueKind → Text → App
 option_by app Flag name = with_rule app (flag_rule name)
 option_by app Alone name = app
-option_by app (Number least greatest default) name = with_rule app (option_rule name)
-option_by app (Numbers greatest) name = with_rule app (option_rule name)
-option_by app Buffers name = with_rule app (option_rule name)
+option_by app Word name = with_rule app (new_rule name)
+option_by app kind name = with_rule app (option_rule name)
 
 abbrev pub with_option : App → OptionRow → App
 with_option app row = option_by app row.value row.name
@@ -29,6 +29,10 @@ top_app program = record (new_app program) { top = record (new_app program).top 
 
 abbrev pub app_of_options : Text → List OptionRow → App
 app_of_options program rows = with_options (top_app program) rows
+
+-- a subcommand with the options of its own table
+abbrev pub subcommand_by : Text → List OptionRow → App
+subcommand_by name rows = with_options (new_app name) rows
 
 -- 2. What words give to them
 
@@ -44,48 +48,41 @@ given_options program rows words = unless_faulty (fault_of (app_of_options progr
 
 -- the number of an option of this kind: the default where it is not given, none where the text is no number of the range
 unfoldable pub number_by : Option ValueKind → Option Text → Option ℕ
-number_by None text = None
-number_by (Some Flag) text = None
-number_by (Some Alone) text = None
 number_by (Some (Number least greatest None)) text = number_given least greatest text
 number_by (Some (Number least greatest (Some default))) text = number_option least greatest default text
-number_by (Some (Numbers greatest)) text = None
-number_by (Some Buffers) text = None
+number_by kind text = None
 
 abbrev pub number_of : List OptionRow → Text → List Row → Option ℕ
 number_of rows name given = number_by (kind_named rows name) (first_of name given)
 
 -- the least and the greatest number of an option of this kind
 unfoldable pub least_by : Option ValueKind → ℕ
-least_by None = 0
-least_by (Some Flag) = 0
-least_by (Some Alone) = 0
 least_by (Some (Number least greatest default)) = least
-least_by (Some (Numbers greatest)) = 0
-least_by (Some Buffers) = 0
+least_by kind = 0
+
+-- and the least number with the default
+unfoldable pub lowest_by : Option ValueKind → ℕ
+lowest_by (Some (Number least greatest default)) = min least (unwrap_or default least)
+lowest_by kind = 0
 
 unfoldable pub greatest_by : Option ValueKind → ℕ
-greatest_by None = 0
-greatest_by (Some Flag) = 0
-greatest_by (Some Alone) = 0
 greatest_by (Some (Number least greatest default)) = max greatest (unwrap_or default 0)
 greatest_by (Some (Numbers greatest)) = greatest
-greatest_by (Some Buffers) = 0
+greatest_by kind = 0
 
 abbrev pub least_of : List OptionRow → Text → ℕ
 least_of rows name = least_by (kind_named rows name)
+
+abbrev pub lowest_of : List OptionRow → Text → ℕ
+lowest_of rows name = lowest_by (kind_named rows name)
 
 abbrev pub greatest_of : List OptionRow → Text → ℕ
 greatest_of rows name = greatest_by (kind_named rows name)
 
 -- the number of an option that need not be given
 unfoldable pub number_if_by : Option ValueKind → Option Text → Option (Option ℕ)
-number_if_by None text = None
-number_if_by (Some Flag) text = None
-number_if_by (Some Alone) text = None
 number_if_by (Some (Number least greatest default)) text = number_if_given least greatest text
-number_if_by (Some (Numbers greatest)) text = None
-number_if_by (Some Buffers) text = None
+number_if_by kind text = None
 
 abbrev pub number_if : List OptionRow → Text → List Row → Option (Option ℕ)
 number_if rows name given = number_if_by (kind_named rows name) (first_of name given)
@@ -94,12 +91,8 @@ number_if rows name given = number_if_by (kind_named rows name) (first_of name g
 
 -- none where a part is no number of the range
 unfoldable pub numbers_by : Option ValueKind → Option Text → Option (List ℕ)
-numbers_by None text = None
-numbers_by (Some Flag) text = None
-numbers_by (Some Alone) text = None
-numbers_by (Some (Number least greatest default)) text = None
 numbers_by (Some (Numbers greatest)) text = number_list greatest text
-numbers_by (Some Buffers) text = None
+numbers_by kind text = None
 
 abbrev pub numbers_of : List OptionRow → Text → List Row → Option (List ℕ)
 numbers_of rows name given = numbers_by (kind_named rows name) (first_of name given)

@@ -4,11 +4,14 @@ use Rattle.std.specs.Borrow.{Bor}
 use Rattle.std.specs.List.{starts_with}
 use Rattle.std.specs.Str.{bytes_eq}
 use Rattle.devices.specs.Options.{decimal, within}
+use Rattle.option_lists.specs.JobValues.{base_of, declare_by_of, start_of}
 use Rattle.option_lists.specs.Lists.{buffer_list, number_list}
+use Rattle.option_lists.specs.NameLists.{name_list, network_in}
+use Rattle.pes_packet.specs.StreamIds.{is_unit_id}
 use Rattle.word_faults.specs.CommandLine.{Text}
 use Rattle.word_faults.specs.declared.option_row.Row.{Row}
 use Rattle.word_faults.specs.declared.option_row.ValueKind.{ValueKind}
-use Rattle.word_faults.specs.declared.option_row.ValueKind.TheVariants.{Flag, Alone, Number, Numbers, Buffers}
+use Rattle.word_faults.specs.declared.option_row.ValueKind.TheVariants.{Flag, Alone, Word, Number, Numbers, Buffers, StreamId, Moment, Declare, Base, Network, Names, File}
 
 -- a row with its texts, the same of a row in memory, and of a row of a constant
 abbrev pub OptionRow : Type 0
@@ -35,30 +38,41 @@ kind_of rows word = option_and_then (kind_named rows) (name_in word)
 
 -- 2. What stands with it
 
--- a value follows the option: none where there is no option, or a word beside which nothing may stand
+-- a value follows the option: none where there is no option, or a word that is none
 abbrev pub takes_value : Option ValueKind → Option Bool
 takes_value None = None
 takes_value (Some Flag) = Some false
 takes_value (Some Alone) = None
-takes_value (Some (Number least greatest default)) = Some true
-takes_value (Some (Numbers greatest)) = Some true
-takes_value (Some Buffers) = Some true
+takes_value (Some Word) = None
+takes_value (Some kind) = Some true
 
 abbrev pub is_alone : Option ValueKind → Bool
-is_alone None = false
-is_alone (Some Flag) = false
 is_alone (Some Alone) = true
-is_alone (Some (Number least greatest default)) = false
-is_alone (Some (Numbers greatest)) = false
-is_alone (Some Buffers) = false
+is_alone kind = false
+
+-- a stream_id of units
+abbrev pub is_id_number : Option ℕ → Bool
+is_id_number None = false
+is_id_number (Some id) = is_unit_id id
+
+abbrev pub is_id : Text → Bool
+is_id text = is_id_number (option_and_then (within 0 255) (decimal text))
 
 -- a value of this kind, each number in its range
 unfoldable pub is_value : ValueKind → Text → Bool
 is_value Flag text = false
 is_value Alone text = false
+is_value Word text = false
 is_value (Number least greatest default) text = is_some (option_and_then (within least greatest) (decimal text))
 is_value (Numbers greatest) text = is_some (number_list greatest (Some text))
 is_value Buffers text = is_some (buffer_list (Some text))
+is_value StreamId text = is_id text
+is_value Moment text = is_some (start_of (Some text))
+is_value Declare text = is_some (declare_by_of (Some text))
+is_value Base text = is_some (base_of (Some text))
+is_value Network text = is_some (network_in text)
+is_value Names text = is_some (name_list (Some text))
+is_value File text = true
 
 abbrev pub reads : Option ValueKind → Text → Bool
 reads None text = false

@@ -1,8 +1,9 @@
 //! The first word that cannot be taken.
 ghost use Rattle.std.specs.Prelude.{◌≡◌, IfOk, [], false, map, option_map};
+ghost use Rattle.word_faults.specs.KnownWords.{known_of};
 ghost use Rattle.word_faults.specs.WordFaults as spec;
 
-use crate::command_line::CommandLine;
+use crate::known_words::KnownWords;
 use crate::word_fault::{Reason, WordFault};
 use std::alloc::{AllocError, Global};
 
@@ -54,13 +55,13 @@ fn is_given(option: &str, words: &[&str]) -> bool
 }
 
 // Why the words after an option are not its value.
-fn next_reason<C: CommandLine>(
+fn next_reason(
     alloc: Global,
-    known: C,
+    known: KnownWords,
     option: &str,
     rest: &[&str],
 ) -> Result<Option<Reason>, AllocError>
-    ensures { IfOk result (λ r. r ≡ spec.next_reason (C.known known) option.now (map (λ s. s.now) rest.now)) }
+    ensures { IfOk result (λ r. r ≡ spec.next_reason (known_of known.entry) option.now (map (λ s. s.now) rest.now)) }
 {
     let Some(value) = rest.first() else {
         return Ok(Some(Reason::NoValue));
@@ -76,14 +77,14 @@ fn next_reason<C: CommandLine>(
 }
 
 // Why an option that takes a value has none.
-fn value_reason<C: CommandLine>(
+fn value_reason(
     alloc: Global,
-    known: C,
+    known: KnownWords,
     option: &str,
     value: Option<&str>,
     rest: &[&str],
 ) -> Result<Option<Reason>, AllocError>
-    ensures { IfOk result (λ r. r ≡ spec.value_reason (C.known known) option.now
+    ensures { IfOk result (λ r. r ≡ spec.value_reason (known_of known.entry) option.now
         (option_map (λ s. s.now) value.entry) (map (λ s. s.now) rest.now)) }
 {
     let Some(value) = value else {
@@ -97,15 +98,15 @@ fn value_reason<C: CommandLine>(
 }
 
 // Why an option that is known cannot be taken.
-fn known_reason<C: CommandLine>(
+fn known_reason(
     alloc: Global,
-    known: C,
+    known: KnownWords,
     takes_value: bool,
     option: &str,
     value: Option<&str>,
     rest: &[&str],
 ) -> Result<Option<Reason>, AllocError>
-    ensures { IfOk result (λ r. r ≡ spec.known_reason (C.known known) takes_value option.now
+    ensures { IfOk result (λ r. r ≡ spec.known_reason (known_of known.entry) takes_value option.now
         (option_map (λ s. s.now) value.entry) (map (λ s. s.now) rest.now)) }
 {
     if takes_value {
@@ -118,15 +119,15 @@ fn known_reason<C: CommandLine>(
 }
 
 // Why an option cannot be taken.
-fn option_reason<C: CommandLine>(
+fn option_reason(
     alloc: Global,
-    known: C,
+    known: KnownWords,
     before: &[&str],
     word: &str,
     rest: &[&str],
 ) -> Result<Option<Reason>, AllocError>
-    ensures { IfOk result (λ r. r ≡ spec.option_reason (C.known known)
-        ((C.known known).takes_value (spec.option_in word.now)) (map (λ s. s.now) before.now)
+    ensures { IfOk result (λ r. r ≡ spec.option_reason (known_of known.entry)
+        ((known_of known.entry).takes_value (spec.option_in word.now)) (map (λ s. s.now) before.now)
         (spec.option_in word.now) (spec.value_in word.now) (map (λ s. s.now) rest.now)) }
 {
     let (option, value) = split_word(word);
@@ -138,8 +139,8 @@ fn option_reason<C: CommandLine>(
 }
 
 // Whether a word takes nothing else beside it.
-fn is_alone<C: CommandLine>(known: C, word: &str) -> bool
-    ensures { result ≡ spec.is_alone (C.known known) word.now }
+fn is_alone(known: KnownWords, word: &str) -> bool
+    ensures { result ≡ spec.is_alone (known_of known.entry) word.now }
 {
     word == "--version" || known.stands_alone(word)
 }
@@ -156,8 +157,8 @@ fn alone_reason(before: &[&str], rest: &[&str]) -> Option<Reason>
 }
 
 // Whether the words after a word are names of files.
-fn is_file_mark<C: CommandLine>(known: C, word: &str) -> bool
-    ensures { result ≡ spec.is_file_mark (C.known known) word.now }
+fn is_file_mark(known: KnownWords, word: &str) -> bool
+    ensures { result ≡ spec.is_file_mark (known_of known.entry) word.now }
 {
     word == "--" && known.is_word(word)
 }
@@ -174,15 +175,15 @@ fn files_reason(rest: &[&str]) -> Option<Reason>
 }
 
 // Why a word that is no value cannot be taken.
-fn reason_at<C: CommandLine>(
+fn reason_at(
     alloc: Global,
-    known: C,
+    known: KnownWords,
     has_word: bool,
     before: &[&str],
     word: &str,
     rest: &[&str],
 ) -> Result<Option<Reason>, AllocError>
-    ensures { IfOk result (λ r. r ≡ spec.reason_at (C.known known) has_word (map (λ s. s.now) before.now)
+    ensures { IfOk result (λ r. r ≡ spec.reason_at (known_of known.entry) has_word (map (λ s. s.now) before.now)
         word.now (map (λ s. s.now) rest.now)) }
 {
     if is_help(word) {
@@ -201,8 +202,8 @@ fn reason_at<C: CommandLine>(
 }
 
 // Whether a value is to come after a word.
-fn wants_value<C: CommandLine>(known: C, word: &str) -> bool
-    ensures { result ≡ spec.wants_value (C.known known) word.now }
+fn wants_value(known: KnownWords, word: &str) -> bool
+    ensures { result ≡ spec.wants_value (known_of known.entry) word.now }
 {
     if !is_dashed(word) {
         return false;
@@ -213,12 +214,13 @@ fn wants_value<C: CommandLine>(known: C, word: &str) -> bool
 
 // The first word that cannot be taken.
 #[tactic(auto, unfolding(crate::specs::WordFaults::fault_from))]
-fn first_word<C: CommandLine>(
+fn first_word(
     alloc: Global,
-    known: C,
+    known: KnownWords,
     words: &[&str],
 ) -> Result<Option<WordFault>, AllocError>
-    ensures { IfOk result (λ r. r ≡ spec.fault_from (C.known known) [] false false (map (λ s. s.now) words.now)) }
+    ensures { IfOk result (λ r. r
+        ≡ spec.fault_from (known_of known.entry) [] false false (map (λ s. s.now) words.now)) }
 {
     let (mut has_word, mut is_value) = (false, false);
     for place in 0..words.len() {
@@ -255,23 +257,23 @@ fn missing(required: Option<&str>, words: &[&str]) -> Option<WordFault>
 }
 
 /// The first word that cannot be taken, and why.
-pub fn first_fault<C: CommandLine>(
+pub fn first_fault(
     alloc: Global,
-    known: C,
+    known: KnownWords,
     words: &[&str],
 ) -> Result<Option<WordFault>, AllocError>
-    ensures { IfOk result (λ r. r ≡ spec.first_fault (C.known known) (map (λ s. s.now) words.now)) }
+    ensures { IfOk result (λ r. r ≡ spec.first_fault (known_of known.entry) (map (λ s. s.now) words.now)) }
 {
     match first_word(alloc, known, words)? {
         Some(fault) => Ok(Some(fault)),
-        None => Ok(missing(known.required(), words)),
+        None => Ok(missing(known.required, words)),
     }
 }
 
 /// The first word that is neither an option nor a value, nor the name of a file.
 #[tactic(auto, unfolding(crate::specs::WordFaults::word_from))]
-pub fn word_beside<'a, C: CommandLine>(known: C, words: &[&'a str]) -> Option<&'a str>
-    ensures { option_map (λ s. s.now) result ≡ spec.word_beside (C.known known) (map (λ s. s.now) words.now) }
+pub fn word_beside<'a>(known: KnownWords, words: &[&'a str]) -> Option<&'a str>
+    ensures { option_map (λ s. s.now) result ≡ spec.word_beside (known_of known.entry) (map (λ s. s.now) words.now) }
 {
     let mut is_value = false;
     for place in 0..words.len() {

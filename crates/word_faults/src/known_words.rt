@@ -1,11 +1,10 @@
 //! What a program knows of its command line, by its table of options.
-ghost use Rattle.std.specs.Prelude.{◌≡◌, IfOk, map};
+ghost use Rattle.std.specs.Prelude.{◌≡◌, IfOk, map, option_map};
 ghost use Rattle.std.specs.List.{list_any};
 ghost use Rattle.std.specs.Str.{bytes_eq};
 ghost use Rattle.word_faults.specs.KnownWords as spec;
 ghost use Rattle.word_faults.specs.OptionRows.{is_alone, takes_value, reads, view};
 
-use crate::command_line::CommandLine;
 use crate::option_row::{OptionRow, ValueKind, is_value, kind_of};
 use std::alloc::{AllocError, Global};
 
@@ -20,6 +19,8 @@ pub struct KnownWords {
     pub alone: &'static [&'static str],
     /// The word of the option that has to be given.
     pub required: Option<&'static str>,
+    /// The word of an option that may not stand beside these words: it is not known then.
+    pub barred: Option<&'static str>,
 }
 
 // Whether a value follows an option of this kind; none where there is no such option.
@@ -27,11 +28,9 @@ fn takes_value(kind: Option<ValueKind>) -> Option<bool>
     ensures { result ≡ takes_value kind }
 {
     match kind {
-        None | Some(ValueKind::Alone) => None,
+        None | Some(ValueKind::Alone | ValueKind::Word) => None,
         Some(ValueKind::Flag) => Some(false),
-        Some(ValueKind::Number { .. } | ValueKind::Numbers { .. } | ValueKind::Buffers) => {
-            Some(true)
-        }
+        Some(_) => Some(true),
     }
 }
 
@@ -68,26 +67,43 @@ fn is_among(words: &[&str], word: &str) -> bool
     is_one_of(words, word)
 }
 
-impl CommandLine for KnownWords {
-    ghost known = { spec.known_of };
+// The value of the option of a word, but of this one.
+fn kind_but(barred: Option<&'static str>, options: &[OptionRow], word: &str) -> Option<ValueKind>
+    ensures { result
+        ≡ spec.kind_but (option_map (λ s. s.now) barred.entry) (map view options.now) word.now }
+{
+    match barred {
+        Some(barred) if barred == word => None,
+        _ => kind_of(options, word),
+    }
+}
 
-    fn takes_value(self, option: &str) -> Option<bool> {
-        takes_value(kind_of(self.options, option))
+impl KnownWords {
+    /// Returns whether a value follows the option of this word (`--NAME`); none if there is no such option.
+    pub(crate) fn takes_value(self, option: &str) -> Option<bool>
+        ensures { result ≡ (spec.known_of self.entry).takes_value option.now }
+    {
+        takes_value(kind_but(self.barred, self.options, option))
     }
 
-    fn reads(self, alloc: Global, option: &str, value: &str) -> Result<bool, AllocError> {
-        reads(alloc, kind_of(self.options, option), value)
+    /// Returns whether the option takes this value.
+    pub(crate) fn reads(self, alloc: Global, option: &str, value: &str) -> Result<bool, AllocError>
+        ensures { IfOk result (λ b. b ≡ (spec.known_of self.entry).reads option.now value.now) }
+    {
+        reads(alloc, kind_but(self.barred, self.options, option), value)
     }
 
-    fn is_word(self, word: &str) -> bool {
+    /// Returns whether the word may stand beside the options; of `--`, whether names of files may follow it.
+    pub(crate) fn is_word(self, word: &str) -> bool
+        ensures { result ≡ (spec.known_of self.entry).is_word word.now }
+    {
         is_among(self.words, word)
     }
 
-    fn stands_alone(self, word: &str) -> bool {
-        is_among(self.alone, word) || is_alone(kind_of(self.options, word))
-    }
-
-    fn required(self) -> Option<&'static str> {
-        self.required
+    /// Returns whether nothing may stand beside the word.
+    pub(crate) fn stands_alone(self, word: &str) -> bool
+        ensures { result ≡ (spec.known_of self.entry).stands_alone word.now }
+    {
+        is_among(self.alone, word) || is_alone(kind_but(self.barred, self.options, word))
     }
 }

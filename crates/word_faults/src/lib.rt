@@ -5,7 +5,7 @@
 //! are read (`given_options`, `number_of`, `number_if`, `numbers_of`: `specs/GivenOptions`), what the program knows
 //! of a word (`KnownWords`: `specs/OptionRows`, `specs/KnownWords`), and the usage text (`specs/OptionUsage`).
 //!
-//! `CommandLine` is what is known of a word: whether it is an option, whether that takes a value, and which, and
+//! What is known of a word (`specs/CommandLine`) is whether it is an option, whether that takes a value, and which, and
 //! words beside options. `first_fault` finds the first word that is not known, is given twice, lacks its value, has
 //! one that its option does not take, or stands beside others where it takes none; `word_beside` finds the word
 //! beside the options (`specs/WordFaults`). `usage_report` is the line that says what is wrong, with the usage after
@@ -13,7 +13,6 @@
 //! words that the line names are really there (`faults_name_words`: `specs/NamedWords`).
 #![tactic(auto)]
 
-mod command_line;
 mod faults;
 mod known_words;
 mod laws;
@@ -24,12 +23,11 @@ mod usage;
 mod version;
 mod word_fault;
 
-pub use command_line::CommandLine;
 pub use faults::{first_fault, word_beside};
 pub use known_words::KnownWords;
 pub use laws::faults_name_words;
 pub use option_row::{OptionRow, Row, ValueKind};
-pub use option_values::{given_options, number_if, number_of, numbers_of};
+pub use option_values::{given_options, number_if, number_of, numbers_of, subcommand};
 pub use other_words::answer_other_words;
 pub use usage::usage_report;
 pub use word_fault::{Reason, WordFault};

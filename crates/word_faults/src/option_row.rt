@@ -4,7 +4,10 @@ ghost use Rattle.std.specs.Str.{bytes_eq};
 ghost use Rattle.word_faults.specs.OptionRows as spec;
 
 use devices::number_in;
-use option_lists::{buffer_list, number_list};
+use option_lists::{
+    base_of, buffer_list, declare_by_of, name_list, network_in, number_list, start_of,
+};
+use pes_packet::is_unit_id;
 use std::alloc::{AllocError, Global};
 
 /// What follows the word of an option.
@@ -14,6 +17,8 @@ pub enum ValueKind {
     Flag,
     /// Nothing, and no other word may stand beside it.
     Alone,
+    /// The row is no option, but a word that may stand beside the options; the usage has no line for it.
+    Word,
     /// A number of this range, and the number where the option is not given, if there is one.
     Number {
         least: u64,
@@ -26,6 +31,20 @@ pub enum ValueKind {
     },
     /// Buffers of PIDs, `PID:RX:MAIN,..`.
     Buffers,
+    /// A stream_id of units: 189, or 192 to 239.
+    StreamId,
+    /// A moment, `YYYY-MM-DDThh:mm:ss`.
+    Moment,
+    /// By what packets are declared, `groups|time`.
+    Declare,
+    /// What the system clock shows as a run begins: a number of its range, or the word `input`.
+    Base,
+    /// A network, `ID:NAME[:ORIGINAL]`.
+    Network,
+    /// Names of services, `N:NAME[:PROVIDER],..`.
+    Names,
+    /// The name of a file.
+    File,
 }
 
 /// An option of a program. It is generic in how its texts are held: a constant of a type that is not, and holds a
@@ -80,13 +99,23 @@ pub(crate) fn kind_of(options: &[OptionRow], word: &str) -> Option<ValueKind>
     }
 }
 
+// Whether a text is a stream_id of units.
+fn is_id(text: &str) -> bool
+    ensures { result ≡ spec.is_id text.now }
+{
+    match number_in(text, 0, 255) {
+        Some(id) => is_unit_id(id as u8),
+        None => false,
+    }
+}
+
 /// Whether a text is a value of this kind.
 #[tactic(auto, unfolding(crate::specs::OptionRows::is_value))]
 pub(crate) fn is_value(alloc: Global, kind: ValueKind, text: &str) -> Result<bool, AllocError>
     ensures { IfOk result (λ b. b ≡ spec.is_value kind text.now) }
 {
     match kind {
-        ValueKind::Flag | ValueKind::Alone => Ok(false),
+        ValueKind::Flag | ValueKind::Alone | ValueKind::Word => Ok(false),
         ValueKind::Number {
             least,
             greatest,
@@ -94,5 +123,12 @@ pub(crate) fn is_value(alloc: Global, kind: ValueKind, text: &str) -> Result<boo
         } => Ok(number_in(text, least, greatest).is_some()),
         ValueKind::Numbers { greatest } => Ok(number_list(alloc, greatest, Some(text))?.is_some()),
         ValueKind::Buffers => Ok(buffer_list(alloc, Some(text))?.is_some()),
+        ValueKind::StreamId => Ok(is_id(text)),
+        ValueKind::Moment => Ok(start_of(Some(text)).is_some()),
+        ValueKind::Declare => Ok(declare_by_of(Some(text)).is_some()),
+        ValueKind::Base => Ok(base_of(Some(text)).is_some()),
+        ValueKind::Network => Ok(network_in(alloc, text)?.is_some()),
+        ValueKind::Names => Ok(name_list(alloc, Some(text))?.is_some()),
+        ValueKind::File => Ok(true),
     }
 }

@@ -1,13 +1,14 @@
 //! The values that a command line gives to the options of a table, as `clap` reads them.
-ghost use Rattle.std.specs.Prelude.{◌≡◌, ◌≤◌, true, max, IfOk, IfSome, map, option_map};
+ghost use Rattle.std.specs.Prelude.{◌≡◌, ◌≤◌, true, false, max, min, IfOk, IfSome, map, option_map};
 ghost use Rattle.clap.specs.Words.{FailsBy, app_of, fault_of, found_of, is_simple_and_free, matches_of, rows_of};
+ghost use Rattle.clap.specs.declared.builder.command.Command.TheViews.{out-Command as fields_of};
 ghost use Rattle.devices.specs.Options.{number_option};
 ghost use Rattle.word_faults.specs.GivenOptions as spec;
 ghost use Rattle.word_faults.specs.OptionRows.{view};
 
 use crate::option_row::{OptionRow, ValueKind, kind_named};
 use clap::error::ErrorKind;
-use clap::{ArgMatches, Command, Error};
+use clap::{Arg, ArgMatches, Command, Error};
 use devices::{flag, number_given, number_in, option, text_of};
 use option_lists::number_list;
 use std::alloc::{AllocError, Global};
@@ -18,14 +19,15 @@ fn with_option<'a>(
     command: Command<'a>,
     row: OptionRow,
 ) -> Result<Command<'a>, AllocError>
-    ensures { IfOk result (λ c. app_of c ≡ spec.with_option (app_of command.entry) (view row.entry)) }
+    requires { (fields_of command).has_globals ≡ false }
+    ensures app { IfOk result (λ c. app_of c ≡ spec.with_option (app_of command.entry) (view row.entry)) }
+    ensures local { IfOk result (λ c. (fields_of c).has_globals ≡ false) }
 {
     match row.value {
         ValueKind::Alone => Ok(command),
+        ValueKind::Word => command.arg(Arg::new(alloc, row.name)),
         ValueKind::Flag => command.arg(flag(alloc, row.name)),
-        ValueKind::Number { .. } | ValueKind::Numbers { .. } | ValueKind::Buffers => {
-            command.arg(option(alloc, row.name))
-        }
+        _ => command.arg(option(alloc, row.name)),
     }
 }
 
@@ -36,7 +38,9 @@ fn with_options<'a>(
     mut command: Command<'a>,
     options: &[OptionRow],
 ) -> Result<Command<'a>, AllocError>
-    ensures { IfOk result (λ c. app_of c ≡ spec.with_options (app_of command.entry) (map view options.now)) }
+    requires { (fields_of command).has_globals ≡ false }
+    ensures app { IfOk result (λ c. app_of c ≡ spec.with_options (app_of command.entry) (map view options.now)) }
+    ensures local { IfOk result (λ c. (fields_of c).has_globals ≡ false) }
 {
     for row in options {
         command = with_option(alloc, command, *row)?;
@@ -57,6 +61,18 @@ fn command_of<'a>(
         Command::new(alloc, program).no_binary_name(true),
         options,
     )
+}
+
+/// Returns the command line of a subcommand with the options of a table.
+pub fn subcommand<'a>(
+    alloc: Global,
+    name: &'static str,
+    options: &[OptionRow],
+) -> Result<Command<'a>, AllocError>
+    ensures app { IfOk result (λ c. app_of c ≡ spec.subcommand_by name.now (map view options.now)) }
+    ensures local { IfOk result (λ c. (fields_of c).has_globals ≡ false) }
+{
+    with_options(alloc, Command::new(alloc, name), options)
 }
 
 // What `clap` reads in the words.
@@ -99,6 +115,7 @@ pub fn given_options<'a>(
 #[tactic(auto, unfolding(devices::specs::Options::number_option))]
 fn number_or(text: Option<&str>, least: u64, greatest: u64, default: u64) -> Option<u64>
     ensures value { result ≡ number_option least greatest default (option_map (λ s. s.now) text.entry) }
+    ensures lower { IfSome result (λ n. min least default ≤ n) }
     ensures upper { IfSome result (λ n. n ≤ max greatest default) }
 {
     match text {
@@ -108,9 +125,10 @@ fn number_or(text: Option<&str>, least: u64, greatest: u64, default: u64) -> Opt
 }
 
 // The number of an option of this kind.
-#[tactic(auto, unfolding(crate::specs::GivenOptions::number_by, crate::specs::GivenOptions::greatest_by))]
+#[tactic(auto, unfolding(crate::specs::GivenOptions::number_by, crate::specs::GivenOptions::lowest_by, crate::specs::GivenOptions::greatest_by))]
 fn number_by(kind: Option<ValueKind>, text: Option<&str>) -> Option<u64>
     ensures value { result ≡ spec.number_by kind (option_map (λ s. s.now) text.entry) }
+    ensures lower { IfSome result (λ n. spec.lowest_by kind ≤ n) }
     ensures upper { IfSome result (λ n. n ≤ spec.greatest_by kind) }
 {
     let Some(
@@ -133,6 +151,7 @@ fn number_by(kind: Option<ValueKind>, text: Option<&str>) -> Option<u64>
 /// its range.
 pub fn number_of(options: &[OptionRow], matches: &ArgMatches<'_>, name: &str) -> Option<u64>
     ensures value { result ≡ spec.number_of (map view options.now) name.now (rows_of (found_of matches.now)) }
+    ensures lower { IfSome result (λ n. spec.lowest_of (map view options.now) name.now ≤ n) }
     ensures upper { IfSome result (λ n. n ≤ spec.greatest_of (map view options.now) name.now) }
 {
     number_by(kind_named(options, name.as_bytes()), text_of(matches, name))

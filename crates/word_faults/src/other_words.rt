@@ -3,9 +3,10 @@ ghost use Rattle.std.specs.Prelude.{◌≡◌, ◌⊎◌, true, false, map};
 ghost use Rattle.devices.specs.Devices.{Device, IsUntouched, writes};
 ghost use Rattle.devices.specs.Runs.{LacksMemory};
 ghost use Rattle.devices.specs.Usage.{TellsUsage};
+ghost use Rattle.word_faults.specs.KnownWords.{known_of};
 ghost use Rattle.word_faults.specs.UsageReport as spec;
 
-use crate::command_line::CommandLine;
+use crate::known_words::KnownWords;
 use crate::usage::usage_report;
 use crate::version::{is_version, print_version};
 use counted_io::Sink;
@@ -13,15 +14,15 @@ use devices::{Halt, report_halt, report_text};
 use std::alloc::Global;
 
 // Reports the first word that cannot be taken and the usage, and returns the status.
-fn report_words<C: CommandLine, E: Sink>(
+fn report_words<E: Sink>(
     alloc: Global,
-    known: C,
+    known: KnownWords,
     words: &[&str],
     usage: &str,
     faults: &mut E,
 ) -> u8
     ensures { (input output : Device) → IsUntouched input → IsUntouched output →
-        TellsUsage (spec.usage_report (C.known known) (map (λ s. s.now) words.now) usage.now) input output
+        TellsUsage (spec.usage_report (known_of known.entry) (map (λ s. s.now) words.now) usage.now) input output
         (writes E.Sink faults.old faults.new) result
         ⊎ LacksMemory input output (writes E.Sink faults.old faults.new) result }
 {
@@ -36,10 +37,10 @@ fn report_words<C: CommandLine, E: Sink>(
 
 /// Answers words that ask for nothing else, and returns the status: `--version` alone prints the program of this name, its
 /// version and its kit; for all others the first word that cannot be taken is reported, and the usage after it.
-pub fn answer_other_words<C: CommandLine, W: Sink, E: Sink>(
+pub fn answer_other_words<W: Sink, E: Sink>(
     alloc: Global,
     program: &str,
-    known: C,
+    known: KnownWords,
     words: &[&str],
     usage: &str,
     output: &mut W,
@@ -49,7 +50,7 @@ pub fn answer_other_words<C: CommandLine, W: Sink, E: Sink>(
         spec.Prints (spec.version_text program.now) input (writes W.Sink output.old output.new)
         (writes E.Sink faults.old faults.new) result }
     ensures usage { (input : Device) → IsUntouched input → spec.is_version (map (λ s. s.now) words.now) ≡ false →
-        TellsUsage (spec.usage_report (C.known known) (map (λ s. s.now) words.now) usage.now) input
+        TellsUsage (spec.usage_report (known_of known.entry) (map (λ s. s.now) words.now) usage.now) input
         (writes W.Sink output.old output.new) (writes E.Sink faults.old faults.new) result
         ⊎ LacksMemory input (writes W.Sink output.old output.new) (writes E.Sink faults.old faults.new) result }
 {

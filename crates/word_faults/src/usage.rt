@@ -1,9 +1,10 @@
 //! The line of a fault, and the usage after it.
 ghost use Rattle.std.specs.Prelude.{◌≡◌, ◌+◌, ◌++◌, IfOk, OnOk, map, string_bytes};
+ghost use Rattle.word_faults.specs.KnownWords.{known_of};
 ghost use Rattle.word_faults.specs.UsageReport as spec;
 
-use crate::command_line::CommandLine;
 use crate::faults::first_fault;
+use crate::known_words::KnownWords;
 use crate::word_fault::{Reason, WordFault};
 use std::alloc::{AllocError, Global};
 
@@ -54,14 +55,14 @@ fn write_reason(
 
 // The line of a fault.
 #[tactic(auto, unfolding(crate::specs::UsageReport::fault_line))]
-fn write_fault<C: CommandLine>(
+fn write_fault(
     text: &mut String,
-    known: C,
+    known: KnownWords,
     words: &[&str],
     fault: Option<WordFault>,
 ) -> Result<(), AllocError>
     ensures { OnOk result (string_bytes text.new
-        ≡ string_bytes text.old ++ spec.fault_line (C.known known) (map (λ s. s.now) words.now) fault) }
+        ≡ string_bytes text.old ++ spec.fault_line (known_of known.entry) (map (λ s. s.now) words.now) fault) }
 {
     let Some(WordFault { place, reason }) = fault else {
         return Ok(());
@@ -70,18 +71,18 @@ fn write_fault<C: CommandLine>(
         word_at(words, place),
         word_at(words, place.saturating_add(1)),
     );
-    write_reason(text, reason, word, next, known.required().unwrap_or(""))
+    write_reason(text, reason, word, next, known.required.unwrap_or(""))
 }
 
 /// The line of the first word that cannot be taken, and the usage after it.
-pub fn usage_report<C: CommandLine>(
+pub fn usage_report(
     alloc: Global,
-    known: C,
+    known: KnownWords,
     words: &[&str],
     usage: &str,
 ) -> Result<String, AllocError>
     ensures { IfOk result (λ text. string_bytes text
-        ≡ spec.usage_report (C.known known) (map (λ s. s.now) words.now) usage.now) }
+        ≡ spec.usage_report (known_of known.entry) (map (λ s. s.now) words.now) usage.now) }
 {
     let fault = first_fault(alloc, known, words)?;
     let mut text = String::new(alloc);

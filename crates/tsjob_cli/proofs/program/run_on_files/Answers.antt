@@ -1,6 +1,5 @@
-use Rattle.std.proofs.Common.{◌∙◌, Some, None, ap, refl, sym}
+use Rattle.std.proofs.Common.{◌∙◌, Some, None, refl, sym}
 use Rattle.word_faults.proofs.UsageReports.{of_known, of_usage}
-use Rattle.tsjob_cli.specs.KnownWords.{known_words}
 use Rattle.tsjob_cli.proofs.FileWords.{files_asked, some_and_none, version_is_no_file}
 use Rattle.tsjob_cli.proofs.program.run_on_files.Goals as goal
 
@@ -9,8 +8,7 @@ returns-in-Ok-None-clause-version g c = λ is. c.answer_other_words.ensures.vers
 
 pub returns-in-Ok-None-clause-usage : goal.returns-in-Ok-None-clause-usage
 returns-in-Ok-None-clause-usage g c = λ none is.
-    let known = ap known_words c.known_for-known.ensures in
-    of_usage _ _ _ _ _ _ _ _ c.usage.ensures (of_known (known_words c.known_for-known.result.takes_stream) _ _ _ _ _ _ _ known (c.answer_other_words.ensures.usage _ refl is))
+    of_usage _ _ _ _ _ _ _ _ c.usage.ensures (of_known _ _ _ _ _ _ _ _ c.known_for-known.ensures (c.answer_other_words.ensures.usage _ refl is))
 
 pub returns-in-Ok-None-clause-files : goal.returns-in-Ok-None-clause-files
 returns-in-Ok-None-clause-files g c = λ a is. absurd (some_and_none _ a is (sym c.in-Ok-None.ensures ∙ c.in-Ok-None.field-0-is))

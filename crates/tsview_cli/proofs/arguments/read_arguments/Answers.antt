@@ -1,19 +1,18 @@
-use Rattle.std.proofs.Common.{List, ℕ, Bor, inl, inr, map, sym, ◌∙◌}
-use Rattle.clap.specs.Words.{fault_of, matches_of}
+use Rattle.std.proofs.Common.{◌≡◌, List, Option, ap, refl, subst}
+use Rattle.std.specs.Prelude.{IfOk, option_and_then}
+use Rattle.clap.specs.Words.{Row}
+use Rattle.word_faults.specs.GivenOptions.{with_options}
 use Rattle.tsview_cli.specs.Arguments.{request_of}
-use Rattle.tsview_cli.specs.CommandLine.{tsview_app}
-use Rattle.tsview_cli.proofs.CommandLines.{accepted, refused}
 use Rattle.tsview_cli.proofs.arguments.read_arguments.Goals as goal
 
-pub returns-in-Ok : goal.returns-in-Ok
-returns-in-Ok c =
-    let t = map (λ (s : Bor (List ℕ)). s.now) c.args.words.now in
-    accepted (fault_of tsview_app t) _ (matches_of tsview_app t) c.request_of.result c.in-Ok.ensures.ok c.in-Ok.ensures.fault c.request_of.ensures
+pub given_options-requires : goal.given_options-requires
+unfolding with_options
+given_options-requires c = refl
 
-pub returns : goal.returns
-returns c =
-    let t = map (λ (s : Bor (List ℕ)). s.now) c.args.words.now in
-    elim c.in-Err.ensures.fault [
-      | inl e ↦ absurd (c.in_default.not-OutOfMemory (c.kind.ensures ∙ e))
-      | inr i ↦ sym (refused _ (fault_of tsview_app t) (request_of (matches_of tsview_app t)) i)
-    ]
+pub returns-in-Some : goal.returns-in-Some
+returns-in-Some c =
+    subst (λ (given : Option (List Row)). IfOk c.request_of.result (λ asked. asked ≡ option_and_then request_of given))
+    (rw c.in-Some.is at c.in_ok-matches.ensures) c.request_of.ensures
+
+pub returns-in-None : goal.returns-in-None
+returns-in-None c = ap (option_and_then request_of) (rw c.in-None.is at c.in_ok-matches.ensures)

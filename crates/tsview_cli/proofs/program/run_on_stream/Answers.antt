@@ -1,7 +1,7 @@
 use Rattle.std.proofs.Common.{refl, inl, inr}
 use Rattle.devices.specs.Devices.{Port}
 use Rattle.devices.specs.declared.halt.Halt.TheVariants.{Memory}
-use Rattle.word_faults.proofs.UsageReports.{of_usage}
+use Rattle.word_faults.proofs.UsageReports.{of_known, of_usage}
 use Rattle.tsview_cli.proofs.Viewed.{none_seen}
 use Rattle.tsview_cli.proofs.program.run_on_stream.Goals as goal
 
@@ -15,4 +15,5 @@ pub returns-in-Ok-None-clause-version : goal.returns-in-Ok-None-clause-version
 returns-in-Ok-None-clause-version g c = λ none is. c.answer_other_words.ensures.version _ refl is
 
 pub returns-in-Ok-None-clause-usage : goal.returns-in-Ok-None-clause-usage
-returns-in-Ok-None-clause-usage g c = λ none is. of_usage _ _ _ _ _ _ _ _ c.usage.ensures (c.answer_other_words.ensures.usage _ refl is)
+returns-in-Ok-None-clause-usage g c = λ none is.
+    of_usage _ _ _ _ _ _ _ _ c.usage.ensures (of_known _ _ _ _ _ _ _ _ c.known_words-known.ensures (c.answer_other_words.ensures.usage _ refl is))

@@ -1,0 +1,63 @@
+//! Values of options of a job that are a word or a moment.
+
+ghost use Rattle.std.specs.Prelude.{◌≡◌, option_map};
+ghost use Rattle.std.specs.List.{list_all};
+ghost use Rattle.option_lists.specs.JobValues as spec;
+
+use devices::number_in;
+use stream_jobs::{ClockBase, DeclareBy};
+
+/// Returns by what the packets of units are declared; without a word, by either.
+#[tactic(auto, unfolding(crate::specs::JobValues::declare_by_of))]
+pub fn declare_by_of(text: Option<&str>) -> Option<DeclareBy>
+    ensures { result ≡ spec.declare_by_of (option_map (λ s. s.now) text.entry) }
+{
+    match text {
+        None => Some(DeclareBy::Either),
+        Some("groups") => Some(DeclareBy::Groups),
+        Some("time") => Some(DeclareBy::Pace),
+        Some(_) => None,
+    }
+}
+
+/// Returns what the system clock shows as the run begins; without a value, what lasts.
+#[tactic(auto, unfolding(crate::specs::JobValues::base_of))]
+pub fn base_of(text: Option<&str>) -> Option<ClockBase>
+    ensures { result ≡ spec.base_of (option_map (λ s. s.now) text.entry) }
+{
+    match text {
+        None => Some(ClockBase::Lasting),
+        Some("input") => Some(ClockBase::Input),
+        Some(text) => Some(ClockBase::At(number_in(text, 0, 8_589_934_591)?)),
+    }
+}
+
+// Whether a byte may occur in a moment.
+fn is_of_time(byte: u8) -> bool
+    ensures { result ≡ spec.is_of_time byte }
+{
+    byte.is_ascii_digit() || byte == b'-' || byte == b':' || byte == b'T'
+}
+
+// Whether each byte of a text may occur in a moment.
+fn is_moment(text: &str) -> bool
+    ensures { result ≡ list_all spec.is_of_time text.now }
+{
+    text.bytes().all(|byte| is_of_time(byte))
+}
+
+/// Returns the moment of the first slot, if it is given; none if a character can't occur in a moment.
+#[tactic(auto, unfolding(crate::specs::JobValues::start_of))]
+pub fn start_of<'a>(text: Option<&'a str>) -> Option<Option<&'a str>>
+    ensures { option_map (λ o. option_map (λ s. s.now) o) result
+        ≡ spec.start_of (option_map (λ s. s.now) text.entry) }
+{
+    let Some(text) = text else {
+        return Some(None);
+    };
+    if is_moment(text) {
+        Some(Some(text))
+    } else {
+        None
+    }
+}

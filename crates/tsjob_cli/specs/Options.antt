@@ -1,0 +1,51 @@
+-- The options and subcommands of the program, by their table, and its usage.
+use Rattle.std.specs.Prelude.{ℕ, ◌&&◌, Bool, true, false, not, List, [], ◌∷◌, ◌++◌, Option, Some, None, codes, map}
+use Rattle.word_faults.specs.CommandLine.{CommandLine, Text}
+use Rattle.word_faults.specs.KnownWords.{known_but}
+use Rattle.word_faults.specs.OptionRows.{OptionRow, constant_view}
+use Rattle.word_faults.specs.OptionUsage.{usage_by}
+use Rattle.word_faults.specs.WordFaults.{word_beside}
+use Rattle.job_outcomes.specs.declared.job_arguments.Subcommand.{Subcommand}
+use Rattle.job_outcomes.specs.declared.job_arguments.Subcommand.TheVariants.{Units}
+use Rattle.tsjob_cli.specs.FileMark.{has_mark}
+use Rattle.tsjob_cli.specs.Subcommands.{subcommand_of}
+use Rattle.tsjob_cli.specs.declared.options.TheConstants.{OPTIONS}
+
+abbrev pub options : List OptionRow
+options = map constant_view OPTIONS
+
+-- 1. The words
+
+-- where the file of a description cannot be named, its option is not known
+abbrev pub barred_word : Bool → Option Text
+barred_word true = None
+barred_word false = Some (codes "--stream")
+
+-- a subcommand, or the mark of names of files, may stand beside the options
+abbrev pub known_words : Bool → CommandLine
+known_words takes_stream =
+    known_but (barred_word takes_stream) options (codes "describe" ∷ codes "units" ∷ codes "why" ∷ codes "--" ∷ []) (codes "explain" ∷ []) None
+
+-- the file of a description can be named with units, and with no names of files
+abbrev pub is_units : Option Subcommand → Bool
+is_units (Some Units) = true
+is_units subcommand = false
+
+abbrev pub takes_stream : List Text → Bool
+takes_stream words = is_units (subcommand_of (word_beside (known_words true) words)) && not (has_mark words)
+
+-- what is known of these words
+abbrev pub known_for : List Text → CommandLine
+known_for words = known_words (takes_stream words)
+
+-- 2. The usage
+
+-- the lines before the options
+abbrev pub usage_front : Text
+usage_front =
+    codes "usage: tsjob [describe|units|why] [OPTIONS] < PACKETS > JOB\n"
+    ++ (codes "       tsjob [describe|units|why] [OPTIONS] -- FILE.. > JOB\n" ++ codes "       tsjob explain < DESCRIPTION [PLAN]\n")
+
+-- and a line for each option
+abbrev pub usage_text : List ℕ
+usage_text = usage_by usage_front options

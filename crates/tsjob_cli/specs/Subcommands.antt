@@ -1,0 +1,14 @@
+-- What is written of a stream, by the word beside the options.
+use Rattle.std.specs.Prelude.{Option, Some, None, if◌then◌else◌, codes}
+use Rattle.std.specs.Str.{bytes_eq}
+use Rattle.clap.specs.Words.{Text}
+use Rattle.job_outcomes.specs.declared.job_arguments.Subcommand.{Subcommand}
+use Rattle.job_outcomes.specs.declared.job_arguments.Subcommand.TheVariants.{Whole, Describe, Units, Why}
+
+-- without a subcommand, the whole job
+unfoldable pub subcommand_of : Option Text → Option Subcommand
+subcommand_of None = Some Whole
+subcommand_of (Some text) =
+    if bytes_eq text (codes "describe") then Some Describe
+    else (if bytes_eq text (codes "units") then Some Units
+    else (if bytes_eq text (codes "why") then Some Why else None))

@@ -1,0 +1,196 @@
+//! The subcommands of the program with their options, and its usage.
+ghost use Rattle.std.specs.Prelude.{◌≡◌, map, option_map};
+ghost use Rattle.tsmux_cli.specs.Options as spec;
+ghost use Rattle.word_faults.specs.KnownWords.{known_of};
+ghost use Rattle.word_faults.specs.OptionRows.{view};
+
+use word_faults::{KnownWords, OptionRow, ValueKind};
+
+/// The options of `carry`.
+pub(crate) const CARRY: [OptionRow; 3] = [
+    OptionRow {
+        name: "hex",
+        value: ValueKind::Flag,
+        form: "",
+        help: "packets are written as lines of hexadecimal digits",
+    },
+    OptionRow {
+        name: "pid",
+        value: ValueKind::Number {
+            least: 32,
+            greatest: 8190,
+            default: Some(256),
+        },
+        form: "",
+        help: "the PID of the packets; else 256",
+    },
+    OptionRow {
+        name: "id",
+        value: ValueKind::StreamId,
+        form: "189|192..239",
+        help: "the stream_id of the PES packets; else 192",
+    },
+];
+
+/// The options of `check`.
+pub(crate) const CHECK: [OptionRow; 1] = [OptionRow {
+    name: "switch",
+    value: ValueKind::Flag,
+    form: "",
+    help: "whether the second plan may follow the first",
+}];
+
+/// The options of `mux`.
+pub(crate) const MUX: [OptionRow; 3] = [
+    OptionRow {
+        name: "hex",
+        value: ValueKind::Flag,
+        form: "",
+        help: "packets are written as lines of hexadecimal digits",
+    },
+    OptionRow {
+        name: "slots",
+        value: ValueKind::Number {
+            least: 0,
+            greatest: u64::MAX,
+            default: None,
+        },
+        form: "N",
+        help: "the number of packets; else those up to the greatest DTS",
+    },
+    OptionRow {
+        name: "switch",
+        value: ValueKind::Number {
+            least: 0,
+            greatest: u64::MAX,
+            default: None,
+        },
+        form: "Q",
+        help: "the periods of the first plan before the second",
+    },
+];
+
+/// The options of `monitor`.
+pub(crate) const MONITOR: [OptionRow; 2] = [
+    OptionRow {
+        name: "rate",
+        value: ValueKind::Number {
+            least: 100_000,
+            greatest: 100_000_000,
+            default: None,
+        },
+        form: "",
+        help: "the rate of the stream in bits a second",
+    },
+    OptionRow {
+        name: "pcr",
+        value: ValueKind::Number {
+            least: 1,
+            greatest: 100,
+            default: Some(40),
+        },
+        form: "",
+        help: "the greatest time between program clock references, in ms; else 40",
+    },
+];
+
+/// The usage, written to the second writer on a usage error: the options of each table in the line of its subcommand.
+const USAGE: &str =
+    "usage: tsmux carry [--hex] [--pid 32..8190] [--id 189|192..239] < RECORDS > PACKETS
+       tsmux plan < DESCRIPTION > PLAN
+       tsmux demux < PACKETS > FINDINGS
+       tsmux check [--switch] < JOB
+       tsmux mux [--hex] [--slots N] [--switch Q] < JOB > PACKETS
+       tsmux monitor --rate 100000..100000000 [--pcr 1..100] < PACKETS > REPORT
+       tsmux --version
+with no words: tsmux carry --hex
+";
+
+/// The usage.
+pub(crate) fn usage() -> &'static str
+    ensures { result.now ≡ spec.usage_text }
+{
+    USAGE
+}
+
+/// A first word: a subcommand, or none.
+#[derive(Clone, Copy)]
+pub enum FirstWord {
+    NoSubcommand,
+    Carry,
+    Plan,
+    Demux,
+    Check,
+    Mux,
+    Monitor,
+}
+
+// The subcommand of this name.
+#[tactic(auto, unfolding(crate::specs::Options::named))]
+fn named(word: &str) -> Option<FirstWord>
+    ensures { result ≡ spec.named word.now }
+{
+    match word {
+        "carry" => Some(FirstWord::Carry),
+        "plan" => Some(FirstWord::Plan),
+        "demux" => Some(FirstWord::Demux),
+        "check" => Some(FirstWord::Check),
+        "mux" => Some(FirstWord::Mux),
+        "monitor" => Some(FirstWord::Monitor),
+        _ => None,
+    }
+}
+
+// The first of these words.
+fn known_after(words: &[&str]) -> FirstWord
+    ensures { result ≡ spec.known_after (map (λ s. s.now) words.now) }
+{
+    match words {
+        [] => FirstWord::NoSubcommand,
+        [word, ..] => named(word).unwrap_or(FirstWord::NoSubcommand),
+    }
+}
+
+// The options of a subcommand.
+#[tactic(auto, unfolding(crate::specs::Options::options_of))]
+fn options_of(first: FirstWord) -> &'static [OptionRow]
+    ensures { map view result.now ≡ spec.options_of first }
+{
+    match first {
+        FirstWord::NoSubcommand | FirstWord::Plan | FirstWord::Demux => &[],
+        FirstWord::Carry => &CARRY,
+        FirstWord::Check => &CHECK,
+        FirstWord::Mux => &MUX,
+        FirstWord::Monitor => &MONITOR,
+    }
+}
+
+// The word of the option that has to be given.
+fn required_of(first: FirstWord) -> Option<&'static str>
+    ensures { option_map (λ s. s.now) result ≡ spec.required_of first }
+{
+    match first {
+        FirstWord::Monitor => Some("--rate"),
+        _ => None,
+    }
+}
+
+// What may follow a first word: the options of a subcommand, or nothing if it is none.
+fn known_words(first: FirstWord) -> KnownWords
+    ensures { known_of result ≡ spec.known_words first }
+{
+    KnownWords {
+        options: options_of(first),
+        words: &["carry", "plan", "demux", "check", "mux", "monitor"],
+        alone: &[],
+        required: required_of(first),
+        barred: None,
+    }
+}
+
+/// What is known of these words.
+pub(crate) fn known_for(words: &[&str]) -> KnownWords
+    ensures { known_of result ≡ spec.known_words (spec.known_after (map (λ s. s.now) words.now)) }
+{
+    known_words(known_after(words))
+}
