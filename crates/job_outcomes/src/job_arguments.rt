@@ -2,9 +2,10 @@
 
 ghost use Rattle.std.specs.Prelude.{◌≡◌, option_map};
 
+use given_values::{ClockBase, DeclareBy, NetworkName, ServiceName};
 use std::marker::Model;
 use stream_coding::PidBuffers;
-use stream_jobs::{ClockBase, DeclareBy, JobOptions, NetworkName, ServiceName};
+use stream_jobs::JobOptions;
 
 /// What is written to the output.
 #[derive(Clone, Copy, Debug, PartialEq, Eq)]
@@ -56,7 +57,7 @@ pub struct JobArguments<'a> {
 // A contract sees its lists and its text.
 impl<'a> Model for JobArguments<'a> {
     ghost use Rattle.std.specs.Prelude.{option_map};
-    ghost use Rattle.stream_jobs.specs.GivenNames.{network_name_view};
+    ghost use Rattle.given_values.specs.GivenNames.{network_name_view};
     ghost use Rattle.job_outcomes.specs.JobArguments.{JobArgumentsView};
 
     ghost Value = { JobArgumentsView };

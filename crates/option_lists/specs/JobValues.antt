@@ -4,10 +4,10 @@ use Rattle.std.specs.Char.{is_ascii_digit}
 use Rattle.std.specs.List.{list_all}
 use Rattle.std.specs.Str.{bytes_eq}
 use Rattle.clap.specs.Words.{Text}
-use Rattle.stream_jobs.specs.declared.clock_base.ClockBase.{ClockBase}
-use Rattle.stream_jobs.specs.declared.clock_base.ClockBase.TheVariants.{Lasting, Input, At}
-use Rattle.stream_jobs.specs.declared.job_options.DeclareBy.{DeclareBy}
-use Rattle.stream_jobs.specs.declared.job_options.DeclareBy.TheVariants as by
+use Rattle.given_values.specs.declared.clock_base.ClockBase.{ClockBase}
+use Rattle.given_values.specs.declared.clock_base.ClockBase.TheVariants.{Lasting, Input, At}
+use Rattle.given_values.specs.declared.declare_by.DeclareBy.{DeclareBy}
+use Rattle.given_values.specs.declared.declare_by.DeclareBy.TheVariants as by
 use Rattle.option_lists.specs.Lists.{number_in}
 
 -- by what packets are declared: without a word, by either

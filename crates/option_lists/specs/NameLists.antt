@@ -2,7 +2,7 @@
 use Rattle.std.specs.Prelude.{ℕ, ◌==◌, ◌&&◌, nat_le, not, Bool, if◌then◌else◌, List, [], ◌∷◌, Option, Some, None, map, option_map}
 use Rattle.std.specs.List.{list_all}
 use Rattle.clap.specs.Words.{Text}
-use Rattle.stream_jobs.specs.GivenNames.{NetworkNameView, ServiceNameView}
+use Rattle.given_values.specs.GivenNames.{NetworkNameView, ServiceNameView}
 use Rattle.option_lists.specs.Lists.{all_of, colon_parts, comma_parts, given, number_in}
 
 -- no control character of ASCII: a description has a text on one line

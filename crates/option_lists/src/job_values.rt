@@ -5,7 +5,7 @@ ghost use Rattle.std.specs.List.{list_all};
 ghost use Rattle.option_lists.specs.JobValues as spec;
 
 use devices::number_in;
-use stream_jobs::{ClockBase, DeclareBy};
+use given_values::{ClockBase, DeclareBy};
 
 /// Returns by what the packets of units are declared; without a word, by either.
 #[tactic(auto, unfolding(crate::specs::JobValues::declare_by_of))]

@@ -3,12 +3,12 @@
 ghost use Rattle.std.specs.Prelude.{◌≡◌, IfOk, map, option_map};
 ghost use Rattle.option_lists.specs.Lists.{colon_parts};
 ghost use Rattle.option_lists.specs.NameLists as spec;
-ghost use Rattle.stream_jobs.specs.GivenNames.{network_name_view};
+ghost use Rattle.given_values.specs.GivenNames.{network_name_view};
 
 use crate::lists::{colon_parts, comma_parts};
 use devices::number_in;
+use given_values::{NetworkName, ServiceName};
 use std::alloc::{AllocError, Global};
-use stream_jobs::{NetworkName, ServiceName};
 
 // Whether a byte is no control character of ASCII.
 fn is_printable(byte: u8) -> bool

@@ -19,7 +19,8 @@ use Rattle.service_information.specs.CivilTimes.{civil_text, clock_text, date_te
 use Rattle.service_information.specs.Events.{FoundEventView}
 use Rattle.service_information.specs.StreamTime.{stream_time}
 use Rattle.stream_jobs.specs.Events.{first_start, start_found, start_of as begin_of}
-use Rattle.stream_jobs.specs.GivenNames.{NetworkNameView, ServiceNameView, name_given}
+use Rattle.given_values.specs.GivenNames.{NetworkNameView, ServiceNameView}
+use Rattle.stream_jobs.specs.GivenNames.{name_given}
 use Rattle.stream_jobs.specs.JobOptions.{JobOptionsView}
 use Rattle.stream_jobs.specs.Information.{named_service, network_found, network_of, network_or, renamed, service_with}
 use Rattle.word_faults.specs.GivenOptions.{given_options, number_if, number_of, numbers_of}

@@ -1,7 +1,7 @@
 -- What the system clock shows as a run begins (ISO/IEC 13818-1, 2.4.2.2): in units of 90 kHz, modulo 2^33.
 use Rattle.std.specs.Prelude.{ℕ, ◌+◌, ◌^◌, nat_le, Bool, if◌then◌else◌}
-use Rattle.stream_jobs.specs.declared.clock_base.ClockBase.{ClockBase}
-use Rattle.stream_jobs.specs.declared.clock_base.ClockBase.TheVariants.{Lasting, Input, At}
+use Rattle.given_values.specs.declared.clock_base.ClockBase.{ClockBase}
+use Rattle.given_values.specs.declared.clock_base.ClockBase.TheVariants.{Lasting, Input, At}
 
 -- a clock that shows this does not pass the end of its 33 bits within 12 hours
 unfoldable pub lasts : ℕ → Bool

@@ -23,8 +23,8 @@ use Rattle.stream_units.specs.Declaration.{min_interval, max_unit_size, group_pa
 use Rattle.stream_jobs.specs.declared.declarations.StreamChoice.{StreamChoice}
 use Rattle.stream_jobs.specs.declared.refusal.JobRefusal.{JobRefusal}
 use Rattle.stream_jobs.specs.declared.refusal.JobRefusal.TheVariants as refusals
-use Rattle.stream_jobs.specs.declared.job_options.DeclareBy.{DeclareBy}
-use Rattle.stream_jobs.specs.declared.job_options.DeclareBy.TheVariants as by
+use Rattle.given_values.specs.declared.declare_by.DeclareBy.{DeclareBy}
+use Rattle.given_values.specs.declared.declare_by.DeclareBy.TheVariants as by
 use Rattle.stream_jobs.specs.Answers.{unless, each}
 use Rattle.stream_jobs.specs.JobStreams.{TimedStreamView}
 

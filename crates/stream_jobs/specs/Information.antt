@@ -10,7 +10,8 @@ use Rattle.stream_programs.specs.Services.{FoundServiceView, service}
 use Rattle.stream_programs.specs.Texts.{decode_text}
 use Rattle.service_information.specs.StreamTime.{stream_time}
 use Rattle.stream_jobs.specs.Events.{event_parts, job_events, start_of}
-use Rattle.stream_jobs.specs.GivenNames.{NetworkNameView, ServiceNameView, name_given, original_given}
+use Rattle.given_values.specs.GivenNames.{NetworkNameView, ServiceNameView}
+use Rattle.stream_jobs.specs.GivenNames.{name_given, original_given}
 use Rattle.stream_jobs.specs.JobOptions.{JobOptionsView}
 use Rattle.stream_jobs.specs.JobPrograms.{JobProgramView}
 

@@ -19,7 +19,7 @@ use Rattle.stream_jobs.specs.ClockBases.{base0_of}
 use Rattle.stream_jobs.specs.declared.declarations.StreamChoice.{StreamChoice}
 use Rattle.stream_jobs.specs.Declarations.{UnitCountsView, too_many, too_long, all_unit_counts, choices}
 use Rattle.stream_jobs.specs.JobPrograms.{JobProgramView, job_programs, all_program_warnings, text_warnings}
-use Rattle.stream_jobs.specs.GivenNames.{ServiceNameView}
+use Rattle.given_values.specs.GivenNames.{ServiceNameView}
 use Rattle.stream_jobs.specs.Events.{programs_information}
 use Rattle.stream_jobs.specs.Information.{JobInformationView, information_of}
 use Rattle.stream_jobs.specs.Moments.{earliest, first_base, moved_streams}

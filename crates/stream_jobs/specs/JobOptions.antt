@@ -3,9 +3,9 @@ use Rattle.std.specs.Prelude.{ℕ, ◌==◌, ◌||◌, not, Bool, List, length, 
 use Rattle.std.specs.List.{list_any}
 use Rattle.psi_tables.specs.declared.pat.programs.Program.{Program}
 use Rattle.stream_programs.specs.Streams.{FoundStreamView}
-use Rattle.stream_jobs.specs.GivenNames.{NetworkNameView, ServiceNameView}
-use Rattle.stream_jobs.specs.declared.clock_base.ClockBase.{ClockBase}
-use Rattle.stream_jobs.specs.declared.job_options.DeclareBy.{DeclareBy}
+use Rattle.given_values.specs.GivenNames.{NetworkNameView, ServiceNameView}
+use Rattle.given_values.specs.declared.clock_base.ClockBase.{ClockBase}
+use Rattle.given_values.specs.declared.declare_by.DeclareBy.{DeclareBy}
 use Rattle.stream_coding.specs.declared.buffers.PidBuffers.{PidBuffers}
 
 -- the rate in bits a second, if one is asked for; the moment of the first slot as its characters, if it is given; limits in ms and in units

@@ -11,7 +11,8 @@ use Rattle.stream_jobs.specs.declared.program_clock.ProgramClock.TheVariants.{Ow
 use Rattle.stream_jobs.specs.declared.warning.Warning.{Warning}
 use Rattle.stream_jobs.specs.declared.warning.ProgramWarning.TheVariants.{NoStream, UnreadText}
 use Rattle.stream_jobs.specs.declared.warning.Warning.TheVariants as warning
-use Rattle.stream_jobs.specs.GivenNames.{ServiceNameView, name_given}
+use Rattle.given_values.specs.GivenNames.{ServiceNameView}
+use Rattle.stream_jobs.specs.GivenNames.{name_given}
 use Rattle.stream_jobs.specs.JobStreams.{WireStreamView, is_stream_of}
 use Rattle.stream_jobs.specs.ProgramClocks.{clock_by}
 

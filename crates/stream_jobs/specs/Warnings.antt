@@ -14,7 +14,7 @@ use Rattle.stream_programs.specs.Streams.{FoundStreamView}
 use Rattle.stream_programs.specs.Texts.{has_unread}
 use Rattle.stream_units.specs.UnitWarnings.{unit_warnings}
 use Rattle.stream_units.specs.Damage as units
-use Rattle.stream_jobs.specs.GivenNames.{NetworkNameView, ServiceNameView}
+use Rattle.given_values.specs.GivenNames.{NetworkNameView, ServiceNameView}
 use Rattle.stream_coding.specs.declared.buffers.PidBuffers.{PidBuffers}
 use Rattle.stream_jobs.specs.declared.warning.Warning.{Warning}
 use Rattle.stream_jobs.specs.declared.warning.Warning.TheVariants as warning

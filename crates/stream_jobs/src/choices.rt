@@ -6,10 +6,10 @@ ghost use Rattle.stream_jobs.specs.Answers.{Answers, Refuses, each};
 ghost use Rattle.stream_jobs.specs.Declarations as spec;
 
 use crate::declarations::{StreamChoice, UnitCounts};
-use crate::job_options::DeclareBy;
 use crate::job_stream::TimedStream;
 use crate::refusal::{JobError, JobRefusal};
 use clock27::{LEAST_RATE, SLOT_UNITS_AT_1BPS};
+use given_values::DeclareBy;
 use pes_packet::Unit;
 use std::alloc::{AllocError, Global};
 use stream_choice::{

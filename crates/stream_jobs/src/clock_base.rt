@@ -4,20 +4,10 @@ ghost use Rattle.std.specs.Prelude.{◌≡◌};
 ghost use Rattle.stream_jobs.specs.ClockBases as spec;
 
 use clock27::STAMP_MODULUS;
+use given_values::ClockBase;
 
 /// 12 hours in units of 90 kHz.
 const TWELVE_HOURS: u64 = 3_888_000_000;
-
-/// What the system clock shows as the run begins.
-#[derive(Clone, Copy, Debug, PartialEq, Eq)]
-pub enum ClockBase {
-    /// What the first program's shows, if that does not pass the end of its 33 bits within 12 hours; else 0.
-    Lasting,
-    /// What the first program's shows, so that its stamps on the wire stay what they are.
-    Input,
-    /// This, in units of 90 kHz.
-    At(u64),
-}
 
 // Whether a clock that shows this does not pass the end of its 33 bits within 12 hours.
 #[tactic(auto, unfolding(crate::specs::ClockBases::lasts))]

@@ -10,7 +10,6 @@ ghost use Rattle.stream_jobs.specs.JobOptions.{is_selected_program};
 
 use crate::clock_base::base0_of;
 use crate::earliest::earliest_of;
-use crate::given_names::ServiceName;
 use crate::information::{JobInformation, information_of};
 use crate::job_events::push_information_warnings;
 use crate::job_network::push_network_warnings;
@@ -31,6 +30,7 @@ use crate::warnings::{
 };
 use crate::wire_streams::wire_streams;
 use demux::Finding;
+use given_values::ServiceName;
 use psi_tables::Program;
 use std::alloc::{AllocError, Global};
 use std::marker::Model;

@@ -4,14 +4,15 @@ ghost use Rattle.std.specs.Prelude.{◌≡◌, ◌++◌, IfOk, OnOk, Some, map, 
 ghost use Rattle.demux.specs.Shown.{finding_view};
 ghost use Rattle.job_text.specs.Texts.{network_if_any};
 ghost use Rattle.stream_programs.specs.NetworkInformation.{found_network_view, network_surplus};
-ghost use Rattle.stream_jobs.specs.GivenNames.{network_name_view};
+ghost use Rattle.given_values.specs.GivenNames.{network_name_view};
 ghost use Rattle.stream_jobs.specs.Information as spec;
 ghost use Rattle.stream_jobs.specs.Warnings as spec_warnings;
 
-use crate::given_names::{NetworkName, original_given};
+use crate::given_names::original_given;
 use crate::named_service::copied;
 use crate::warning::{PacketWarning, Warning};
 use demux::Finding;
+use given_values::NetworkName;
 use job_text::NetworkPart;
 use std::alloc::{AllocError, Global};
 use std::marker::Model;

@@ -3,21 +3,9 @@
 ghost use Rattle.std.specs.Prelude.{◌≡◌};
 ghost use Rattle.stream_jobs.specs.JobOptions.{is_among};
 
-use crate::clock_base::ClockBase;
-use crate::given_names::{NetworkName, ServiceName};
+use given_values::{ClockBase, DeclareBy, NetworkName, ServiceName};
 use std::marker::Model;
 use stream_coding::PidBuffers;
-
-/// By what the packets of a stream's units are declared.
-#[derive(Clone, Copy, Debug, PartialEq, Eq)]
-pub enum DeclareBy {
-    /// By groups where that asks for at most a 64th more of the multiplex than by pace, else by pace.
-    Either,
-    /// By groups of units.
-    Groups,
-    /// By time: a burst and a pace.
-    Pace,
-}
 
 /// The options of a job; the rest is taken from the stream.
 #[derive(Drop)]
@@ -51,7 +39,7 @@ pub struct JobOptions<'a> {
 // A contract sees its texts and lists.
 impl<'a> Model for JobOptions<'a> {
     ghost use Rattle.std.specs.Prelude.{option_map};
-    ghost use Rattle.stream_jobs.specs.GivenNames.{network_name_view};
+    ghost use Rattle.given_values.specs.GivenNames.{network_name_view};
     ghost use Rattle.stream_jobs.specs.JobOptions.{JobOptionsView};
 
     ghost Value = { JobOptionsView };

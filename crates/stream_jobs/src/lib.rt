@@ -47,11 +47,9 @@ mod warning;
 mod warnings;
 mod wire_streams;
 
-pub use clock_base::ClockBase;
-pub use given_names::{NetworkName, ServiceName};
 pub use input::{JobInput, job_input};
 pub use job::{Job, describe, found_rate, make_job, units, unplanned_description};
-pub use job_options::{DeclareBy, JobOptions};
+pub use job_options::JobOptions;
 pub use joined_inputs::{InputNote, JoinedInputs, NoteCause, Origin, join_inputs};
 pub use laws::{joined_are_apart, places_are_apart};
 pub use new_numbers::NewNumber;

@@ -7,10 +7,11 @@ ghost use Rattle.stream_jobs.specs.GivenNames.{name_given};
 ghost use Rattle.stream_jobs.specs.JobPrograms as spec_programs;
 ghost use Rattle.stream_jobs.specs.Information as spec;
 
-use crate::given_names::{ServiceName, name_given};
+use crate::given_names::name_given;
 use crate::job_programs::JobProgram;
 use crate::warning::{ProgramWarning, Warning};
 use demux::Finding;
+use given_values::ServiceName;
 use std::alloc::{AllocError, Global};
 use std::marker::Model;
 use stream_programs::{FoundService, decode_text, has_unread, last_service};

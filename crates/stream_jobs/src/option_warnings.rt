@@ -5,8 +5,8 @@ ghost use Rattle.std.specs.List.{list_any};
 ghost use Rattle.stream_programs.specs.Association.{is_named};
 ghost use Rattle.stream_jobs.specs.Warnings as spec;
 
-use crate::given_names::ServiceName;
 use crate::warning::{ProgramWarning, Warning};
+use given_values::ServiceName;
 use std::alloc::AllocError;
 use stream_coding::PidBuffers;
 use stream_programs::{Association, FoundStream};

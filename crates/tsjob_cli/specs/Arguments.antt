@@ -2,9 +2,9 @@
 use Rattle.std.specs.Prelude.{ℕ, Bool, List, [], Option, Some, None, if◌then◌else◌, codes, map}
 use Rattle.std.specs.Borrow.{Bor}
 use Rattle.clap.specs.Words.{Row, Text, first_of}
-use Rattle.stream_jobs.specs.GivenNames.{NetworkNameView, ServiceNameView}
-use Rattle.stream_jobs.specs.declared.clock_base.ClockBase.{ClockBase}
-use Rattle.stream_jobs.specs.declared.job_options.DeclareBy.{DeclareBy}
+use Rattle.given_values.specs.GivenNames.{NetworkNameView, ServiceNameView}
+use Rattle.given_values.specs.declared.clock_base.ClockBase.{ClockBase}
+use Rattle.given_values.specs.declared.declare_by.DeclareBy.{DeclareBy}
 use Rattle.stream_coding.specs.declared.buffers.PidBuffers.{PidBuffers}
 use Rattle.devices.specs.Options.{is_given}
 use Rattle.job_outcomes.specs.declared.job_arguments.Subcommand.{Subcommand}

@@ -3,7 +3,7 @@
 ghost use Rattle.std.specs.Prelude.{◌≡◌, IfOk, map, option_map};
 ghost use Rattle.clap.specs.Words.{found_of, rows_of};
 ghost use Rattle.option_lists.specs.NameLists.{network_if_given};
-ghost use Rattle.stream_jobs.specs.GivenNames.{network_name_view};
+ghost use Rattle.given_values.specs.GivenNames.{network_name_view};
 ghost use Rattle.tsjob_cli.specs.Arguments as spec;
 ghost use Rattle.tsjob_cli.specs.Subcommands.{subcommand_of};
 
@@ -11,10 +11,10 @@ use crate::file_mark::has_mark;
 use crate::options::OPTIONS;
 use clap::ArgMatches;
 use devices::{is_given, text_of};
+use given_values::NetworkName;
 use job_outcomes::{JobArguments, Subcommand};
 use option_lists::{base_of, buffer_list, declare_by_of, name_list, network_in, start_of};
 use std::alloc::{AllocError, Global};
-use stream_jobs::NetworkName;
 use word_faults::{given_options, number_if, number_of, numbers_of};
 
 // The subcommand of this name; without a name, the whole job.

@@ -61,7 +61,7 @@ fn next_reason(
     option: &str,
     rest: &[&str],
 ) -> Result<Option<Reason>, AllocError>
-    ensures { IfOk result (λ r. r ≡ spec.next_reason (known_of known.entry) option.now (map (λ s. s.now) rest.now)) }
+    ensures { IfOk result (λ r. r ≡ spec.next_reason (known_of known) option.now (map (λ s. s.now) rest.now)) }
 {
     let Some(value) = rest.first() else {
         return Ok(Some(Reason::NoValue));
@@ -84,7 +84,7 @@ fn value_reason(
     value: Option<&str>,
     rest: &[&str],
 ) -> Result<Option<Reason>, AllocError>
-    ensures { IfOk result (λ r. r ≡ spec.value_reason (known_of known.entry) option.now
+    ensures { IfOk result (λ r. r ≡ spec.value_reason (known_of known) option.now
         (option_map (λ s. s.now) value.entry) (map (λ s. s.now) rest.now)) }
 {
     let Some(value) = value else {
@@ -106,7 +106,7 @@ fn known_reason(
     value: Option<&str>,
     rest: &[&str],
 ) -> Result<Option<Reason>, AllocError>
-    ensures { IfOk result (λ r. r ≡ spec.known_reason (known_of known.entry) takes_value option.now
+    ensures { IfOk result (λ r. r ≡ spec.known_reason (known_of known) takes_value option.now
         (option_map (λ s. s.now) value.entry) (map (λ s. s.now) rest.now)) }
 {
     if takes_value {
@@ -126,8 +126,8 @@ fn option_reason(
     word: &str,
     rest: &[&str],
 ) -> Result<Option<Reason>, AllocError>
-    ensures { IfOk result (λ r. r ≡ spec.option_reason (known_of known.entry)
-        ((known_of known.entry).takes_value (spec.option_in word.now)) (map (λ s. s.now) before.now)
+    ensures { IfOk result (λ r. r ≡ spec.option_reason (known_of known)
+        ((known_of known).takes_value (spec.option_in word.now)) (map (λ s. s.now) before.now)
         (spec.option_in word.now) (spec.value_in word.now) (map (λ s. s.now) rest.now)) }
 {
     let (option, value) = split_word(word);
@@ -140,7 +140,7 @@ fn option_reason(
 
 // Whether a word takes nothing else beside it.
 fn is_alone(known: KnownWords, word: &str) -> bool
-    ensures { result ≡ spec.is_alone (known_of known.entry) word.now }
+    ensures { result ≡ spec.is_alone (known_of known) word.now }
 {
     word == "--version" || known.stands_alone(word)
 }
@@ -158,7 +158,7 @@ fn alone_reason(before: &[&str], rest: &[&str]) -> Option<Reason>
 
 // Whether the words after a word are names of files.
 fn is_file_mark(known: KnownWords, word: &str) -> bool
-    ensures { result ≡ spec.is_file_mark (known_of known.entry) word.now }
+    ensures { result ≡ spec.is_file_mark (known_of known) word.now }
 {
     word == "--" && known.is_word(word)
 }
@@ -183,7 +183,7 @@ fn reason_at(
     word: &str,
     rest: &[&str],
 ) -> Result<Option<Reason>, AllocError>
-    ensures { IfOk result (λ r. r ≡ spec.reason_at (known_of known.entry) has_word (map (λ s. s.now) before.now)
+    ensures { IfOk result (λ r. r ≡ spec.reason_at (known_of known) has_word (map (λ s. s.now) before.now)
         word.now (map (λ s. s.now) rest.now)) }
 {
     if is_help(word) {
@@ -203,7 +203,7 @@ fn reason_at(
 
 // Whether a value is to come after a word.
 fn wants_value(known: KnownWords, word: &str) -> bool
-    ensures { result ≡ spec.wants_value (known_of known.entry) word.now }
+    ensures { result ≡ spec.wants_value (known_of known) word.now }
 {
     if !is_dashed(word) {
         return false;
@@ -220,7 +220,7 @@ fn first_word(
     words: &[&str],
 ) -> Result<Option<WordFault>, AllocError>
     ensures { IfOk result (λ r. r
-        ≡ spec.fault_from (known_of known.entry) [] false false (map (λ s. s.now) words.now)) }
+        ≡ spec.fault_from (known_of known) [] false false (map (λ s. s.now) words.now)) }
 {
     let (mut has_word, mut is_value) = (false, false);
     for place in 0..words.len() {
@@ -262,7 +262,7 @@ pub fn first_fault(
     known: KnownWords,
     words: &[&str],
 ) -> Result<Option<WordFault>, AllocError>
-    ensures { IfOk result (λ r. r ≡ spec.first_fault (known_of known.entry) (map (λ s. s.now) words.now)) }
+    ensures { IfOk result (λ r. r ≡ spec.first_fault (known_of known) (map (λ s. s.now) words.now)) }
 {
     match first_word(alloc, known, words)? {
         Some(fault) => Ok(Some(fault)),
@@ -273,7 +273,7 @@ pub fn first_fault(
 /// The first word that is neither an option nor a value, nor the name of a file.
 #[tactic(auto, unfolding(crate::specs::WordFaults::word_from))]
 pub fn word_beside<'a>(known: KnownWords, words: &[&'a str]) -> Option<&'a str>
-    ensures { option_map (λ s. s.now) result ≡ spec.word_beside (known_of known.entry) (map (λ s. s.now) words.now) }
+    ensures { option_map (λ s. s.now) result ≡ spec.word_beside (known_of known) (map (λ s. s.now) words.now) }
 {
     let mut is_value = false;
     for place in 0..words.len() {

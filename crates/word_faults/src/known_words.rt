@@ -81,28 +81,28 @@ fn kind_but(barred: Option<&'static str>, options: &[OptionRow], word: &str) -> 
 impl KnownWords {
     /// Returns whether a value follows the option of this word (`--NAME`); none if there is no such option.
     pub(crate) fn takes_value(self, option: &str) -> Option<bool>
-        ensures { result ≡ (spec.known_of self.entry).takes_value option.now }
+        ensures { result ≡ (spec.known_of self).takes_value option.now }
     {
         takes_value(kind_but(self.barred, self.options, option))
     }
 
     /// Returns whether the option takes this value.
     pub(crate) fn reads(self, alloc: Global, option: &str, value: &str) -> Result<bool, AllocError>
-        ensures { IfOk result (λ b. b ≡ (spec.known_of self.entry).reads option.now value.now) }
+        ensures { IfOk result (λ b. b ≡ (spec.known_of self).reads option.now value.now) }
     {
         reads(alloc, kind_but(self.barred, self.options, option), value)
     }
 
     /// Returns whether the word may stand beside the options; of `--`, whether names of files may follow it.
     pub(crate) fn is_word(self, word: &str) -> bool
-        ensures { result ≡ (spec.known_of self.entry).is_word word.now }
+        ensures { result ≡ (spec.known_of self).is_word word.now }
     {
         is_among(self.words, word)
     }
 
     /// Returns whether nothing may stand beside the word.
     pub(crate) fn stands_alone(self, word: &str) -> bool
-        ensures { result ≡ (spec.known_of self.entry).stands_alone word.now }
+        ensures { result ≡ (spec.known_of self).stands_alone word.now }
     {
         is_among(self.alone, word) || is_alone(kind_but(self.barred, self.options, word))
     }

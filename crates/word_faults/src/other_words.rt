@@ -22,7 +22,7 @@ fn report_words<E: Sink>(
     faults: &mut E,
 ) -> u8
     ensures { (input output : Device) → IsUntouched input → IsUntouched output →
-        TellsUsage (spec.usage_report (known_of known.entry) (map (λ s. s.now) words.now) usage.now) input output
+        TellsUsage (spec.usage_report (known_of known) (map (λ s. s.now) words.now) usage.now) input output
         (writes E.Sink faults.old faults.new) result
         ⊎ LacksMemory input output (writes E.Sink faults.old faults.new) result }
 {
@@ -50,7 +50,7 @@ pub fn answer_other_words<W: Sink, E: Sink>(
         spec.Prints (spec.version_text program.now) input (writes W.Sink output.old output.new)
         (writes E.Sink faults.old faults.new) result }
     ensures usage { (input : Device) → IsUntouched input → spec.is_version (map (λ s. s.now) words.now) ≡ false →
-        TellsUsage (spec.usage_report (known_of known.entry) (map (λ s. s.now) words.now) usage.now) input
+        TellsUsage (spec.usage_report (known_of known) (map (λ s. s.now) words.now) usage.now) input
         (writes W.Sink output.old output.new) (writes E.Sink faults.old faults.new) result
         ⊎ LacksMemory input (writes W.Sink output.old output.new) (writes E.Sink faults.old faults.new) result }
 {

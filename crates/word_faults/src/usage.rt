@@ -62,7 +62,7 @@ fn write_fault(
     fault: Option<WordFault>,
 ) -> Result<(), AllocError>
     ensures { OnOk result (string_bytes text.new
-        ≡ string_bytes text.old ++ spec.fault_line (known_of known.entry) (map (λ s. s.now) words.now) fault) }
+        ≡ string_bytes text.old ++ spec.fault_line (known_of known) (map (λ s. s.now) words.now) fault) }
 {
     let Some(WordFault { place, reason }) = fault else {
         return Ok(());
@@ -82,7 +82,7 @@ pub fn usage_report(
     usage: &str,
 ) -> Result<String, AllocError>
     ensures { IfOk result (λ text. string_bytes text
-        ≡ spec.usage_report (known_of known.entry) (map (λ s. s.now) words.now) usage.now) }
+        ≡ spec.usage_report (known_of known) (map (λ s. s.now) words.now) usage.now) }
 {
     let fault = first_fault(alloc, known, words)?;
     let mut text = String::new(alloc);

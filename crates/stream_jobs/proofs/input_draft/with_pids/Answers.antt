@@ -4,7 +4,7 @@ use Rattle.demux.specs.Shown.{finding_view}
 use Rattle.stream_jobs.specs.InputDrafts.{Leads, finished}
 use Rattle.stream_programs.specs.Association.{AssociationView}
 use Rattle.stream_programs.specs.Programs.{FoundProgramsView}
-use Rattle.stream_jobs.specs.GivenNames.{ServiceNameView}
+use Rattle.given_values.specs.GivenNames.{ServiceNameView}
 use Rattle.stream_jobs.specs.JobOptions.{JobOptionsView}
 use Rattle.stream_jobs.specs.JobPrograms.{JobProgramView, job_programs, all_program_warnings}
 use Rattle.stream_jobs.specs.JobInput.{service_warnings, with_streams}

@@ -1,10 +1,11 @@
 //! What is found in streams that are made by hand: a finding a packet.
 
 use demux::{Finding, Kind, Part, What};
+use given_values::{ClockBase, DeclareBy};
 use pes_packet::{PesHeader, Stamps};
 use psi_tables::check_word;
 use std::alloc::{AllocError, Global};
-use stream_jobs::{ClockBase, DeclareBy, JobInput, JobOptions, job_input};
+use stream_jobs::{JobInput, JobOptions, job_input};
 
 /// Findings, one after another.
 pub type Found = Vec<Finding<'static>>;

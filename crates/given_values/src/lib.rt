@@ -1,0 +1,13 @@
+//! Types of the values that the options of a job have: names, the base of the clock, and by what packets are declared.
+//!
+//! `ServiceName` and `NetworkName` are names in place of those of a stream (`specs/GivenNames`), `ClockBase` is what the system
+//! clock shows as a run begins, `DeclareBy` by what the packets of units are declared.
+#![tactic(auto)]
+
+mod clock_base;
+mod declare_by;
+mod given_names;
+
+pub use clock_base::ClockBase;
+pub use declare_by::DeclareBy;
+pub use given_names::{NetworkName, ServiceName};
