@@ -15,8 +15,8 @@ row_step q drain byte end below =
     rw e (rw s refl)
 
 -- bytes that arrive at a rate leave at no more than one a step after them
-pub row_pace : (byte drain last step : ℕ) → drain ≤ 2 ^ 28 → step ≤ 2 ^ 33 → last ≤ byte * 2 ^ 34 →
-    max (byte * drain) last + step ≤ (byte + 1) * 2 ^ 34
+pub row_pace : (byte drain last step : ℕ) → drain ≤ 2 ^ 56 → step ≤ 2 ^ 56 → last ≤ byte * 2 ^ 57 →
+    max (byte * drain) last + step ≤ (byte + 1) * 2 ^ 57
 row_pace byte drain last step slow short paced = omega (arith, mul-le-mul_left byte slow, short, paced)
 
 -- none is left

@@ -4,3 +4,5 @@ pub mod ByteRows
 pub mod DepartureWalks
 pub mod BufferCounts
 pub mod Residence
+pub mod PassedBytes
+pub mod PayloadWalks

@@ -9,7 +9,7 @@ use Rattle.clock27.specs.Peak.{Climbs, greatest_at}
 use Rattle.clock27.proofs.Peak.{departures_climb}
 use Rattle.clock27.proofs.Departures.{departures-append}
 use Rattle.unit_timing.specs.Schedule.{Packet}
-use Rattle.unit_timing.specs.Transport.{slots_of, of_payloads}
+use Rattle.unit_timing.specs.Transport.{slots_of, of_payloads, pes_left}
 use Rattle.decoder_buffers.specs.DepartureWalk.{left_from, left_ahead, packets_ahead}
 use Rattle.decoder_buffers.specs.declared.departures.Departures.{Departures}
 
@@ -31,7 +31,7 @@ climbs_fewer from zero es xs climbs = climbs
 climbs_fewer from (suc k) [] xs climbs = climbs
 climbs_fewer from (suc k) (e ∷ es) xs climbs = climbs_low from (suc e) (drop k es ++ xs) (omega (arith, climbs.0)) (climbs_fewer (suc e) k es xs climbs.1)
 
-payloads_climb : (packets : List Packet) (ds : List ℕ) (from : ℕ) → Climbs from ds → Climbs from (of_payloads packets ds)
+pub payloads_climb : (packets : List Packet) (ds : List ℕ) (from : ℕ) → Climbs from ds → Climbs from (of_payloads packets ds)
 unfolding of_payloads
 payloads_climb [] ds from climbs = unfold Climbs in tt
 payloads_climb (p ∷ packets) ds from climbs =
@@ -46,6 +46,13 @@ left_climb step last rx byte left packets pos =
     climbs_put (suc last) (departures step last row) (departures step (last_left step last row) rest) (of_payloads packets (departures step (last_left step last row) rest))
     (rw (sym (departures-append step last row rest)) (departures_climb step last (row ++ rest) pos))
     (payloads_climb packets (departures step (last_left step last row) rest))
+
+-- payload bytes leave a buffer one after another
+pub left_climbs : (step r : ℕ) (packets : List Packet) → 0 < step → Climbs 0 (pes_left step r 0 packets)
+left_climbs step r packets pos =
+    let low : 0 ≤ 1 = omega arith in
+    let times = arrivals r (slots_of packets) in
+    climbs_low 0 1 (of_payloads packets (departures step 0 times)) low (payloads_climb packets (departures step 0 times) 1 (departures_climb step 0 times pos))
 
 -- what a walk gives climbs
 pub ahead_climbs : (w : Departures) → 0 < w.queue.step → Climbs (suc w.queue.last) (left_ahead w)

@@ -18,13 +18,13 @@ pub struct Departures<'a> {
     /// The next payload byte of the packet under way, by its number in the output, and the number of those left.
     pub byte: u64,
     pub left: u64,
-    pub ghost slow: { rx ≤ 200000000 },
+    pub ghost slow: { rx ≤ 40000000000000000 },
     pub ghost positive: { 0 < queue.step },
-    pub ghost step: { queue.step ≤ 100000000 },
+    pub ghost step: { queue.step ≤ 20000000000000000 },
     pub ghost inner: { queue.longest_residence ≤ queue.last },
     pub ghost inside: { byte + left ≤ 188 * index },
     pub ghost bounded: { index + length packets.now < 2 ^ 56 },
-    pub ghost paced: { queue.last ≤ byte * 2 ^ 34 },
+    pub ghost paced: { queue.last ≤ byte * 2 ^ 57 },
 }
 
 impl<'a> Departures<'a> {
@@ -37,9 +37,9 @@ impl<'a> Departures<'a> {
     /// A walk from the first packet of the output on.
     #[tactic(auto, unfolding(crate::specs::DepartureWalk::left_ahead, crate::specs::DepartureWalk::walk_residence, clock27::specs::Arrival::bytes_from, clock27::specs::Departure::departures, clock27::specs::Departure::last_left))]
     pub fn new(pid: u16, rx: u64, rate: u64, packets: &'a [[u8; 188]]) -> Departures<'a>
-        requires rx { rx ≤ 200000000 }
+        requires rx { rx ≤ 40000000000000000 }
         requires positive { 0 < rate }
-        requires rate { rate ≤ 100000000 }
+        requires rate { rate ≤ 20000000000000000 }
         requires count { 188 * length packets.now < 2 ^ 63 }
         ensures ahead { left_ahead result ≡ pes_left rate rx 0 (packets_from pid 0 packets.entry.now) }
         ensures longest_residence { walk_residence result

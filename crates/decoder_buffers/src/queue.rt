@@ -27,8 +27,8 @@ impl Queue {
 
     /// A byte arrives; the time at which it leaves.
     pub fn arrive(&mut self, time: u128) -> u128
-        requires time { time < 2 ^ 100 }
-        requires last { self.old.last < 2 ^ 100 }
+        requires time { time < 2 ^ 124 }
+        requires last { self.old.last < 2 ^ 124 }
         ensures left { result ≡ max time self.old.last + self.old.step }
         ensures state { self.new ≡ arrived self.old time }
     {
@@ -41,7 +41,7 @@ impl Queue {
     /// The most bytes that were in the buffer together.
     pub fn peak(&self) -> u128
         requires step { 0 < self.now.step }
-        requires longest_residence { self.now.longest_residence < 2 ^ 100 }
+        requires longest_residence { self.now.longest_residence < 2 ^ 124 }
         ensures { result ≡ bytes_within self.now.step self.now.longest_residence }
     {
         (self.longest_residence + (u128::from(self.step) - 1)) / u128::from(self.step)
@@ -50,13 +50,13 @@ impl Queue {
 
 /// `count` bytes arrive, from byte `from` of the output on, each `drain` after the one before.
 pub fn arrive_row(queue: &mut Queue, drain: u64, from: u64, count: u64)
-    requires drain { drain ≤ 2 ^ 28 }
-    requires step { queue.old.step ≤ 2 ^ 33 }
-    requires last { queue.old.last ≤ from * 2 ^ 34 }
+    requires drain { drain ≤ 2 ^ 56 }
+    requires step { queue.old.step ≤ 2 ^ 56 }
+    requires last { queue.old.last ≤ from * 2 ^ 57 }
     requires longest_residence { queue.old.longest_residence ≤ queue.old.last }
     requires end { from + count < 2 ^ 64 }
     ensures state { queue.new ≡ all_arrived queue.old (bytes_from drain from count) }
-    ensures last { queue.new.last ≤ (from + count) * 2 ^ 34 }
+    ensures last { queue.new.last ≤ (from + count) * 2 ^ 57 }
     ensures longest_residence { queue.new.longest_residence ≤ queue.new.last }
 {
     for byte in from..from + count {

@@ -8,14 +8,19 @@ use Rattle.tstd.specs.Measured.{Measured, StreamsMeasured, SystemsMeasured, late
 use Rattle.tstd.specs.Refusals.{is_declared, cause}
 use Rattle.tstd.specs.declared.fullness.StreamFullness.{StreamFullness}
 use Rattle.tstd.specs.declared.fullness.SystemFullness.{SystemFullness}
+use Rattle.tstd.specs.declared.fullness.VideoFullness.{VideoFullness}
+use Rattle.unit_timing.specs.declared.multiplexing_buffer.MultiplexingBuffer.{MultiplexingBuffer}
 use Rattle.mux_core.specs.Scheduled.{Scheduled}
 use Rattle.mux_core.specs.Headline.{Headline}
 
--- no unit is late, and no buffer is ever fuller than its size
+-- no unit is late, and no buffer is ever fuller than its size; of a stream with a multiplexing buffer a unit is late that is not
+-- whole in the elementary stream buffer by its stamp, and neither of these two buffers is fuller than its size
 pub record FindsNoFault (d : Described) (found : Measured) : Type 0 where
   pub none_late : found.late ≡ None
   pub streams : (k : ℕ) (s : DescribedStream) (f : StreamFullness) → slice_get d.streams k ≡ Some s → slice_get found.streams k ≡ Some f →
       (f.transport ≤ 512) × (f.main ≤ s.main)
+  pub videos : (k : ℕ) (s : DescribedStream) (f : StreamFullness) (b : MultiplexingBuffer) (v : VideoFullness) → slice_get d.streams k ≡ Some s →
+      slice_get found.streams k ≡ Some f → s.multiplexing ≡ Some b → f.video ≡ Some v → (v.multiplexing ≤ b.size) × (v.elementary ≤ s.main)
   pub programs : (i : ℕ) (p : DescribedProgram) (f : SystemFullness) → slice_get d.programs i ≡ Some p → slice_get found.programs i ≡ Some f →
       (f.transport ≤ 512) × (f.system ≤ 1536)
 

@@ -1,5 +1,6 @@
 -- The greatest fullness of a buffer is known from the longest residence of a byte in it.
-use Rattle.std.proofs.Common.{◌≡◌, ◌∙◌, ℕ, ◌*◌, ◌≤◌, ◌<◌, List, [], ◌∷◌, length, refl, arith}
+use Rattle.std.proofs.Common.{◌≡◌, ◌∙◌, ℕ, ◌*◌, ◌≤◌, ◌<◌, max, Option, Some, None, List, [], ◌∷◌, length, refl, ap, arith}
+use Rattle.std.proofs.Math.Nat.{mul-pos}
 use Rattle.std.proofs.lemmas.List.{length-append}
 use Rattle.clock27.specs.Arrival.{bytes_from, arrivals}
 use Rattle.clock27.specs.Departure.{departures}
@@ -12,7 +13,14 @@ use Rattle.decoder_buffers.specs.declared.queue.Queue.{Queue}
 use Rattle.tstd.specs.declared.fullness.SystemFullness.{SystemFullness}
 use Rattle.tstd.specs.Measured.{IsSystemFullness}
 use Rattle.decoder_buffers.specs.Queues.{all_arrived, greatest_residence, bytes_within}
-use Rattle.decoder_buffers.proofs.RisingTimes.{climbs_low}
+use Rattle.description.specs.Described.{DescribedStream}
+use Rattle.description.specs.Ranges.{IsStream, IsMultiplexingBuffer}
+use Rattle.std.proofs.lemmas.List.Elements.{All-head}
+use Rattle.unit_timing.specs.declared.multiplexing_buffer.MultiplexingBuffer.{MultiplexingBuffer}
+use Rattle.unit_timing.specs.Schedule.{Packet}
+use Rattle.unit_timing.specs.VideoBuffers.{multiplexing_entered, multiplexing_fullness}
+use Rattle.decoder_buffers.specs.MultiplexingQueue.{residence_in, peak_in}
+use Rattle.decoder_buffers.proofs.RisingTimes.{climbs_low, left_climbs}
 use Rattle.decoder_buffers.proofs.Residence.{most_residence, longest_arrived}
 use Rattle.decoder_buffers.proofs.ByteRows.{length-row}
 
@@ -53,3 +61,23 @@ tables_bytes rate slots f is =
     let first = peak_few f.transport (arrivals 2000000 slots) (departures (2 * rate) 0 (arrivals 2000000 slots)) is.transport in
     let second = peak_few f.system (departures (2 * rate) 0 (arrivals 2000000 slots)) (departures (25 * rate) 0 (departures (2 * rate) 0 (arrivals 2000000 slots))) is.system in
     (omega (arith, all, first), omega (arith, all, second, length-departures (2 * rate) 0 (arrivals 2000000 slots)))
+
+-- of the payload bytes of a PID that pass a multiplexing buffer
+pub video_peak : (o : Option Queue) (rate rx rbx n : ℕ) (packets : List Packet) → 0 < rate → 0 < rx → 0 < rbx →
+    residence_in o [] ≡ (rx * rate, greatest_residence (rx * rate) 0 (multiplexing_entered rate rx rbx packets)) → n ≡ peak_in o →
+    IsPeak (λ x. multiplexing_fullness rate rx rbx x packets) n
+unfolding residence_in peak_in greatest_residence
+video_peak None rate rx rbx n packets some drain leak is most =
+    let none : 0 ≡ rx * rate = ap (λ (both : ℕ × ℕ). both.0) is in
+    let pos : 0 < rx * rate = mul-pos drain some in
+    absurd (omega (arith, none, pos))
+video_peak (Some q) rate rx rbx n packets some drain leak is most =
+    let step : q.step ≡ rx * rate = ap (λ (both : ℕ × ℕ). both.0) is in
+    let longest : max q.longest_residence 0 ≡ greatest_residence (rx * rate) 0 (multiplexing_entered rate rx rbx packets) = ap (λ (both : ℕ × ℕ). both.1) is in
+    let pos : 0 < rx * rate = mul-pos drain some in
+    rw (most, step) (residence_peak (rx * rate) q.longest_residence (multiplexing_entered rate rx rbx packets) pos
+    (left_climbs (rbx * rate) (rx * rbx) packets (mul-pos leak some)) (omega (arith, longest)))
+
+-- the numbers of a stream's multiplexing buffer are in their ranges
+pub leak_range : (s : DescribedStream) (b : MultiplexingBuffer) → IsStream s → s.multiplexing ≡ Some b → IsMultiplexingBuffer s.rx b
+leak_range s b stream is = All-head (IsMultiplexingBuffer s.rx) b [] (rw is at stream.multiplexing)

@@ -13,13 +13,14 @@ use Rattle.unit_timing.specs.MainBuffer.{mb_fullness}
 use Rattle.unit_timing.specs.Schedule.{Packet}
 use Rattle.unit_timing.specs.PesPacket.{PesPacket}
 use Rattle.unit_timing.specs.Transport.{slots_of, of_payloads}
-use Rattle.decoder_buffers.specs.declared.departures.Departures.{Departures}
+use Rattle.decoder_buffers.specs.declared.payload_bytes.PayloadBytes.{PayloadBytes}
 use Rattle.decoder_buffers.specs.declared.main_buffer.MainBuffer.{MainBuffer}
 use Rattle.unit_arrival.specs.Entry.{peak_of}
 use Rattle.decoder_buffers.specs.BufferState.{fullness_at}
 use Rattle.decoder_buffers.specs.PidPackets.{size_in, listed, packets_from}
 use Rattle.tstd.specs.PacketLists.{payload_in, payloads_from, is_of_tables, tables_from}
-use Rattle.decoder_buffers.specs.DepartureWalk.{left_ahead, given}
+use Rattle.decoder_buffers.specs.DepartureWalk.{given}
+use Rattle.decoder_buffers.specs.PayloadBytes.{bytes_ahead, drain_of}
 use Rattle.decoder_buffers.proofs.RisingTimes.{climbs_low, greatest_ext}
 
 listed_climb : (index : ℕ) (o : Option ℕ) (packets : List Packet) → Climbs (suc index) (slots_of packets) → Climbs index (slots_of (listed index o packets))
@@ -57,6 +58,19 @@ payloads_few (p ∷ packets) ds =
       payloads_few packets (drop 188 ds),
     ))
 
+-- nor more than there are bytes
+pub payload_count : (packets : List Packet) (ds : List ℕ) → length (of_payloads packets ds) ≤ length ds
+unfolding of_payloads
+payload_count [] ds = omega arith
+payload_count (p ∷ packets) ds = omega (
+  arith,
+  length-append (drop (188 - p.size) (take 188 ds)) (of_payloads packets (drop 188 ds)),
+  length-drop (188 - p.size) (take 188 ds),
+  length-take 188 ds,
+  length-drop 188 ds,
+  payload_count packets (drop 188 ds),
+)
+
 -- at the end of a walk nothing is given
 pub none_given : (o : Option ℕ) (rest ahead : List ℕ) → ahead ≡ [] → ahead ≡ given o rest → o ≡ None
 none_given None rest ahead none is = refl
@@ -69,12 +83,12 @@ plain_most before peak first rate rx rate' rx' pes_packets left left' none start
     omega (arith, rw (start, same_rate, same_rx, same) at is, all)
 
 -- what a walk from an empty buffer to its end has found
-pub most_found_all : {A : Type 0} (walk walk' : Departures) (buffer buffer' : MainBuffer A) (rate rx : ℕ) (pes_packets : List PesPacket) (left : List ℕ) →
-    ((x : ℕ) → fullness_at buffer x ≡ 0) → buffer.peak ≡ 0 → walk.queue.step ≡ rate → walk.rx ≡ rx → left_ahead walk ≡ left → left_ahead walk' ≡ [] →
+pub most_found_all : {A : Type 0} (walk walk' : PayloadBytes) (buffer buffer' : MainBuffer A) (rate rx : ℕ) (pes_packets : List PesPacket) (left : List ℕ) →
+    ((x : ℕ) → fullness_at buffer x ≡ 0) → buffer.peak ≡ 0 → walk.rate ≡ rate → drain_of walk ≡ rx → bytes_ahead walk ≡ left → bytes_ahead walk' ≡ [] →
     peak_of walk' buffer' [] ≡ peak_of walk buffer pes_packets → buffer'.peak ≡ greatest_at (λ x. mb_fullness rate rx x pes_packets left) left
 unfolding greatest_at
 most_found_all walk walk' buffer buffer' rate rx pes_packets left none start same_rate same_rx same ended is =
-    plain_most (fullness_at buffer) buffer'.peak buffer.peak rate rx walk.queue.step walk.rx pes_packets left (left_ahead walk) none start same_rate same_rx same
+    plain_most (fullness_at buffer) buffer'.peak buffer.peak rate rx walk.rate (drain_of walk) pes_packets left (bytes_ahead walk) none start same_rate same_rx same
     (let e : peak_of walk' buffer' [] ≡ max buffer'.peak 0 = rw ended refl in sym e ∙ is)
 
 -- ---- over the bytes

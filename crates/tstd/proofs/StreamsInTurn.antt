@@ -19,7 +19,7 @@ use Rattle.tstd.specs.Carried.{timed_pes_packets, packets_on, table_packets, car
 use Rattle.tstd.specs.StreamFit.{fits_of}
 use Rattle.decoder_buffers.specs.PidPackets.{packets_from}
 use Rattle.tstd.specs.PacketLists.{payloads_from, tables_from}
-use Rattle.tstd.specs.Measured.{IsStreamFullness, IsSystemFullness, late_of, late_or, late_from}
+use Rattle.tstd.specs.Measured.{IsStreamFullness, IsSystemFullness, late_in, late_or, late_from}
 use Rattle.tstd.specs.Refusals.{is_declared, all_carried}
 use Rattle.tstd.proofs.CarriedBytes.{beginning_few, sizes_joined}
 use Rattle.tstd.proofs.StreamPackets.{packets_same, payloads_same, tables_same, sizes_same}
@@ -91,7 +91,7 @@ unfolding all_carried
 carried_end d units bytes all i over = rw (drop_all i all over) refl
 
 pub late_step : (d : Described) (units : List (ℕ × AccessUnit)) (bytes : List ℕ) (all : List DescribedStream) (u : DescribedStream) (i : ℕ) (late : Option LateUnit) (first : Option ℕ) →
-    i < length all → u ≡ get_or all i u → first ≡ late_of d.rate d.base0 (length bytes / 188) u (units_of i units) (packets_on u.pid bytes) →
+    i < length all → u ≡ get_or all i u → first ≡ late_in d.rate d.base0 (length bytes / 188) u (units_of i units) (packets_on u.pid bytes) u.multiplexing →
     option_or (option_or late (late_or i first None)) (late_from d units bytes (i + 1) (drop (i + 1) all)) ≡ option_or late (late_from d units bytes i (drop i all))
 unfolding late_from
 late_step d units bytes all u i late first below at is =
@@ -156,9 +156,9 @@ declared_fit d number s (u ∷ units) there stream all =
 
 pub late_same : (rate rate' base0 base0' n : ℕ) (s : DescribedStream) (units : List AccessUnit) (bytes : List ℕ) (chunks : List (List ℕ)) → rate' ≡ rate → base0' ≡ base0 →
     n ≡ length bytes / 188 → chunks ≡ cut_packets bytes →
-    late_of rate' base0' n s units (packets_from s.pid 0 chunks) ≡ late_of rate base0 (length bytes / 188) s units (packets_on s.pid bytes)
+    late_in rate' base0' n s units (packets_from s.pid 0 chunks) s.multiplexing ≡ late_in rate base0 (length bytes / 188) s units (packets_on s.pid bytes) s.multiplexing
 late_same rate rate' base0 base0' n s units bytes chunks same_rate same_base count cut =
-    rw (same_rate, same_base, count, cut) (ap (late_of rate base0 (length bytes / 188) s units) (sym (packets_same s.pid 0 (cut_packets bytes))))
+    rw (same_rate, same_base, count, cut) (ap (λ (ps : List Packet). late_in rate base0 (length bytes / 188) s units ps s.multiplexing) (sym (packets_same s.pid 0 (cut_packets bytes))))
 
 pub full_same : (rate rate' base0 base0' : ℕ) (s : DescribedStream) (units : List AccessUnit) (packets : List Packet) (f : StreamFullness) → rate' ≡ rate → base0' ≡ base0 →
     IsStreamFullness rate' base0' s units packets f → IsStreamFullness rate base0 s units packets f

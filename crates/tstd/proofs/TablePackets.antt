@@ -1,5 +1,5 @@
 -- The packets of a program's tables pass two buffers.
-use Rattle.std.proofs.Common.{◌≡◌, ℕ, suc, ◌+◌, ◌-◌, ◌*◌, ◌≤◌, ◌<◌, max, true, false, List, [], ◌∷◌, length, drop, get_or, refl, ap, sym, arith, add-one, inl, inr}
+use Rattle.std.proofs.Common.{◌≡◌, ℕ, suc, ◌+◌, ◌-◌, ◌*◌, ◌^◌, ◌≤◌, ◌<◌, max, true, false, List, [], ◌∷◌, length, drop, get_or, refl, ap, sym, arith, add-one, inl, inr}
 use Rattle.std.proofs.Math.Seq.{drop-cons}
 use Rattle.std.proofs.lemmas.Bool.{cases_Bool}
 use Rattle.std.proofs.lemmas.List.{drop_all}
@@ -30,6 +30,10 @@ unfolding bytes_from departures
 pass_end q p byte end le =
     let e : end - byte ≡ 0 = omega arith in
     rw e refl
+
+-- a byte leaves the first no more than one of its steps after one before it
+pub pass_pace : (byte last step : ℕ) → step ≤ 2 ^ 33 → last ≤ byte * 2 ^ 34 → max (byte * 2000000) last + step ≤ (byte + 1) * 2 ^ 34
+pass_pace byte last step short paced = omega (arith, short, paced)
 
 -- the first of the packets from i on enters them
 pub tables_own : (pmt_pid i : ℕ) (chunks : List (List ℕ)) (d : List ℕ) → i < length chunks → is_of_tables pmt_pid (packet_at (get_or chunks i d)) ≡ true →

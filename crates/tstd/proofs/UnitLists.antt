@@ -52,3 +52,8 @@ late_more rate rx slots number size due late is pes_packets left left' rate' rx'
 
 pub fewer_left : (size total : ℕ) (left : List ℕ) → length left ≤ size + total → length (drop size left) ≤ total
 fewer_left size total left le = omega (arith, length-drop size left, le)
+
+-- the first late unit on the scale of a walk is that on the scale which the walk has
+pub late_found : (rate rate' drain drain' slots slots' : ℕ) (late : Option ℕ) (pes_packets : List PesPacket) (left left' : List ℕ) → rate' ≡ rate → drain' ≡ drain → slots' ≡ slots → left' ≡ left →
+    late ≡ first_late rate' drain' slots' 0 pes_packets left' → late ≡ first_late rate drain slots 0 pes_packets left
+late_found rate rate' drain drain' slots slots' late pes_packets left left' same_rate same_drain same_slots same is = rw (same_rate, same_drain, same_slots, same) at is

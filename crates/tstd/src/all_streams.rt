@@ -68,7 +68,7 @@ pub fn measure_streams<A: Allocator + Clone, B: Allocator>(
     let mut late = None;
     for (number, stream) in description.streams().iter().enumerate() {
         let (fullness, first) = measure_stream(
-            alloc.clone()?,
+            alloc,
             rate,
             description.base0(),
             number as u8,

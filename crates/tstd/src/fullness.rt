@@ -10,6 +10,17 @@ pub struct StreamFullness {
     pub transport: u64,
     /// In its main buffer.
     pub main: u64,
+    /// In the two buffers that the main buffer of video is, if the stream has a multiplexing buffer.
+    pub video: Option<VideoFullness>,
+}
+
+/// The greatest numbers of bytes that the buffers of a video stream hold after its transport buffer, over all moments.
+#[derive(Clone, Copy, Debug, PartialEq, Eq)]
+pub struct VideoFullness {
+    /// In its multiplexing buffer MB.
+    pub multiplexing: u64,
+    /// In the elementary stream buffer EB after it.
+    pub elementary: u64,
 }
 
 /// The greatest numbers of bytes that the buffers of a program's tables hold, over all moments.
@@ -21,7 +32,8 @@ pub struct SystemFullness {
     pub system: u64,
 }
 
-/// A unit that has not left its transport buffer whole by its decoding time.
+/// A unit that has not left its transport buffer whole by its decoding time, or, of a stream with a multiplexing buffer,
+/// is not whole in its elementary stream buffer by then.
 #[derive(Clone, Copy, Debug, PartialEq, Eq)]
 pub struct LateUnit {
     /// The number of its stream in the description, from 0.

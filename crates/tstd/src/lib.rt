@@ -3,8 +3,8 @@
 //!
 //! [`measure`] is the whole: `specs/Measured` says what it finds, over the buffer model of docs/TIMING.md, and
 //! `specs/Refusals` what it refuses. The modules, from the bottom up: `fullness` and `refusal` are its results;
-//! `packets` reads what a packet carries; `units` and `streams` measure the units of a stream in its two buffers, one
-//! after another (`unit_arrival`, over the buffers of `decoder_buffers`); `tables` are a program's two buffers;
+//! `packets` reads what a packet carries; `units` and `streams` measure the units of a stream in its two buffers, or in the
+//! three of video, one after another (`unit_arrival`, over the buffers of `decoder_buffers`); `tables` are a program's two buffers;
 //! `payloads` and `carried` compare payloads with units; `unreadable` and `declared` are the other tests of what is
 //! given; `all_streams` goes through the streams and programs of a description.
 #![tactic(auto)]
@@ -22,6 +22,6 @@ mod tables;
 mod units;
 mod unreadable;
 
-pub use fullness::{Fullness, LateUnit, StreamFullness, SystemFullness};
+pub use fullness::{Fullness, LateUnit, StreamFullness, SystemFullness, VideoFullness};
 pub use measurement::measure;
 pub use refusal::MeasureError;

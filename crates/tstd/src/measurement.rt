@@ -14,8 +14,9 @@ use std::alloc::Allocator;
 
 /// Measures the finished bytes of a transport stream, from its first packet on, with the units that it carries, each
 /// with the number of its stream: the greatest number of bytes that each buffer of the decoder model holds over all
-/// moments, and the first unit that is due in the run and has not left its transport buffer whole by its decoding time
-/// (ISO/IEC 13818-1, 2.4.2.3). Stamps count units of 90 kHz from the first byte, and may be in any order. Packets with
+/// moments, and the first unit that is due in the run and has not left its transport buffer whole by its decoding time,
+/// or, of a stream with a multiplexing buffer, is not whole in its elementary stream buffer by then (ISO/IEC 13818-1,
+/// 2.4.2.3). Stamps count units of 90 kHz from the first byte, and may be in any order. Packets with
 /// the error indicator are left out.
 pub fn measure<A: Allocator + Clone, B: Allocator>(
     alloc: A,
@@ -26,7 +27,7 @@ pub fn measure<A: Allocator + Clone, B: Allocator>(
     // Which refusal is given, and when none.
     ensures refused { Answers result (cause description.now units.now bytes.now) }
 
-    // How full the two buffers of each stream become.
+    // How full the buffers of each stream become.
     ensures streams { IfOk result (λ found. StreamsMeasured description.now units.now bytes.now found.streams) }
 
     // How full the two buffers of each program's tables become.

@@ -8,9 +8,9 @@ ghost use Rattle.pes_packet.specs.Units.{units_of};
 ghost use Rattle.tstd.specs.Carried.{timed_pes_packets};
 ghost use Rattle.unit_arrival.specs.Entry.{peak_of};
 ghost use Rattle.decoder_buffers.specs.BufferState.{IsSound};
-ghost use Rattle.decoder_buffers.specs.DepartureWalk.{left_ahead, walk_residence};
+ghost use Rattle.decoder_buffers.specs.PayloadBytes.{bytes_ahead, residences, drain_of};
 
-use decoder_buffers::{Departures, MainBuffer};
+use decoder_buffers::{MainBuffer, PayloadBytes};
 use pes_packet::{Unit, packet_size};
 use std::alloc::{AllocError, Allocator};
 use unit_arrival::measure_unit;
@@ -50,7 +50,7 @@ fn first_of(late: Option<u64>, is_late: bool, number: u64) -> Option<u64>
 /// Measures the units of a stream, which go from one buffer into the other, in a run of `slots` slots; the number of
 /// the first late one.
 pub fn measure_units<A: Allocator, B: Allocator>(
-    walk: &mut Departures<'_>,
+    walk: &mut PayloadBytes<'_>,
     buffer: &mut MainBuffer<A>,
     slots: u64,
     base0: u64,
@@ -58,19 +58,21 @@ pub fn measure_units<A: Allocator, B: Allocator>(
     units: &[(u8, Unit<B>)],
 ) -> Result<Option<u64>, AllocError>
     requires sound { IsSound buffer.old }
-    requires fullness { buffer.old.fullness ≤ walk.old.byte }
-    requires carried { (id : ℕ) × (length (left_ahead walk.old)
+    requires fullness { buffer.old.fullness ≤ walk.old.transport.byte }
+    requires carried { (id : ℕ) × (length (bytes_ahead walk.old)
         ≤ sum_by (λ t. t.size) (timed_pes_packets id base0 (units_of stream units.now))) }
     ensures late { IfOk result (λ late. (id : ℕ) →
-        late ≡ first_late walk.old.queue.step walk.old.rx slots 0
-        (timed_pes_packets id base0 (units_of stream units.now)) (left_ahead walk.old)) }
+        late ≡ first_late walk.old.rate (drain_of walk.old) slots 0
+        (timed_pes_packets id base0 (units_of stream units.now)) (bytes_ahead walk.old)) }
     ensures peak { OnOk result ((id : ℕ) →
         peak_of walk.new buffer.new []
         ≡ peak_of walk.old buffer.old (timed_pes_packets id base0 (units_of stream units.now))) }
-    ensures left { OnOk result (left_ahead walk.new ≡ []) }
-    ensures longest_residence { OnOk result (walk_residence walk.new ≡ walk_residence walk.old) }
+    ensures left { OnOk result (bytes_ahead walk.new ≡ []) }
+    ensures residences { OnOk result (residences walk.new ≡ residences walk.old) }
+    ensures rate { OnOk result (walk.new.rate ≡ walk.old.rate) }
     ensures rx { OnOk result (walk.new.rx ≡ walk.old.rx) }
-    ensures step { OnOk result (walk.new.queue.step ≡ walk.old.queue.step) }
+    ensures rbx { OnOk result (walk.new.rbx ≡ walk.old.rbx) }
+    ensures step { OnOk result (walk.new.transport.queue.step ≡ walk.old.transport.queue.step) }
 {
     let mut late = None;
     let mut number = 0;

@@ -1,13 +1,15 @@
 -- Bytes that enter a main buffer one after another.
-use Rattle.std.proofs.Common.{◌≡◌, ◌∙◌, ℕ, suc, ◌+◌, ◌*◌, ◌/◌, ◌≤◌, ◌<◌, max, cond, nat_lt, List, [], ◌∷◌, take, drop, refl, sym, inl, inr, arith, All}
-use Rattle.std.proofs.lemmas.Bool.{cases_lt, le-leb, lt-ltb, le-ltb}
+use Rattle.std.proofs.Common.{◌≡◌, ◌∙◌, ℕ, suc, ◌+◌, ◌*◌, ◌/◌, ◌%◌, ◌≤◌, ◌<◌, max, min, cond, nat_lt, nat_le, Bool, true, false, List, [], ◌∷◌, length, take, drop, refl, sym, inl, inr, arith, All}
+use Rattle.std.proofs.lemmas.Bool.{cases_lt, le-leb, lt-leb, lt-ltb, le-ltb}
 use Rattle.std.proofs.lemmas.List.Elements.{All-take, All-drop}
 use Rattle.std.proofs.lemmas.List.Sums.{sum_by-cons}
 use Rattle.clock27.specs.Peak.{Climbs, greatest_at}
 use Rattle.unit_timing.specs.MainBuffer.{is_in_main_buffer, mb_fullness}
+use Rattle.std.specs.List.{list_all}
+use Rattle.unit_timing.specs.Arrived.{has_left}
 use Rattle.unit_timing.specs.PesPacket.{PesPacket}
 use Rattle.unit_timing.proofs.MainBufferBytes.{kept, kept_before}
-use Rattle.unit_arrival.specs.Removal.{removal_time}
+use Rattle.unit_arrival.specs.Removal.{removal_time, due_moment}
 use Rattle.decoder_buffers.specs.BufferedUnits.{one_buffered}
 use Rattle.unit_arrival.specs.Entry.{peak_ahead}
 use Rattle.decoder_buffers.proofs.RisingTimes.{climbs_following, greatest_same, greatest_ext}
@@ -62,3 +64,53 @@ pub text_entered : (rate r due : ℕ) (pes_packets : List PesPacket) (before : �
 text_entered rate r due pes_packets before left =
     greatest_ext (λ x. before x + mb_fullness rate r x (record { dts = due; size = 0 } ∷ pes_packets) left) (λ x. before x + mb_fullness rate r x pes_packets left) left
     (λ x. unfold mb_fullness in omega arith)
+
+-- a byte that has entered by the last moment that is not after a stamp has entered by the stamp
+pub in_time_test : (x limit : ℕ) → nat_le (x * 720000) limit ≡ nat_le x (limit / 720000)
+in_time_test x limit = elim (cases_lt (limit / 720000) x) [
+  | inl after ↦ lt-leb (x * 720000) limit (omega (arith, after)) ∙ sym (lt-leb x (limit / 720000) after)
+  | inr by ↦ le-leb (x * 720000) limit (omega (arith, by)) ∙ sym (le-leb x (limit / 720000) by)
+]
+
+-- the same of a unit that is due then
+pub left_test : (rate drain due last : ℕ) → nat_le (last * 720000) (due * rate * drain) ≡ nat_le last (due_moment rate drain due)
+left_test rate drain due last = in_time_test last (due * rate * drain)
+
+-- a quotient by parts
+scaled : (limit q r rbx : ℕ) → limit ≡ q * 720000 + r → limit * rbx ≡ (q * rbx) * 720000 + r * rbx
+scaled limit q r rbx is = rw is (omega arith)
+
+quotients : (a b c n : ℕ) → a ≡ b * 720000 + c → (a + n) / 720000 ≡ b + (c + n) / 720000
+quotients a b c n is = omega (arith, is)
+
+quotient : (a b c : ℕ) → a ≡ b * 720000 + c → a / 720000 ≡ b + c / 720000
+quotient a b c is = omega (arith, is)
+
+by_parts : (limit rbx : ℕ) → limit * rbx ≡ (limit / 720000 * rbx) * 720000 + limit % 720000 * rbx
+by_parts limit rbx = let is : limit ≡ limit / 720000 * 720000 + limit % 720000 = omega arith in scaled limit (limit / 720000) (limit % 720000) rbx is
+
+pub last_by_parts : (rate rx rbx due : ℕ) →
+    due * rate * rx / 720000 * rbx + due * rate * rx % 720000 * rbx / 720000 ≡ due_moment rate (rx * rbx) due
+last_by_parts rate rx rbx due =
+    let same : due * rate * (rx * rbx) ≡ due * rate * rx * rbx = omega arith in
+    rw same (sym (quotient (due * rate * rx * rbx) (due * rate * rx / 720000 * rbx) (due * rate * rx % 720000 * rbx) (by_parts (due * rate * rx) rbx)))
+
+ceiling : (x : ℕ) → x / 720000 + min 1 (x % 720000) ≡ (x + 719999) / 720000
+ceiling x = omega arith
+
+pub first_by_parts : (rate rx rbx due : ℕ) →
+    due * rate * rx / 720000 * rbx + (due * rate * rx % 720000 * rbx / 720000 + min 1 (due * rate * rx % 720000 * rbx % 720000)) ≡ removal_time rate (rx * rbx) due
+first_by_parts rate rx rbx due =
+    let same : due * rate * (rx * rbx) ≡ due * rate * rx * rbx = omega arith in
+    rw (same, ceiling (due * rate * rx % 720000 * rbx))
+    (sym (quotients (due * rate * rx * rbx) (due * rate * rx / 720000 * rbx) (due * rate * rx % 720000 * rbx) 719999 (by_parts (due * rate * rx) rbx)))
+
+-- whether a unit has left in time, of one whose bytes have all come, and of one whose bytes have not
+pub left_whole : (rate drain due size last moment : ℕ) (ahead : List ℕ) (in_time : Bool) → nat_le size (length ahead) ≡ true →
+    list_all (λ d. nat_le (d * 720000) (due * rate * drain)) (take size ahead) ≡ nat_le (last * 720000) (due * rate * drain) →
+    moment ≡ due_moment rate drain due → in_time ≡ nat_le last moment → has_left rate drain (record { dts = due; size = size }) ahead ≡ in_time
+left_whole rate drain due size last moment ahead in_time whole all by is =
+    rw (whole, all, left_test rate drain due last, is, by) refl
+
+pub left_short : (rate drain due size : ℕ) (ahead : List ℕ) → nat_le size (length ahead) ≡ false → has_left rate drain (record { dts = due; size = size }) ahead ≡ false
+left_short rate drain due size ahead short = rw short refl

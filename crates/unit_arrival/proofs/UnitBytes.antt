@@ -1,23 +1,24 @@
 -- The bytes of a text, taken one after another.
-use Rattle.std.proofs.Common.{◌≡◌, ℕ, zero, suc, ◌+◌, ◌*◌, ◌≤◌, ◌<◌, max, nat_le, nat_eq, ◌&&◌, ◌||◌, Bool, true, false, List, [], ◌∷◌, length, take, drop, refl, ap, subst, sym, inl, inr, arith}
+use Rattle.std.proofs.Common.{◌≡◌, ℕ, zero, suc, ◌+◌, ◌*◌, ◌≤◌, max, nat_le, nat_eq, ◌&&◌, ◌||◌, Bool, true, false, List, [], ◌∷◌, length, take, drop, refl, ap, subst, sym, inl, inr, arith}
 use Rattle.std.specs.List.{list_all}
 use Rattle.std.proofs.lemmas.Bool.{cases_Bool, leb-true, le-leb}
 use Rattle.std.proofs.lemmas.Bool.Decides.{nat_tests}
 use Rattle.clock27.specs.Peak.{Climbs, greatest_at}
 use Rattle.unit_timing.specs.MainBuffer.{mb_fullness}
 use Rattle.unit_timing.specs.PesPacket.{PesPacket}
-use Rattle.decoder_buffers.specs.declared.departures.Departures.{Departures}
+use Rattle.decoder_buffers.specs.declared.payload_bytes.PayloadBytes.{PayloadBytes}
 use Rattle.decoder_buffers.specs.declared.main_buffer.MainBuffer.{MainBuffer}
 use Rattle.unit_arrival.specs.Entry.{peak_of, peak_ahead}
 use Rattle.unit_arrival.specs.Removal.{removal_time}
 use Rattle.decoder_buffers.specs.BufferState.{fullness_at}
 use Rattle.decoder_buffers.specs.BufferedUnits.{one_buffered}
-use Rattle.decoder_buffers.specs.DepartureWalk.{left_ahead}
-use Rattle.decoder_buffers.proofs.RisingTimes.{ahead_climbs, greatest_ext}
+use Rattle.decoder_buffers.specs.PayloadBytes.{bytes_ahead, last_of, drain_of}
+use Rattle.decoder_buffers.proofs.RisingTimes.{greatest_ext}
+use Rattle.decoder_buffers.proofs.PayloadWalks.{bytes_climb}
 use Rattle.unit_arrival.proofs.EntryPeaks.{byte_entered, text_entered}
 
 -- a walk at its end
-pub most_none : {A : Type 0} (walk walk' : Departures) (buffer : MainBuffer A) (pes_packets pes_packets' : List PesPacket) → left_ahead walk ≡ [] → left_ahead walk' ≡ [] →
+pub most_none : {A : Type 0} (walk walk' : PayloadBytes) (buffer : MainBuffer A) (pes_packets pes_packets' : List PesPacket) → bytes_ahead walk ≡ [] → bytes_ahead walk' ≡ [] →
     peak_of walk' buffer pes_packets ≡ peak_of walk buffer pes_packets'
 unfolding greatest_at
 most_none walk walk' buffer pes_packets pes_packets' none none' = rw (none, none') refl
@@ -31,32 +32,32 @@ one_byte before after peak peak' rate rx rate' rx' due m d pes_packets left left
     rw (ahead, same_rx, same_rate) (omega (arith, best, byte_entered rate rx due m pes_packets before after d left' climbs counted))
 
 -- a byte goes from one buffer into the other
-pub most_byte : {A : Type 0} (walk walk' : Departures) (buffer buffer' : MainBuffer A) (due m d : ℕ) (pes_packets : List PesPacket) →
-    left_ahead walk ≡ d ∷ left_ahead walk' → walk'.queue.last ≡ d → 0 < walk'.queue.step → walk'.rx ≡ walk.rx → walk'.queue.step ≡ walk.queue.step →
+pub most_byte : {A : Type 0} (walk walk' : PayloadBytes) (buffer buffer' : MainBuffer A) (due m d : ℕ) (pes_packets : List PesPacket) →
+    bytes_ahead walk ≡ d ∷ bytes_ahead walk' → last_of walk' ≡ d → drain_of walk' ≡ drain_of walk → walk'.rate ≡ walk.rate →
     ((x : ℕ) → d ≤ x → fullness_at buffer' x ≡ fullness_at buffer x + one_buffered buffer.current.until x) →
-    buffer'.peak ≡ max buffer.peak (fullness_at buffer d + one_buffered buffer.current.until d) → buffer.current.until ≡ removal_time walk.queue.step walk.rx due →
+    buffer'.peak ≡ max buffer.peak (fullness_at buffer d + one_buffered buffer.current.until d) → buffer.current.until ≡ removal_time walk.rate (drain_of walk) due →
     peak_of walk' buffer' (record { dts = due; size = m } ∷ pes_packets) ≡ peak_of walk buffer (record { dts = due; size = suc m } ∷ pes_packets)
-most_byte walk walk' buffer buffer' due m d pes_packets ahead last pos rx step there peak until =
-    let climbs : Climbs (suc d) (left_ahead walk') = subst (λ (n : ℕ). Climbs (suc n) (left_ahead walk')) last (ahead_climbs walk' pos) in
-    let counted : (x : ℕ) → d ≤ x → fullness_at buffer' x ≡ fullness_at buffer x + one_buffered (removal_time walk.queue.step walk.rx due) x =
+most_byte walk walk' buffer buffer' due m d pes_packets ahead last drain rate there peak until =
+    let climbs : Climbs (suc d) (bytes_ahead walk') = subst (λ (n : ℕ). Climbs (suc n) (bytes_ahead walk')) last (bytes_climb walk') in
+    let counted : (x : ℕ) → d ≤ x → fullness_at buffer' x ≡ fullness_at buffer x + one_buffered (removal_time walk.rate (drain_of walk) due) x =
     λ x le. let one = ap (λ (n : ℕ). one_buffered n x) until in omega (arith, there x le, one) in
-    let best : buffer'.peak ≡ max buffer.peak (fullness_at buffer d + one_buffered (removal_time walk.queue.step walk.rx due) d) =
+    let best : buffer'.peak ≡ max buffer.peak (fullness_at buffer d + one_buffered (removal_time walk.rate (drain_of walk) due) d) =
     (let one = ap (λ (n : ℕ). one_buffered n d) until in omega (arith, peak, one)) in
-    one_byte (fullness_at buffer) (fullness_at buffer') buffer.peak buffer'.peak walk.queue.step walk.rx walk'.queue.step walk'.rx due m d pes_packets
-    (left_ahead walk) (left_ahead walk') ahead climbs rx step counted best
+    one_byte (fullness_at buffer) (fullness_at buffer') buffer.peak buffer'.peak walk.rate (drain_of walk) walk'.rate (drain_of walk') due m d pes_packets
+    (bytes_ahead walk) (bytes_ahead walk') ahead climbs drain rate counted best
 
 -- the text is whole
-pub most_whole : {A : Type 0} (walk : Departures) (buffer : MainBuffer A) (due : ℕ) (pes_packets : List PesPacket) →
+pub most_whole : {A : Type 0} (walk : PayloadBytes) (buffer : MainBuffer A) (due : ℕ) (pes_packets : List PesPacket) →
     peak_of walk buffer pes_packets ≡ peak_of walk buffer (record { dts = due; size = 0 } ∷ pes_packets)
 most_whole walk buffer due pes_packets =
-    ap (max buffer.peak) (sym (text_entered walk.queue.step walk.rx due pes_packets (fullness_at buffer) (left_ahead walk)))
+    ap (max buffer.peak) (sym (text_entered walk.rate (drain_of walk) due pes_packets (fullness_at buffer) (bytes_ahead walk)))
 
 -- a text begins
-pub most_begun : {A : Type 0} (walk : Departures) (buffer buffer' : MainBuffer A) (pes_packets : List PesPacket) → ((x : ℕ) → fullness_at buffer' x ≡ fullness_at buffer x) →
+pub most_begun : {A : Type 0} (walk : PayloadBytes) (buffer buffer' : MainBuffer A) (pes_packets : List PesPacket) → ((x : ℕ) → fullness_at buffer' x ≡ fullness_at buffer x) →
     buffer'.peak ≡ buffer.peak → peak_of walk buffer' pes_packets ≡ peak_of walk buffer pes_packets
 most_begun walk buffer buffer' pes_packets there peak =
-    let ahead = greatest_ext (λ x. fullness_at buffer' x + mb_fullness walk.queue.step walk.rx x pes_packets (left_ahead walk))
-    (λ x. fullness_at buffer x + mb_fullness walk.queue.step walk.rx x pes_packets (left_ahead walk)) (left_ahead walk) (λ x. omega (arith, there x)) in
+    let ahead = greatest_ext (λ x. fullness_at buffer' x + mb_fullness walk.rate (drain_of walk) x pes_packets (bytes_ahead walk))
+    (λ x. fullness_at buffer x + mb_fullness walk.rate (drain_of walk) x pes_packets (bytes_ahead walk)) (bytes_ahead walk) (λ x. omega (arith, there x)) in
     omega (arith, peak, ahead)
 
 -- the next of a list's entries

@@ -1,4 +1,5 @@
-//! Units in the buffers of their stream: from the transport buffer into the main buffer.
+//! Units in the buffers of their stream: from the transport buffer into the main buffer, or through a multiplexing buffer into the
+//! elementary stream buffer.
 ghost use Rattle.std.specs.Prelude.{◌≡◌, ℕ, ◌∷◌, ◌*◌, ◌<◌, ◌≤◌, ◌&&◌, not, nat_le};
 ghost use Rattle.std.specs.Prelude.{List, length, take, drop, IfOk, OnOk};
 ghost use Rattle.std.specs.List.{list_all};
@@ -7,32 +8,35 @@ ghost use Rattle.clock27.specs.Units.{byte_units_at_1bps};
 ghost use Rattle.unit_timing.specs.Arrived.{is_due, has_left};
 ghost use Rattle.unit_timing.specs.PesPacket.{PesPacket};
 ghost use Rattle.unit_arrival.specs.Entry.{peak_of, EntersUnit};
+ghost use Rattle.unit_arrival.specs.Removal.{removal_time, due_moment};
 ghost use Rattle.decoder_buffers.specs.BufferState.{IsSound};
-ghost use Rattle.decoder_buffers.specs.DepartureWalk.{left_ahead, walk_residence};
+ghost use Rattle.decoder_buffers.specs.PayloadBytes.{bytes_ahead, residences, last_of, drain_of};
 
 use clock27::{BYTE_UNITS_AT_1BPS, SLOT_UNITS_AT_1BPS};
-use decoder_buffers::{Departures, MainBuffer};
+use decoder_buffers::{MainBuffer, PayloadBytes};
 use std::alloc::{AllocError, Allocator};
 
 // A unit of this size goes from one buffer into the other; whether all its bytes come.
 fn enter_unit<A: Allocator>(
-    walk: &mut Departures<'_>,
+    walk: &mut PayloadBytes<'_>,
     buffer: &mut MainBuffer<A>,
     size: u64,
 ) -> bool
     requires sound { IsSound buffer.old }
-    requires fullness { buffer.old.fullness ≤ walk.old.byte }
-    ensures whole { result ≡ nat_le size (length (left_ahead walk.old)) }
-    ensures left { left_ahead walk.new ≡ drop size (left_ahead walk.old) }
+    requires fullness { buffer.old.fullness ≤ walk.old.transport.byte }
+    ensures whole { result ≡ nat_le size (length (bytes_ahead walk.old)) }
+    ensures left { bytes_ahead walk.new ≡ drop size (bytes_ahead walk.old) }
     ensures in_time { OnTrue result (0 < size → (limit : ℕ) →
-        list_all (λ d. nat_le (d * byte_units_at_1bps) limit) (take size (left_ahead walk.old))
-        ≡ nat_le (walk.new.queue.last * byte_units_at_1bps) limit) }
+        list_all (λ d. nat_le (d * byte_units_at_1bps) limit) (take size (bytes_ahead walk.old))
+        ≡ nat_le (last_of walk.new * byte_units_at_1bps) limit) }
     ensures peak { EntersUnit walk.old walk.new buffer.old buffer.new size }
-    ensures longest_residence { walk_residence walk.new ≡ walk_residence walk.old }
+    ensures residences { residences walk.new ≡ residences walk.old }
+    ensures rate { walk.new.rate ≡ walk.old.rate }
     ensures rx { walk.new.rx ≡ walk.old.rx }
-    ensures step { walk.new.queue.step ≡ walk.old.queue.step }
+    ensures rbx { walk.new.rbx ≡ walk.old.rbx }
+    ensures step { walk.new.transport.queue.step ≡ walk.old.transport.queue.step }
     ensures sound { IsSound buffer.new }
-    ensures fullness { buffer.new.fullness ≤ walk.new.byte }
+    ensures fullness { buffer.new.fullness ≤ walk.new.transport.byte }
 {
     let mut taken = 0;
     while taken < size {
@@ -45,35 +49,51 @@ fn enter_unit<A: Allocator>(
     true
 }
 
+// The stamp of a unit that is due at `due` units of 90 kHz, on the scale of a walk: the last moment that is not after it, and the
+// first that is not before it.
+fn moments_of(walk: &PayloadBytes<'_>, due: u64) -> (u128, u128)
+    ensures last { result.0 ≡ due_moment walk.now.rate (drain_of walk.now) due }
+    ensures first { result.1 ≡ removal_time walk.now.rate (drain_of walk.now) due }
+{
+    let limit = u128::from(due) * u128::from(walk.rate) * u128::from(walk.rx);
+    let whole = limit / BYTE_UNITS_AT_1BPS * u128::from(walk.rbx);
+    let rest = limit % BYTE_UNITS_AT_1BPS * u128::from(walk.rbx);
+    (
+        whole + rest / BYTE_UNITS_AT_1BPS,
+        whole + rest.div_ceil(BYTE_UNITS_AT_1BPS),
+    )
+}
+
 /// Measures the next unit, due at `due` units of 90 kHz, in a run of `slots` slots: whether it is due and late.
 pub fn measure_unit<A: Allocator>(
-    walk: &mut Departures<'_>,
+    walk: &mut PayloadBytes<'_>,
     buffer: &mut MainBuffer<A>,
     slots: u64,
     due: u64,
     size: u64,
 ) -> Result<bool, AllocError>
     requires sound { IsSound buffer.old }
-    requires fullness { buffer.old.fullness ≤ walk.old.byte }
+    requires fullness { buffer.old.fullness ≤ walk.old.transport.byte }
     requires positive { 0 < size }
     ensures late { let pes_packet : PesPacket = record { dts = due; size = size } in
-        IfOk result (λ late. late ≡ (is_due walk.old.queue.step slots pes_packet
-        && not (has_left walk.old.queue.step walk.old.rx pes_packet (left_ahead walk.old)))) }
-    ensures left { OnOk result (left_ahead walk.new ≡ drop size (left_ahead walk.old)) }
+        IfOk result (λ late. late ≡ (is_due walk.old.rate slots pes_packet
+        && not (has_left walk.old.rate (drain_of walk.old) pes_packet (bytes_ahead walk.old)))) }
+    ensures left { OnOk result (bytes_ahead walk.new ≡ drop size (bytes_ahead walk.old)) }
     ensures peak { OnOk result ((pes_packets : List PesPacket) →
         let pes_packet : PesPacket = record { dts = due; size = size } in
         peak_of walk.new buffer.new pes_packets ≡ peak_of walk.old buffer.old (pes_packet ∷ pes_packets)) }
-    ensures longest_residence { OnOk result (walk_residence walk.new ≡ walk_residence walk.old) }
+    ensures residences { OnOk result (residences walk.new ≡ residences walk.old) }
+    ensures rate { OnOk result (walk.new.rate ≡ walk.old.rate) }
     ensures rx { OnOk result (walk.new.rx ≡ walk.old.rx) }
-    ensures step { OnOk result (walk.new.queue.step ≡ walk.old.queue.step) }
+    ensures rbx { OnOk result (walk.new.rbx ≡ walk.old.rbx) }
+    ensures step { OnOk result (walk.new.transport.queue.step ≡ walk.old.transport.queue.step) }
     ensures sound { OnOk result (IsSound buffer.new) }
-    ensures fullness { OnOk result (buffer.new.fullness ≤ walk.new.byte) }
+    ensures fullness { OnOk result (buffer.new.fullness ≤ walk.new.transport.byte) }
 {
-    let limit = u128::from(due) * u128::from(walk.queue.step) * u128::from(walk.rx);
-    buffer.begin(limit.div_ceil(BYTE_UNITS_AT_1BPS))?;
+    let (last, until) = moments_of(walk, due);
+    buffer.begin(until)?;
     let whole = enter_unit(walk, buffer, size);
-    let in_time = whole && walk.queue.last * BYTE_UNITS_AT_1BPS <= limit;
-    let is_due = u128::from(due) * u128::from(walk.queue.step)
-        <= u128::from(slots) * SLOT_UNITS_AT_1BPS;
+    let in_time = whole && walk.last() <= last;
+    let is_due = u128::from(due) * u128::from(walk.rate) <= u128::from(slots) * SLOT_UNITS_AT_1BPS;
     Ok(is_due && !in_time)
 }

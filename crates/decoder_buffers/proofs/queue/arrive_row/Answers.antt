@@ -6,7 +6,7 @@ pub loop-byte-preserved : goal.loop-byte-preserved
 loop-byte-preserved c =
     let inv = c.loop-byte.invariant in
     let time : c.from.result * c.from-in-loop-byte.result ≡ c.loop-byte.byte * c.args.drain = rw (c.from.ensures, c.from-in-loop-byte.ensures) refl in
-    let short : c.loop-byte.queue.step ≤ 8589934592 = rw inv.step c.requires.step in
+    let short : c.loop-byte.queue.step ≤ 72057594037927936 = rw inv.step c.requires.step in
     rw (c.arrive.ensures.state, time) (record {
       step = inv.step;
       last = row_pace c.loop-byte.byte c.args.drain c.loop-byte.queue.last c.loop-byte.queue.step c.requires.drain short inv.last;

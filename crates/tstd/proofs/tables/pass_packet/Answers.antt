@@ -1,6 +1,6 @@
 use Rattle.std.proofs.Common.{◌≡◌, ◌∙◌, ◌+◌, ◌*◌, ◌≤◌, max, refl, arith}
-use Rattle.decoder_buffers.proofs.ByteRows.{row_step, row_pace, row_end}
-use Rattle.tstd.proofs.TablePackets.{pass_step, pass_end}
+use Rattle.decoder_buffers.proofs.ByteRows.{row_step, row_end}
+use Rattle.tstd.proofs.TablePackets.{pass_step, pass_pace, pass_end}
 use Rattle.tstd.proofs.tables.pass_packet.Goals as goal
 
 pub loop-byte-preserved : goal.loop-byte-preserved
@@ -9,10 +9,9 @@ loop-byte-preserved c =
     let byte = c.loop-byte.byte in
     let end = c.args.from + 188 in
     let time : c.from.result * 2000000 ≡ byte * 2000000 = rw c.from.ensures refl in
-    let slow : 2000000 ≤ 268435456 = omega arith in
     let short : c.loop-byte.transport.step ≤ 8589934592 = rw inv.step c.requires.transport in
     let short' : c.loop-byte.system.step ≤ 8589934592 = rw inv.system_step c.requires.system in
-    let pace = row_pace byte 2000000 c.loop-byte.transport.last c.loop-byte.transport.step slow short inv.last in
+    let pace = pass_pace byte c.loop-byte.transport.last c.loop-byte.transport.step short inv.last in
     let left : c.arrive-left.result ≡ max (byte * 2000000) c.loop-byte.transport.last + c.loop-byte.transport.step = rw time at c.arrive-left.ensures.left in
     rw (c.arrive-left.ensures.state, c.arrive.ensures.state, left, time) (record {
       step = inv.step;

@@ -1,10 +1,10 @@
-use Rattle.std.proofs.Common.{◌≡◌, ◌∙◌, ℕ, ◌+◌, ◌≤◌, ◌==◌, ◌∷◌, true, false, length, drop, arith, ap, sym}
+use Rattle.std.proofs.Common.{◌≡◌, ◌∙◌, ℕ, ◌+◌, ◌≤◌, ◌==◌, ◌∷◌, true, false, length, drop, arith, ap, sym, refl}
 use Rattle.unit_timing.specs.Arrived.{first_late}
 use Rattle.unit_timing.specs.PesPacket.{PesPacket}
 use Rattle.pes_packet.specs.Units.{units_of}
 use Rattle.tstd.specs.Carried.{timed_pes_packets}
 use Rattle.unit_arrival.specs.Entry.{peak_of}
-use Rattle.decoder_buffers.specs.DepartureWalk.{left_ahead}
+use Rattle.decoder_buffers.specs.PayloadBytes.{bytes_ahead, drain_of}
 use Rattle.tstd.proofs.UnitLists.{texts_own, texts_other, texts_end, late_more, late_end, size_next, fewer_left}
 use Rattle.decoder_buffers.proofs.DepartureWalks.{nothing}
 use Rattle.tstd.proofs.units.measure_units.Goals as goal
@@ -20,8 +20,10 @@ loop-entry-preserved-then-not-is_of g c =
       late = λ id. rw (same id) at (inv.late id);
       peak = λ id. rw (same id) at (inv.peak id);
       carried = let id = inv.carried.0 in (id, rw (same id) at inv.carried.1);
-      longest_residence = inv.longest_residence;
+      residences = inv.residences;
+      rate = inv.rate;
       rx = inv.rx;
+      rbx = inv.rbx;
       step = inv.step;
       sound = inv.sound;
       fullness = inv.fullness;
@@ -38,23 +40,26 @@ loop-entry-preserved g c =
     let due = c.due_of.result in
     let size = c.size_of.result in
     let pes_packet : PesPacket = record { dts = due; size = size } in
+    let drain : drain_of c.loop-entry.walk ≡ drain_of c.args.walk.now = rw (inv.rx, inv.rbx) refl in
     let own : (u.0 == c.args.stream) ≡ true = sym c.is_of.ensures ∙ c.if-not-is_of.false in
     let same : (id : ℕ) → timed_pes_packets id c.args.base0 (units_of c.args.stream (drop i units)) ≡ pes_packet ∷ timed_pes_packets id c.args.base0 (units_of c.args.stream (drop (i + 1) units)) =
     λ id. texts_own id c.args.base0 c.args.stream i due size units u c.loop-entry-test.true c.entry-item.is own c.due_of.ensures (c.size_of.ensures.size id) in
     record {
       late = λ id. rw c.first_of-late.ensures
-          (late_more c.args.walk.now.queue.step c.args.walk.now.rx c.args.slots c.loop-entry.number size due c.loop-entry.late c.in_ok-is_late.is_late
-          (timed_pes_packets id c.args.base0 (units_of c.args.stream (drop (i + 1) units))) (left_ahead c.loop-entry.walk) (left_ahead c.measure_unit.new.walk)
-          c.loop-entry.walk.queue.step c.loop-entry.walk.rx inv.step inv.rx e.late e.left ∙ rw (same id) at (inv.late id));
+          (late_more c.args.walk.now.rate (drain_of c.args.walk.now) c.args.slots c.loop-entry.number size due c.loop-entry.late c.in_ok-is_late.is_late
+          (timed_pes_packets id c.args.base0 (units_of c.args.stream (drop (i + 1) units))) (bytes_ahead c.loop-entry.walk) (bytes_ahead c.measure_unit.new.walk)
+          c.loop-entry.walk.rate (drain_of c.loop-entry.walk) inv.rate drain e.late e.left ∙ rw (same id) at (inv.late id));
       peak = λ id. e.peak (timed_pes_packets id c.args.base0 (units_of c.args.stream (drop (i + 1) units)))
           ∙ ap (peak_of c.loop-entry.walk c.loop-entry.buffer) (sym (same id)) ∙ inv.peak id;
       carried = let id = inv.carried.0 in (
         id,
-        rw e.left (fewer_left size _ (left_ahead c.loop-entry.walk)
+        rw e.left (fewer_left size _ (bytes_ahead c.loop-entry.walk)
             (rw (same id, size_next pes_packet (timed_pes_packets id c.args.base0 (units_of c.args.stream (drop (i + 1) units)))) at inv.carried.1)),
       );
-      longest_residence = e.longest_residence ∙ inv.longest_residence;
+      residences = e.residences ∙ inv.residences;
+      rate = e.rate ∙ inv.rate;
       rx = e.rx ∙ inv.rx;
+      rbx = e.rbx ∙ inv.rbx;
       step = e.step ∙ inv.step;
       sound = e.sound;
       fullness = e.fullness;
@@ -71,5 +76,5 @@ pub returns-clause-left : goal.returns-clause-left
 returns-clause-left g c =
     let id = c.loop-entry.invariant.carried.0 in
     let none = texts_end id c.args.base0 c.args.stream c.loop-entry.entry-index c.args.units.now c.loop-entry-test.false in
-    let few : length (left_ahead c.loop-entry.walk) ≤ 0 = rw none at c.loop-entry.invariant.carried.1 in
-    nothing (left_ahead c.loop-entry.walk) (omega (arith, few))
+    let few : length (bytes_ahead c.loop-entry.walk) ≤ 0 = rw none at c.loop-entry.invariant.carried.1 in
+    nothing (bytes_ahead c.loop-entry.walk) (omega (arith, few))

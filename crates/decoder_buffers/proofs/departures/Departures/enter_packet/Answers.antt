@@ -44,7 +44,7 @@ invariant_of-self c =
     let bounded : w.index + length w.packets.now < 72057594037927936 = w.bounded in
     let some : 0 < w.queue.step = w.positive in
     let fits : c.in-Some-size_on.size ≤ 188 = c.in-Some-size_on.ensures.bound in
-    let short : w.queue.step ≤ 100000000 = w.step in
+    let short : w.queue.step ≤ 20000000000000000 = w.step in
     record {
       slow = w.slow;
       positive = omega (arith, step, some);
