@@ -8,7 +8,7 @@ TSVIEW = crates/tsview/out/tsview
 PROGRAM ?= tsmux
 PREFIX ?= /usr/local
 
-.PHONY: help run try install test check-docs edits bench binary tsjob tsair tsview pages picture any-stream on-air clean
+.PHONY: help run try install dist deb test check-docs edits bench binary tsjob tsair tsview pages picture any-stream on-air clean
 
 help: ## List the targets.
 	@sed -n 's/^\([a-z-]*\):.*## \(.*\)/\1\t\2/p' $(MAKEFILE_LIST) | while IFS="$$(printf '\t')" read -r target text; do \
@@ -43,11 +43,20 @@ try:
 	cd crates/tsmux && rt try -- plan < ../../examples/radio/radio.toml
 endif
 
-install: ## Copy the programs that are built to PREFIX/bin (default /usr/local).
+install: ## Copy the programs that are built to PREFIX/bin, manual pages and completions to PREFIX/share (default /usr/local).
 	@test -x $(BINARY) || test -x $(TSJOB) || test -x $(TSAIR) || test -x $(TSVIEW) || { echo "nothing is built: make run, make tsjob tsair tsview"; exit 1; }
 	mkdir -p $(PREFIX)/bin
 	@for program in $(BINARY) $(TSJOB) $(TSAIR) $(TSVIEW); do \
 	    if test -x $$program; then install -m 755 $$program $(PREFIX)/bin/ && echo $(PREFIX)/bin/$${program##*/}; fi; done
+	tools/options --write $(PREFIX)/share
+
+dist: ## Make a tarball of the four built programs, manual pages, completions and documents in out/dist.
+	@for program in $(BINARY) $(TSJOB) $(TSAIR) $(TSVIEW); do test -x $$program || { echo "not built: make binary tsjob tsair tsview"; exit 1; }; done
+	tools/package $(BINARY) $(TSJOB) $(TSAIR) $(TSVIEW) out/dist
+
+# Needs dpkg-deb.
+deb: dist ## The same, as a Debian package.
+	@ls out/dist/*.deb
 
 # With no words and no input tsmux does nothing.
 binary: ## Prove and build tsmux.
@@ -84,10 +93,13 @@ test: ## The merge gate: all proofs and tests (docs/GATE.md).
 	RT_JOBS=$${RT_JOBS:-$$(nproc)} rt ci
 	tools/run-tests crates/tsmux/out/tsmux crates/tsjob/out/tsjob crates/tsair/out/tsair crates/tsview/out/tsview
 
-check-docs: ## Check the documents: links, commands, claims, crate map, plain English.
+check-docs: ## Check the documents: links, words of commands, claims, generated tables, messages, options, plain English.
 	tools/links
 	tools/claims
 	tools/crate-map --check
+	tools/messages
+	tools/options --check
+	tools/gate-times --check
 	tools/plain-words
 
 edits: ## Try the wrong bodies that the gate does not try (before a release).

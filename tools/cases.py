@@ -165,5 +165,5 @@ def packet(front, dots, back):
 
 
 def record(stream, dts, pts, body):
-    """The record of an access unit (docs/FORMATS.md, "Records of access units")."""
+    """The record of an access unit (docs/PLANS.md, "Records of access units")."""
     return bytes([stream]) + len(body).to_bytes(4, "big") + dts.to_bytes(8, "big") + pts.to_bytes(8, "big") + body

@@ -1,4 +1,4 @@
-"""The buffers that a receiver has for a stream, by stream_type, descriptors and what its first unit says (docs/COST.md): the rate
+"""The buffers that a receiver has for a stream, by stream_type, descriptors and what its first unit says (docs/DECLARED.md): the rate
 out of its transport buffer in bits a second, and its main buffer in bytes, of video the elementary stream buffer. tools/plain-job uses
 it; tools/plain-view has the multiplexing buffer with it as one."""
 

@@ -1,4 +1,4 @@
-"""A transport stream read plainly: the PES packets and sections of each PID with their bytes, and its tables as docs/ANY_STREAM.md takes
+"""A transport stream read plainly: the PES packets and sections of each PID with their bytes, and its tables as docs/CARRIED_TABLES.md takes
 them. tools/plain-job uses it."""
 
 import sys
