@@ -23,10 +23,10 @@ use Rattle.given_values.specs.GivenNames.{NetworkNameView, ServiceNameView}
 use Rattle.stream_jobs.specs.GivenNames.{name_given}
 use Rattle.stream_jobs.specs.JobOptions.{JobOptionsView}
 use Rattle.stream_jobs.specs.Information.{named_service, network_found, network_of, network_or, renamed, service_with}
-use Rattle.word_faults.specs.GivenOptions.{given_options, number_if, number_of, numbers_of}
+use Rattle.word_faults.specs.GivenOptions.{given_options}
 use Rattle.tsjob_cli.specs.FileMark.{has_mark}
 use Rattle.job_outcomes.specs.JobArguments.{JobArgumentsView}
-use Rattle.tsjob_cli.specs.Arguments.{arguments_in, arguments_of, options_in, stream_of, values_of}
+use Rattle.tsjob_cli.specs.Arguments.{arguments_in, arguments_of, lead_in, limit_in, options_in, programs_in, rate_in, stream_of, values_of, without_in}
 use Rattle.tsjob_cli.specs.Options.{options}
 use Rattle.tsjob_cli.specs.Subcommands.{subcommand_of}
 use Rattle.option_lists.specs.JobValues.{base_of, declare_by_of, is_of_time, start_of}
@@ -160,10 +160,10 @@ unfolding values_of
 values_plain rows v e =
     let subcommand = given_some (subcommand_of (first_of (codes "subcommand") rows)) _ v e in
     let stream = given_some (stream_of subcommand.0 (first_of (codes "stream") rows)) _ v subcommand.1.1 in
-    let rate = given_some (number_if options (codes "rate") rows) _ v stream.1.1 in
+    let rate = given_some (rate_in rows) _ v stream.1.1 in
     let start = given_some (start_of (first_of (codes "start") rows)) _ v rate.1.1 in
-    let pcr_limit = given_some (number_of options (codes "pcr") rows) _ v start.1.1 in
-    let lead = given_some (number_of options (codes "lead") rows) _ v pcr_limit.1.1 in
+    let pcr_limit = given_some (limit_in rows) _ v start.1.1 in
+    let lead = given_some (lead_in rows) _ v pcr_limit.1.1 in
     let declare_by = given_some (declare_by_of (first_of (codes "declare") rows)) _ v lead.1.1 in
     let base = given_some (base_of (first_of (codes "base") rows)) _ v declare_by.1.1 in
     subst (λ (x : JobArgumentsView). PlainIfAny x.options.start) (same_value _ v base.1.1) (start_plain (first_of (codes "start") rows) start.0 start.1.0)
@@ -172,8 +172,8 @@ rows_plain : (rows : List Row) (a : JobArgumentsView) → arguments_of rows ≡ 
 unfolding arguments_of
 rows_plain rows a e =
     let values = given_some (values_of rows) _ a e in
-    let programs = given_some (numbers_of options (codes "program") rows) _ a values.1.1 in
-    let without = given_some (numbers_of options (codes "without") rows) _ a programs.1.1 in
+    let programs = given_some (programs_in rows) _ a values.1.1 in
+    let without = given_some (without_in rows) _ a programs.1.1 in
     let buffers = given_some (buffer_list (first_of (codes "buffers") rows)) _ a without.1.1 in
     let network = given_some (network_if_given (first_of (codes "network") rows)) _ a buffers.1.1 in
     let names = given_some (name_list (first_of (codes "name") rows)) _ a network.1.1 in

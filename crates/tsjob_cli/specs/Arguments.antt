@@ -28,6 +28,22 @@ stream_of Describe (Some name) = None
 stream_of Units (Some name) = Some (Some name)
 stream_of Why (Some name) = None
 
+-- numbers, by their rows
+unfoldable pub rate_in : List Row → Option (Option ℕ)
+rate_in rows = number_if options (codes "rate") rows
+
+unfoldable pub limit_in : List Row → Option ℕ
+limit_in rows = number_of options (codes "pcr") rows
+
+unfoldable pub lead_in : List Row → Option ℕ
+lead_in rows = number_of options (codes "lead") rows
+
+unfoldable pub programs_in : List Row → Option (List ℕ)
+programs_in rows = numbers_of options (codes "program") rows
+
+unfoldable pub without_in : List Row → Option (List ℕ)
+without_in rows = numbers_of options (codes "without") rows
+
 -- 2. All of them
 
 -- with empty lists
@@ -57,10 +73,10 @@ unfoldable pub values_of : List Row → Option JobArgumentsView
 values_of rows =
     given (subcommand_of (first_of (codes "subcommand") rows)) (λ subcommand.
     given (stream_of subcommand (first_of (codes "stream") rows)) (λ stream.
-    given (number_if options (codes "rate") rows) (λ rate.
+    given (rate_in rows) (λ rate.
     given (start_of (first_of (codes "start") rows)) (λ start.
-    given (number_of options (codes "pcr") rows) (λ pcr_limit.
-    given (number_of options (codes "lead") rows) (λ lead.
+    given (limit_in rows) (λ pcr_limit.
+    given (lead_in rows) (λ lead.
     given (declare_by_of (first_of (codes "declare") rows)) (λ declare_by.
     given (base_of (first_of (codes "base") rows)) (λ base.
     Some (plain subcommand stream (is_given (first_of (codes "whole") rows)) rate start pcr_limit lead declare_by (is_given (first_of (codes "make-dts") rows)) base)))))))))
@@ -73,8 +89,8 @@ with_lists programs without buffers network names arguments =
 unfoldable pub arguments_of : List Row → Option JobArgumentsView
 arguments_of rows =
     given (values_of rows) (λ values.
-    given (numbers_of options (codes "program") rows) (λ programs.
-    given (numbers_of options (codes "without") rows) (λ without.
+    given (programs_in rows) (λ programs.
+    given (without_in rows) (λ without.
     given (buffer_list (first_of (codes "buffers") rows)) (λ buffers.
     given (network_if_given (first_of (codes "network") rows)) (λ network.
     given (name_list (first_of (codes "name") rows)) (λ names.

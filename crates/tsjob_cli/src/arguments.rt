@@ -64,6 +64,50 @@ fn stream_of<'a>(subcommand: Subcommand, text: Option<&'a str>) -> Option<Option
     }
 }
 
+// The rate; none where its text is no number of its range.
+#[tactic(auto, unfolding(crate::specs::Arguments::rate_in))]
+fn rate_in(matches: &ArgMatches<'_>) -> Option<Option<u64>>
+    ensures { result ≡ spec.rate_in (rows_of (found_of matches.now)) }
+{
+    number_if(&OPTIONS, matches, "rate")
+}
+
+// The greatest time between clock references, in ms.
+#[tactic(auto, unfolding(crate::specs::Arguments::limit_in))]
+fn limit_in(matches: &ArgMatches<'_>) -> Option<u8>
+    ensures { result ≡ spec.limit_in (rows_of (found_of matches.now)) }
+{
+    let pcr_limit = number_of(&OPTIONS, matches, "pcr")? as u8;
+    Some(pcr_limit)
+}
+
+// The greatest lead of a unit, in units of 90 kHz.
+#[tactic(auto, unfolding(crate::specs::Arguments::lead_in))]
+fn lead_in(matches: &ArgMatches<'_>) -> Option<u32>
+    ensures { result ≡ spec.lead_in (rows_of (found_of matches.now)) }
+{
+    let lead = number_of(&OPTIONS, matches, "lead")? as u32;
+    Some(lead)
+}
+
+// The programs that are taken.
+#[tactic(auto, unfolding(crate::specs::Arguments::programs_in))]
+fn programs_in(alloc: Global, matches: &ArgMatches<'_>) -> Result<Option<Vec<u16>>, AllocError>
+    ensures { IfOk result
+        (λ r. option_map (λ numbers. numbers.items) r ≡ spec.programs_in (rows_of (found_of matches.now))) }
+{
+    numbers_of(alloc, &OPTIONS, matches, "program")
+}
+
+// The PIDs that are left out.
+#[tactic(auto, unfolding(crate::specs::Arguments::without_in))]
+fn without_in(alloc: Global, matches: &ArgMatches<'_>) -> Result<Option<Vec<u16>>, AllocError>
+    ensures { IfOk result
+        (λ r. option_map (λ numbers. numbers.items) r ≡ spec.without_in (rows_of (found_of matches.now))) }
+{
+    numbers_of(alloc, &OPTIONS, matches, "without")
+}
+
 // The options with one value each.
 #[tactic(auto, unfolding(crate::specs::Arguments::values_of))]
 fn values_of<'a>(alloc: Global, matches: &ArgMatches<'a>) -> Option<JobArguments<'a>>
@@ -71,10 +115,10 @@ fn values_of<'a>(alloc: Global, matches: &ArgMatches<'a>) -> Option<JobArguments
 {
     let subcommand = subcommand_of(text_of(matches, "subcommand"))?;
     let stream = stream_of(subcommand, text_of(matches, "stream"))?;
-    let rate = number_if(&OPTIONS, matches, "rate")?;
+    let rate = rate_in(matches)?;
     let start = start_of(text_of(matches, "start"))?;
-    let pcr_limit = number_of(&OPTIONS, matches, "pcr")? as u8;
-    let lead = number_of(&OPTIONS, matches, "lead")? as u32;
+    let pcr_limit = limit_in(matches)?;
+    let lead = lead_in(matches)?;
     let declare_by = declare_by_of(text_of(matches, "declare"))?;
     let base = base_of(text_of(matches, "base"))?;
     Some(JobArguments {
@@ -107,10 +151,10 @@ fn arguments_of<'a>(
     let Some(values) = values_of(alloc, matches) else {
         return Ok(None);
     };
-    let Some(programs) = numbers_of(alloc, &OPTIONS, matches, "program")? else {
+    let Some(programs) = programs_in(alloc, matches)? else {
         return Ok(None);
     };
-    let Some(without) = numbers_of(alloc, &OPTIONS, matches, "without")? else {
+    let Some(without) = without_in(alloc, matches)? else {
         return Ok(None);
     };
     let Some(buffers) = buffer_list(alloc, text_of(matches, "buffers"))? else {

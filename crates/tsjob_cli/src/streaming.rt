@@ -103,6 +103,7 @@ fn description_in(alloc: Global, text: &[u8]) -> Result<Description, NoDescripti
 }
 
 // The description in the file of a name.
+#[tactic(auto, using(crate::proofs::StreamedUnits::of_text, crate::proofs::StreamedUnits::of_none))]
 fn named_description<F: NamedFiles>(
     alloc: Global,
     files: &F,

@@ -180,7 +180,7 @@ fn end_view(
 }
 
 // What an input is after whose view it is crowded or not, and in which nothing is wrong or something.
-fn viewed(crowded: bool, good: bool) -> Viewed
+fn as_viewed(crowded: bool, good: bool) -> Viewed
     ensures { result ≡ spec.as_viewed crowded good }
 {
     if crowded {
@@ -218,7 +218,7 @@ fn view_whole<R: Source, W: Sink>(
         Err(halt) => return Err(halt),
     };
     match write_text(text.as_str(), output) {
-        Ok(()) => Ok(viewed(crowded, good)),
+        Ok(()) => Ok(as_viewed(crowded, good)),
         Err(halt) => Err(halt),
     }
 }

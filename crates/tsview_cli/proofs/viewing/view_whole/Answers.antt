@@ -44,7 +44,7 @@ returns-in-Ok-write_text g c = λ o e.
     let end : Port = record { bytes = g.W.Write.contents c.write_text.new.to; failed = g.W.Sink.fault_count c.write_text.new.to } in
     let lines : (s : ClockedState) → IsClocked c.view_pieces.new.view s → c.as_str.result.now ≡ end_lines c.args.json s (c.in-Ok.size % 188) =
     λ s k. c.as_str.ensures.value ∙ c.in-Ok-end_view.ensures.lines s k ∙ ap (λ (t : List ℕ). t ++ end_lines c.args.json s (c.in-Ok.size % 188)) c.in-Ok.ensures.text in
-    subst (λ (v : Viewed). Sees o c.args.json input (between begin end) (Ok v)) (sym c.viewed.ensures)
+    subst (λ (v : Viewed). Sees o c.args.json input (between begin end) (Ok v)) (sym c.as_viewed.ensures)
     (viewed_so o c.args.json input begin mid end c.view_pieces.new.view c.in-Ok.size c.as_str.result.now c.is_crowded-crowded.result c.in-Ok-end_view.good c.is_crowded-crowded.ensures
     (c.in-Ok.ensures.ok (start o) e) lines
     c.in-Ok-write_text.ensures.0 c.in-Ok-write_text.ensures.1 c.in-Ok-end_view.ensures.good)
