@@ -4,6 +4,7 @@ ghost use Rattle.std.specs.Prelude.{◌≡◌, ◌≤◌, ◌++◌, ◌||◌, Al
 ghost use Rattle.std.specs.List.{list_any};
 ghost use Rattle.demux.specs.Views.{FindingView};
 ghost use Rattle.devices.specs.Devices.{writes};
+ghost use Rattle.devices.specs.Files.{files_of};
 ghost use Rattle.job_lines.specs.InputLines.{are_lost, name_of, note_lines};
 ghost use Rattle.stream_jobs.specs.Answers.{Answers};
 ghost use Rattle.stream_jobs.specs.JoinedInputs.{AreStreamsIn};

@@ -1,5 +1,5 @@
 -- The names of files after `--`.
-use Rattle.std.proofs.Common.{◌≡◌, ◌∙◌, ◌+◌, ℕ, Bool, true, false, List, [], ◌∷◌, length, drop, refl, sym, ap, subst, Option, Some, None, inl, inr}
+use Rattle.std.proofs.Common.{◌≡◌, ◌∙◌, ◌+◌, ℕ, true, false, List, [], ◌∷◌, length, drop, refl, sym, ap, subst, Option, Some, None, inl, inr}
 use Rattle.std.proofs.Common.{◌<◌, zero, suc, get_or, map, add-one, arith}
 use Rattle.std.specs.Borrow.{Bor}
 use Rattle.std.specs.List.{position_or_len}

@@ -7,14 +7,16 @@ use Rattle.stream_report.specs.Crowding.{is_crowded}
 use Rattle.stream_report.specs.declared.clocked_view.ClockedView.{ClockedView}
 use Rattle.stream_report.specs.ClockedViews.{IsClocked, ClockedState, start, events_all, is_good}
 use Rattle.counted_io.specs.Device.{Failed}
-use Rattle.devices.specs.Devices.{Port, Device, IsClean, between}
+use Rattle.devices.specs.Devices.{Port, Device, IsClean, IsUntouched, between}
 use Rattle.devices.specs.Lines.{Stopped, WritesLine}
 use Rattle.devices.specs.WholeInput.{IsWhole, TakesAll}
 use Rattle.devices.specs.declared.halt.Halt.{Halt}
 use Rattle.devices.specs.declared.halt.Halt.TheVariants.{Read, Write, Memory}
 use Rattle.devices.proofs.Performances.{reports_none}
 use Rattle.tsview_cli.proofs.Pieces.{take_past}
-use Rattle.tsview_cli.specs.Viewing.{AreViewed, BeginsWith, Breaks, BreaksOff, Reaches, Seen, Sees, SeesAll, Views, all_lines, as_viewed, end_lines, kept_of, settled, viewed}
+use Rattle.tsview_cli.specs.declared.viewing.Viewed.{Viewed}
+use Rattle.tsview_cli.specs.declared.viewing.Viewed.TheVariants.{Whole, Crowded}
+use Rattle.tsview_cli.specs.Viewing.{AreViewed, BeginsWith, Breaks, BreaksOff, Concludes, Reaches, Seen, Sees, SeesAll, Views, all_lines, as_viewed, end_lines, kept_of, settled, viewed}
 
 -- before the first byte
 pub none_seen : (request : RequestView) (json : Bool) (input output : Port) (halt : Halt) → halt ≡ Memory → BreaksOff request json (between input input) (between output output) halt
@@ -143,14 +145,19 @@ whole_is : (bytes : Option (List ℕ)) (read xs : List ℕ) → IsWhole bytes re
 whole_is None read xs w e = absurd cc
 whole_is (Some ys) read xs w e = w ∙ (let same : ys ≡ xs = cc in same)
 
-pub ended : (request : RequestView) (json : Bool) (input output : Device) (faults : Port) (good : Bool) (status : ℕ) → SeesAll request json input output good → status ≡ cond good 0 1 →
-    Views request json input output (between faults faults) status
-ended request json input output faults good status s is = inl (record {
+ended : (request : RequestView) (json : Bool) (input output faults : Device) (good : Bool) (status : ℕ) → SeesAll request json input output good → IsUntouched faults → status ≡ cond good 0 1 →
+    Views request json input output faults status
+ended request json input output faults good status s untouched is = inl (record {
   outcome = viewed request json s.bytes;
   leads = λ xs e. ap (viewed request json) (whole_is input.before.bytes s.bytes xs s.read.0 e);
   read = s.read.1;
   written = s.written;
   clean = s.clean;
-  reports = reports_none (between faults faults) refl;
+  reports = reports_none faults untouched;
   status_is = is ∙ ap (λ (b : Bool). cond b 0 1) s.good_is;
 })
+
+pub concluded : (request : RequestView) (json : Bool) (input output faults : Device) (v : Viewed) (status : ℕ) → Sees request json input output (Ok v) → Concludes v faults status →
+    Views request json input output faults status
+concluded request json input output faults (Whole good) status s c = ended request json input output faults good status s c.0 c.1
+concluded request json input output faults Crowded status s c = inr (inr (record { sees = s; reports = c.0; status_is = c.1 }))

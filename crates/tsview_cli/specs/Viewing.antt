@@ -6,7 +6,7 @@ use Rattle.stream_report.specs.Crowding.{is_crowded}
 use Rattle.stream_report.specs.declared.clocked_view.ClockedView.{ClockedView}
 use Rattle.stream_report.specs.ClockedViews.{IsClocked, ClockedState, start, after_all, end_events, events_all, is_good}
 use Rattle.events.specs.EventLines.{lines_of}
-use Rattle.devices.specs.Devices.{Device, HasFailed, IsClean, Takes}
+use Rattle.devices.specs.Devices.{Device, HasFailed, IsClean, IsUntouched, Takes}
 use Rattle.devices.specs.Lines.{Reports, Stopped, line_text}
 use Rattle.devices.specs.Outcomes.{Outcome, halt_line, printed}
 use Rattle.devices.specs.Runs.{Ends}
@@ -141,6 +141,11 @@ abbrev pub Sees : RequestView → Bool → Device → Device → Result Viewed H
 Sees request json input output (Ok (is_viewed.Whole good)) = SeesAll request json input output good
 Sees request json input output (Ok is_viewed.Crowded) = SeesFront request json input output
 Sees request json input output (Err halt) = BreaksOff request json input output halt
+
+-- what standard error then takes, and the status
+abbrev pub Concludes : Viewed → Device → ℕ → Type 0
+Concludes (is_viewed.Whole good) faults status = IsUntouched faults × (status ≡ (if good then 0 else 1))
+Concludes is_viewed.Crowded faults status = Reports faults (line_text (codes "waiting") []) × (status ≡ 3)
 
 -- it ended early, and the line that says why is told
 pub record EndsEarly (request : RequestView) (json : Bool) (input output faults : Device) (status : ℕ) : Type 0 where

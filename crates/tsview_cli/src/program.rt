@@ -10,7 +10,7 @@ ghost use Rattle.tsview_cli.specs.Arguments.{asked};
 ghost use Rattle.tsview_cli.specs.Drawing.{DrawsPage};
 ghost use Rattle.tsview_cli.specs.Options.{known_words, usage_text};
 ghost use Rattle.tsview_cli.specs.PlanDrawing.{DrawsPlan, is_plan};
-ghost use Rattle.tsview_cli.specs.Viewing.{Views};
+ghost use Rattle.tsview_cli.specs.Viewing.{Concludes, Views};
 ghost use Rattle.word_faults.specs.UsageReport.{Prints, is_version, usage_report, version_text};
 
 use crate::arguments::read_arguments;
@@ -41,6 +41,19 @@ fn status_of(good: bool) -> u8
     if good { 0 } else { 1 }
 }
 
+// Reports if no more of the input was viewed, and returns the status.
+fn conclude<E: Sink>(seen: Viewed, faults: &mut E) -> u8
+    ensures { Concludes seen (writes E.Sink faults.old faults.new) result }
+{
+    match seen {
+        Viewed::Whole(good) => status_of(good),
+        Viewed::Crowded => {
+            report_line(faults, "waiting", &[]);
+            3
+        }
+    }
+}
+
 // Views the input, and returns the status.
 fn view_stream<R: Source, W: Sink, E: Sink>(
     alloc: Global,
@@ -54,11 +67,7 @@ fn view_stream<R: Source, W: Sink, E: Sink>(
         (writes E.Sink faults.old faults.new) result }
 {
     match view_input(alloc, request, json, input, output) {
-        Ok(Viewed::Whole(good)) => status_of(good),
-        Ok(Viewed::Crowded) => {
-            report_line(faults, "waiting", &[]);
-            3
-        }
+        Ok(seen) => conclude(seen, faults),
         Err(halt) => report_halt(faults, halt),
     }
 }

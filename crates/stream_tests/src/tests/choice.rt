@@ -1,5 +1,7 @@
 //! Values of a second reading of the rules, and values worked by hand.
 
+ghost use Rattle.std.specs.Prelude.{◌≤◌, ◌^◌};
+
 use stream_choice::{
     Choice, Needs, PacedUnits, Recurring, are_max_packets, choose_groups, choose_pace,
     delay_before, leaking_needs, least_rate, least_share, preferred,
@@ -357,8 +359,11 @@ static RATES: [(&[u64], &[Recurring], Option<u64>); 10] = [
     ),
 ];
 
-// Of a stream that is drained at a rate, or that has a multiplexing buffer of so many bytes, which leaks at it.
-fn delay_at(size: Option<u32>, rate: u32, share: u64) -> u32 {
+// Returns the delay of a stream that is drained at a rate, or that has a multiplexing buffer of that size which leaks at the rate.
+fn delay_at(size: Option<u32>, rate: u32, share: u64) -> u32
+    requires rate { 1 ≤ rate }
+    requires share { 2 ^ 17 ≤ share }
+{
     let needs = Needs {
         interval: 1,
         size: 1,
@@ -373,7 +378,11 @@ fn delay_at(size: Option<u32>, rate: u32, share: u64) -> u32 {
                 rx: 200_000_000,
                 ..needs
             };
-            delay_before(buffer, leaking_needs(buffer, faster), share)
+            let leaking = leaking_needs(buffer, faster);
+            if leaking.rx == 0 {
+                return 0;
+            }
+            delay_before(buffer, leaking, share)
         }
     }
 }

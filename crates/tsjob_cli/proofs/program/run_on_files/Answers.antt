@@ -1,4 +1,4 @@
-use Rattle.std.proofs.Common.{◌∙◌, Some, None, refl, sym}
+use Rattle.std.proofs.Common.{◌∙◌, refl, sym}
 use Rattle.word_faults.proofs.UsageReports.{of_known, of_usage}
 use Rattle.tsjob_cli.proofs.FileWords.{files_asked, some_and_none, version_is_no_file}
 use Rattle.tsjob_cli.proofs.program.run_on_files.Goals as goal
