@@ -148,6 +148,7 @@ fn write_stream(
         allowance: choice.choice.allowance,
         shared_with: &stream.shared_with,
         multiplexing: choice.multiplexing,
+        framing: None,
     };
     entry.write_text(text)
 }
