@@ -12,6 +12,7 @@ ghost use Rattle.description.specs.Contents as spec;
 use crate::arrays::elements;
 use crate::contents::Contents;
 use crate::descriptors::DescriptorLoop;
+use crate::frame_keys::framing;
 use crate::map_entry::MapEntry;
 use crate::multiplexing_keys::multiplexing;
 use crate::network::Network;
@@ -118,6 +119,7 @@ fn stream_of(stream: &Value) -> StreamDescription
         allowance: stream_keys::allowance(stream),
         shared_with: sharers(stream),
         multiplexing: multiplexing(stream),
+        framing: framing(stream),
     }
 }
 

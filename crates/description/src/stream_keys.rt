@@ -11,6 +11,7 @@ ghost use Rattle.description.specs.StreamKeys.{stream_burst_packets, stream_pace
 ghost use Rattle.description.specs.StreamKeys.{refuses_group, refuses_group_packets, refuses_burst_packets, refuses_pace};
 
 use crate::descriptors::{DescriptorLoop, descriptors_or_none};
+use crate::frame_keys::{refuses_frame, refuses_frame_size, refuses_frames};
 use crate::key::Key;
 use crate::known_keys::knows_keys;
 use crate::multiplexing_keys::{refuses_mb, refuses_rbx};
@@ -43,6 +44,9 @@ pub enum StreamKey {
     SharedWith,
     Rbx,
     Mb,
+    Frames,
+    Frame,
+    FrameSize,
 }
 
 pub fn pid(stream: &Value) -> Option<u16>
@@ -278,7 +282,7 @@ impl StreamKey {
     ghost use Rattle.description.specs.Codes.{stream_code};
 
     /// All of them, in the order of their numbers.
-    pub const ALL: [StreamKey; 19] = [
+    pub const ALL: [StreamKey; 22] = [
         StreamKey::Program,
         StreamKey::Pid,
         StreamKey::StreamId,
@@ -298,6 +302,9 @@ impl StreamKey {
         StreamKey::SharedWith,
         StreamKey::Rbx,
         StreamKey::Mb,
+        StreamKey::Frames,
+        StreamKey::Frame,
+        StreamKey::FrameSize,
     ];
 
     /// The number of its refusal.
@@ -324,6 +331,9 @@ impl StreamKey {
             StreamKey::SharedWith => 57,
             StreamKey::Rbx => 58,
             StreamKey::Mb => 59,
+            StreamKey::Frames => 84,
+            StreamKey::Frame => 85,
+            StreamKey::FrameSize => 86,
         }
     }
 }
@@ -358,6 +368,9 @@ impl Key for StreamKey {
                 "shared_with",
                 "rbx",
                 "mb",
+                "frames",
+                "frame",
+                "frame_size",
             ],
         )
     }
@@ -383,6 +396,9 @@ impl Key for StreamKey {
             StreamKey::SharedWith => !has_sharers(document, part),
             StreamKey::Rbx => refuses_rbx(part),
             StreamKey::Mb => refuses_mb(part),
+            StreamKey::Frames => refuses_frames(part),
+            StreamKey::Frame => refuses_frame(part),
+            StreamKey::FrameSize => refuses_frame_size(part),
         }
     }
 }

@@ -57,6 +57,9 @@ stream_words stream.Pace = (codes "pace", codes "1 to 100000000 bits a second, b
 stream_words stream.SharedWith = (codes "shared_with", codes "an array of up to 15 numbers of other programs, each once")
 stream_words stream.Rbx = (codes "rbx", codes "64000 to rx, in bits a second, beside mb")
 stream_words stream.Mb = (codes "mb", codes "1 to 10000000 bytes, beside rbx")
+stream_words stream.Frames = (codes "frames", codes "1 to 64 access units, beside frame and frame_size")
+stream_words stream.Frame = (codes "frame", codes "1 to interval / (frames - 1) units of 90 kHz, beside frames and frame_size")
+stream_words stream.FrameSize = (codes "frame_size", codes "1 to size bytes, beside frames and frame")
 
 unfoldable pub event_words : EventKey → List ℕ × List ℕ
 event_words event.Program = (codes "program", codes "the number of a program")

@@ -99,6 +99,15 @@ pub fn stream_words(key: StreamKey) -> KeyWords
         ),
         StreamKey::Rbx => ("rbx", "64000 to rx, in bits a second, beside mb"),
         StreamKey::Mb => ("mb", "1 to 10000000 bytes, beside rbx"),
+        StreamKey::Frames => (
+            "frames",
+            "1 to 64 access units, beside frame and frame_size",
+        ),
+        StreamKey::Frame => (
+            "frame",
+            "1 to interval / (frames - 1) units of 90 kHz, beside frames and frame_size",
+        ),
+        StreamKey::FrameSize => ("frame_size", "1 to size bytes, beside frames and frame"),
     }
 }
 

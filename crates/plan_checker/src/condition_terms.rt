@@ -3,6 +3,7 @@
 ghost use Rattle.std.specs.Prelude.{◌≡◌, ◌+◌, ◌-◌, ◌*◌, ◌/◌, ◌^◌, ◌<◌, ◌≤◌};
 ghost use Rattle.clock27.specs.Units.{slot_units_at_1bps, byte_units_at_1bps};
 ghost use Rattle.own_slots.specs.Spread.{most_within};
+ghost use Rattle.plan_checker.specs.SentBytes.{slots_of_time};
 
 use clock27::{BYTE_UNITS_AT_1BPS, SLOT_UNITS_AT_1BPS};
 
@@ -49,6 +50,19 @@ pub fn time_given(count: u128, lead: u64, units: u64, interval: u64, rate: u64, 
 {
     let time = lead + (units - 1) * interval;
     count * time as u128 * rate as u128 * rx as u128
+}
+
+/// The slots that begin in `time` units of 90 kHz, rounded up.
+pub fn slots_of_time(time: u64, rate: u64) -> u64
+    requires some_time { 0 < time }
+    requires time { time ≤ 90000 }
+    requires some_rate { 0 < rate }
+    requires rate { rate ≤ 100000000 }
+    ensures slots { result ≡ slots_of_time time rate }
+    ensures positive { 0 < result }
+    ensures bound { result ≤ 2 ^ 32 }
+{
+    (time * rate).div_ceil(SLOT_UNITS_AT_1BPS as u64)
 }
 
 /// The most own slots in a window of `window` slots, with that spread.

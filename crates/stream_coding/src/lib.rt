@@ -2,7 +2,8 @@
 //!
 //! The coding is that of its entry in the program map (`specs/Codings`), with what its first access unit says in the
 //! structures of `specs/Structures`: its level, video buffer or number of channels (`specs/Sequences`, `Avc`, `Hevc`,
-//! `Adts`); the buffers are those of the standards (`specs/Video`, `Buffers`).
+//! `Adts`); the buffers are those of the standards (`specs/Video`, `Buffers`). The frames of units of sound are counted by
+//! their headers (`specs/FrameHeaders`, `Frames`).
 #![tactic(auto)]
 
 mod ac3;
@@ -11,6 +12,8 @@ mod avc;
 mod avc_vui;
 mod buffers;
 mod coding;
+mod frame_headers;
+mod frames;
 mod hevc;
 mod rbsp;
 mod sequences;
@@ -23,3 +26,5 @@ pub use buffers::{
     multiplexing_of,
 };
 pub use coding::{AvcSequence, Coding, HevcSequence, MpegSequence, coding_of};
+pub use frame_headers::{FrameKind, frame_kind};
+pub use frames::{UnitFrames, unit_frames};

@@ -17,6 +17,7 @@ use stream_choice::{
     leaking_needs, least_share, preferred,
 };
 use stream_units::UnitRuns;
+use unit_timing::framing::Framing;
 use unit_timing::multiplexing_buffer::MultiplexingBuffer;
 use unit_timing::shares::PARTS;
 
@@ -143,6 +144,21 @@ fn is_same_buffer(one: Option<MultiplexingBuffer>, other: Option<MultiplexingBuf
     }
 }
 
+// Whether both are none, or have the same numbers.
+fn is_same_framing(one: Option<Framing>, other: Option<Framing>) -> bool
+    ensures { IsTrue result → one ≡ other }
+{
+    match (one, other) {
+        (None, None) => true,
+        (Some(first), Some(second)) => {
+            first.frames == second.frames
+                && first.frame == second.frame
+                && first.frame_size == second.frame_size
+        }
+        _ => false,
+    }
+}
+
 // Whether two streams are counted alike.
 fn is_alike(one: &UnitCounts, other: &UnitCounts) -> bool
     ensures { IsTrue result → one.now ≡ other.now }
@@ -153,6 +169,7 @@ fn is_alike(one: &UnitCounts, other: &UnitCounts) -> bool
     same_units
         && same_buffers
         && is_same_buffer(one.multiplexing, other.multiplexing)
+        && is_same_framing(one.framing, other.framing)
         && one.max_group_packets.as_slice() == other.max_group_packets.as_slice()
 }
 

@@ -1,23 +1,25 @@
 //! What is counted of a stream's units.
 
-ghost use Rattle.std.specs.Prelude.{◌≡◌, ◌≤◌, IfErr, IfNone, IfOk, List, Ok, All};
+ghost use Rattle.std.specs.Prelude.{◌≡◌, ◌≤◌, map, IfErr, IfNone, IfOk, List, Ok, All};
 ghost use Rattle.pes_packet.specs.AccessUnits.{AccessUnit};
 ghost use Rattle.stream_units.specs.Declaration.{counted_packets, max_unit_size};
+ghost use Rattle.stream_coding.specs.Frames.{no_frames, all_frames};
 ghost use Rattle.stream_jobs.specs.Answers.{Answers, Refuses};
 ghost use Rattle.stream_jobs.specs.Declarations as spec;
 ghost use Rattle.stream_jobs.specs.Jobs.{FitsQueue};
 
 use crate::job_stream::TimedStream;
 use crate::refusal::{JobError, JobRefusal};
-use pes_packet::greatest_size;
+use pes_packet::{Unit, greatest_size};
 use std::alloc::{AllocError, Global};
 use std::marker::Model;
 use stream_choice::{Choice, Needs};
 use stream_coding::{
-    Buffers, Coding, PidBuffers, buffers_of, coding_holding, coding_of, given_buffers,
-    multiplexing_of,
+    Buffers, Coding, FrameKind, PidBuffers, UnitFrames, buffers_of, coding_holding, coding_of,
+    frame_kind, given_buffers, multiplexing_of, unit_frames,
 };
 use stream_units::{CountedPackets, max_unit_size, min_interval};
+use unit_timing::framing::Framing;
 use unit_timing::multiplexing_buffer::MultiplexingBuffer;
 
 /// The greatest number of programs, and of streams, in a description.
@@ -34,12 +36,13 @@ const MAX_GROUP: usize = 64;
 /// The most bytes of a PES packet header in a job.
 const MAX_HEADER: u32 = 19;
 
-/// What is counted of a stream's units: what they need, the multiplexing buffer that the stream has if it is video, and the
-/// greatest number of packets of 1, 2, .. units in a row.
+/// What is counted of a stream's units: what they need, the multiplexing buffer that the stream has if it is video, their
+/// access units if it is sound of whole frames, and the greatest number of packets of 1, 2, .. units in a row.
 #[derive(Drop)]
 pub(crate) struct UnitCounts {
     pub needs: Needs,
     pub multiplexing: Option<MultiplexingBuffer>,
+    pub framing: Option<Framing>,
     pub max_group_packets: Vec<u32>,
 }
 
@@ -59,6 +62,7 @@ impl Model for UnitCounts {
     ghost view = { λ c. record {
       needs = c.needs;
       multiplexing = c.multiplexing;
+      framing = c.framing;
       max_group_packets = c.max_group_packets.items;
     } };
 }
@@ -164,6 +168,44 @@ fn multiplexing_for(given: &[PidBuffers], stream: &TimedStream) -> Option<Multip
     }
 }
 
+// The access units of a unit as a description declares them.
+#[tactic(auto, unfolding(crate::specs::Declarations::framing_of))]
+fn framing_of(frames: UnitFrames) -> Option<Framing>
+    ensures { result ≡ spec.framing_of frames }
+{
+    if frames.count <= 64 && frames.time < 1 << 32 {
+        Some(Framing {
+            frames: frames.count as u8,
+            frame: frames.time as u32,
+            frame_size: frames.largest,
+        })
+    } else {
+        None
+    }
+}
+
+// What the frames of units come to; none where a unit is no whole frames.
+fn all_frames(kind: FrameKind, units: &[Unit]) -> Option<UnitFrames>
+    ensures { result ≡ all_frames kind no_frames (map (λ u. u.bytes) units.now) }
+{
+    let mut frames = UnitFrames::none();
+    let mut left = units;
+    while let Some((unit, later)) = left.split_first() {
+        frames = frames.joined(unit_frames(kind, unit.bytes.as_slice())?);
+        left = later;
+    }
+    Some(frames)
+}
+
+// The access units of a stream's units, where it is sound whose units are whole frames.
+#[tactic(auto, unfolding(crate::specs::Declarations::framing_for))]
+fn framing_for(stream: &TimedStream) -> Option<Framing>
+    ensures { result ≡ spec.framing_for stream.now }
+{
+    let kind = frame_kind(stream.stream_type, &stream.descriptors)?;
+    framing_of(all_frames(kind, &stream.units)?)
+}
+
 // The greatest number of packets of `group` units in a row, as a number of 32 bits.
 #[tactic(auto, unfolding(crate::specs::Declarations::packets_of_group))]
 fn packets_of_group(packets: &CountedPackets, group: usize) -> u32
@@ -232,10 +274,12 @@ fn count_stream(
     }
     let needs = needs_of(given, stream);
     let multiplexing = multiplexing_for(given, stream);
+    let framing = framing_for(stream);
     let max_group_packets = max_group_packets(alloc, stream)?;
     Ok(UnitCounts {
         needs,
         multiplexing,
+        framing,
         max_group_packets,
     })
 }

@@ -14,6 +14,7 @@
 //! - [`deadlines`]: from the pace of the own slots to the deadline of each unit.
 //! - [`arrived`]: each due unit has left the transport buffer whole by its stamp.
 //! - [`main_buffer`]: the fullness of the main buffer.
+//! - [`framing`]: what a stream declares of the access units of a PES packet.
 //! - [`access_units`]: the main buffer where each access unit of a PES packet is removed at its own time.
 //! - [`moments`]: moments that are not whole.
 //! - [`multiplexing_buffer`]: what a video stream declares of its multiplexing buffer.
@@ -33,6 +34,7 @@ pub mod arrived;
 pub mod buffers;
 pub mod deadlines;
 pub mod empty_buffers;
+pub mod framing;
 pub mod main_buffer;
 pub mod moments;
 pub mod multiplexing_buffer;

@@ -4,15 +4,18 @@ ghost use Rattle.description.specs.Ranges.{IsStream};
 
 use crate::search::numbers::{narrowed, product, rounded_up};
 use clock27::{BYTE_UNITS_AT_1BPS, SLOT_UNITS_AT_1BPS};
-use plan_checker::{bytes_by_units, packets_in_row, steady_packets, steady_time};
+use plan_checker::{
+    ahead_of, bytes_by_units, left_of_unit, packets_in_row, steady_packets, steady_time,
+};
 use slot_plan::StreamDescription;
 use unit_timing::buffers::TB_SIZE;
+use unit_timing::framing::Framing;
 
 /// The slots by which the search lets a packet be late: the one that the deadline's condition adds, and two more.
 const JITTER: u128 = 3;
 
 /// The data bytes of a packet.
-const PACKET_BYTES: u64 = 184;
+const PACKET_BYTES: u128 = 184;
 
 /// The most bytes of a multiplexing buffer that the search reckons with after a packet: own slots that stray from even
 /// spacing by two of their distances at most bring no more at once.
@@ -110,18 +113,49 @@ impl StreamRate<'_> {
         have.checked_sub(sent.saturating_add(count as u128))
     }
 
-    /// The same for the main buffer alone: the greatest number where it holds all units that can wait at once.
+    /// The same for the main buffer alone: the greatest number where it holds all that can wait at once, of units and
+    /// of their access units one by one.
     pub fn main_width(self, period: u64, count: u64) -> Option<u128> {
-        if self.waiting_bytes <= self.stream.main as u64 {
+        let stream = self.stream;
+        let waiting = self.waiting_bytes as u128;
+        let lead = stream.lead as u128;
+        let mut width = self.room_width(period, count, lead, waiting, stream.main as u128)?;
+        if let Some(framing) = stream.framing {
+            for before in 0..framing.frames.saturating_sub(1) {
+                let gone = before.saturating_add(1);
+                width = width.min(self.frame_width(period, count, framing, gone)?);
+            }
+        }
+        Some(width)
+    }
+
+    /// The same where units that are sent at most `lead` before their decoding times, `waiting` bytes of them at once,
+    /// have so many bytes of room.
+    fn room_width(
+        self,
+        period: u64,
+        count: u64,
+        lead: u128,
+        waiting: u128,
+        room: u128,
+    ) -> Option<u128> {
+        if waiting <= room {
             return Some(u128::MAX);
         }
-        let packets = (self.stream.main as u64 / PACKET_BYTES) as u128;
-        let window = rounded_up(
-            product(&[self.stream.lead as u128, self.rate as u128]),
-            SLOT_UNITS_AT_1BPS,
-        )?;
+        let packets = room / PACKET_BYTES;
+        let window = rounded_up(product(&[lead, self.rate as u128]), SLOT_UNITS_AT_1BPS)?;
         let room = product(&[period as u128, packets]);
         let sent = product(&[window.saturating_sub(1), count as u128]);
         room.checked_sub(sent.saturating_add(1))
+    }
+
+    /// The same when `gone` access units of a unit have been removed; None where the others find no room.
+    fn frame_width(self, period: u64, count: u64, framing: Framing, gone: u8) -> Option<u128> {
+        let stream = self.stream;
+        let room = (stream.main as u128).checked_sub(left_of_unit(framing, gone))?;
+        let lead = (stream.lead as u64).saturating_sub(ahead_of(stream, framing, gone)) as u128;
+        let units = rounded_up(lead, stream.interval as u128)?;
+        let waiting = product(&[units, 19 + stream.size as u128]);
+        self.room_width(period, count, lead, waiting, room)
     }
 }
