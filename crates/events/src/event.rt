@@ -3,6 +3,7 @@
 //! Times are in ticks of 27 MHz, moments from the stream's first byte on; numbers of packets and of windows begin with 0; sizes and
 //! fullness are in bytes, rates in bits a second.
 use crate::pid_name::PidName;
+use crate::video_event::{ElementaryLate, ElementaryTotals, MultiplexingTotals};
 use std::marker::Model;
 
 /// The buffers of a stream that the tables name begin with a packet.
@@ -238,9 +239,13 @@ pub enum Event {
     Units(UnitFigures),
     Excess(BufferExcess),
     MainExcess(BufferExcess),
+    /// Of the multiplexing buffer and of the elementary stream buffer of video.
+    MultiplexingExcess(BufferExcess),
+    ElementaryExcess(BufferExcess),
     SystemExcess(ProgramExcess),
     SystemMainExcess(ProgramExcess),
     Late(LateUnit),
+    ElementaryLate(ElementaryLate),
     Ahead(FarAhead),
     PcrRepetition(ClockFault),
     PcrDiscontinuity(ClockFault),
@@ -249,6 +254,8 @@ pub enum Event {
     Unclocked(UnclockedPackets),
     Transport(TransportTotals),
     Main(MainTotals),
+    Multiplexing(MultiplexingTotals),
+    Elementary(ElementaryTotals),
     System(SystemTotals),
     Clock(ClockTotals),
     Table(TableTotals),

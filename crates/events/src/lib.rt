@@ -11,6 +11,8 @@ mod figure_lines;
 mod lines;
 mod packet_lines;
 mod pid_name;
+mod video_event;
+mod video_lines;
 mod window_line;
 
 pub use event::{
@@ -20,3 +22,4 @@ pub use event::{
 };
 pub use event_lines::write_events;
 pub use pid_name::PidName;
+pub use video_event::{ElementaryLate, ElementaryTotals, MultiplexingTotals};

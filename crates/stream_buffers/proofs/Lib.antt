@@ -1,2 +1,4 @@
 pub mod Rows
 pub mod Packets
+pub mod VideoRows
+pub mod VideoBegins

@@ -13,6 +13,7 @@ use Rattle.stream_buffers.specs.declared.arriving.Arriving.{Arriving}
 use Rattle.stream_buffers.specs.declared.entered.Entered.{Entered}
 use Rattle.stream_buffers.specs.declared.buffers.StreamBuffers.{StreamBuffers}
 use Rattle.stream_buffers.specs.Held.{Held, IsHeld}
+use Rattle.stream_buffers.specs.HeldVideo.{HoldsVideoOf, VideoSizes}
 use Rattle.stream_buffers.specs.Entering.{after, after_begin, after_bytes, after_header, after_lead, after_unit, bytes_main, bytes_main_least, bytes_main_most, bytes_transport, bytes_transport_most, ended_with, entered, entered_view, lead_in, size_of, takes_in, unit_ended, with_packet}
 use Rattle.stream_buffers.proofs.Rows.{bytes_held}
 
@@ -92,3 +93,24 @@ packet_entered b0 b1 b2 b3 h arrival p e size lead lead_most header_most payload
     (parts.main (after_unit h arrival p size lead) begun) (parts.unit (after_header h arrival p size lead) passed) most (parts.main_found (after_unit h arrival p size lead) begun)
     (parts.least_found (after_unit h arrival p size lead) begun) in
     view ∙ ap (λ (n : ℕ). ended_with h arrival p n lead) same ∙ ap (λ (n : ℕ). ended_with h arrival p (size_of p) n) same' ∙ entered_in h arrival p takes
+
+-- and what the buffers of video hold
+pub packet_video : (b0 b1 b2 b3 b4 : StreamBuffers) (sizes : VideoSizes) (h : Held) (arrival : Arrival) (p : Arriving) (size lead : ℕ) → IsHeld b0 h → HoldsVideoOf b0 sizes h →
+    takes_in h arrival p ≡ true → size ≡ size_of p → lead ≡ lead_in arrival p →
+    ((h : Held) → IsHeld b0 h → IsHeld b1 (after_lead h arrival p lead)) →
+    ((h : Held) → IsHeld b1 h → IsHeld b2 (after_bytes h arrival false (188 * p.index + lead) (188 - size - lead))) →
+    ((h : Held) → IsHeld b2 h → IsHeld b3 (after_begin h p.begins)) →
+    ((h : Held) (sizes : VideoSizes) → IsHeld b0 h → HoldsVideoOf b0 sizes h → HoldsVideoOf b1 sizes (after_lead h arrival p lead)) →
+    ((h : Held) (sizes : VideoSizes) → IsHeld b1 h → HoldsVideoOf b1 sizes h → HoldsVideoOf b2 sizes (after_bytes h arrival false (188 * p.index + lead) (188 - size - lead))) →
+    ((h : Held) (sizes : VideoSizes) → IsHeld b2 h → HoldsVideoOf b2 sizes h → HoldsVideoOf b3 sizes (after_begin h p.begins)) →
+    ((h : Held) (sizes : VideoSizes) → IsHeld b3 h → HoldsVideoOf b3 sizes h → HoldsVideoOf b4 sizes (after_bytes h arrival p.enters (188 * p.index + (188 - size)) size)) →
+    HoldsVideoOf b4 sizes (after h arrival p)
+packet_video b0 b1 b2 b3 b4 sizes h arrival p size lead k v takes same same' first header begin first_video header_video begin_video payload_video =
+    let led = first h k in
+    let led_video = first_video h sizes k v in
+    let passed = header (after_lead h arrival p lead) led in
+    let passed_video = header_video (after_lead h arrival p lead) sizes led led_video in
+    let begun = begin (after_header h arrival p size lead) passed in
+    let begun_video = begin_video (after_header h arrival p size lead) sizes passed passed_video in
+    let held : HoldsVideoOf b4 sizes (with_packet h arrival p size lead) = payload_video (after_unit h arrival p size lead) sizes begun begun_video in
+    subst (HoldsVideoOf b4 sizes) (ap (λ (n : ℕ). with_packet h arrival p n lead) same ∙ ap (λ (n : ℕ). with_packet h arrival p (size_of p) n) same' ∙ after_in h arrival p takes) held

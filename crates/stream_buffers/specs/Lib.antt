@@ -1,2 +1,4 @@
 pub mod Held
 pub mod Entering
+pub mod VideoBytes
+pub mod HeldVideo

@@ -2,6 +2,7 @@
 ghost use Rattle.std.specs.Prelude.{◌≡◌};
 ghost use Rattle.stream_buffers.specs.Entering.{nothing_entered};
 
+use crate::video_buffers::VideoEntered;
 use stream_view::UnitSeen;
 use transport_buffer::Excess;
 
@@ -19,6 +20,8 @@ pub struct Entered {
     pub transport_most: u128,
     pub main_most: u64,
     pub main_least: Option<u64>,
+    /// The same of the two buffers of video after the transport buffer.
+    pub video: VideoEntered,
 }
 
 impl Entered {
@@ -36,6 +39,7 @@ impl Entered {
             transport_most: 0,
             main_most: 0,
             main_least: None,
+            video: VideoEntered::new(),
         }
     }
 }

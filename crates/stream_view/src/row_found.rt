@@ -1,5 +1,7 @@
 //! What the bytes of a row found.
 
+use transport_buffer::Leaving;
+
 /// What the bytes of one row found in the buffers of their stream.
 #[derive(Clone, Copy)]
 pub struct RowFound {
@@ -9,4 +11,20 @@ pub struct RowFound {
     pub main: u64,
     /// The least that one of them found in the main buffer, itself not counted; none where none enters it.
     pub least: Option<u64>,
+}
+
+/// What the payload bytes of one row found in the buffers of their stream, and how they leave the first of them.
+#[derive(Clone, Copy)]
+pub struct Carried {
+    pub found: RowFound,
+    pub leaving: Leaving,
+}
+
+/// What bytes that left the transport buffer found in the two buffers of their video.
+#[derive(Clone, Copy)]
+pub struct VideoFound {
+    /// The most bytes that were in the multiplexing buffer when one of them arrived, itself included.
+    pub multiplexing: u128,
+    /// The most that were in the elementary stream buffer when one of them entered it.
+    pub elementary: u64,
 }

@@ -2,8 +2,8 @@
 ghost use Rattle.std.specs.Prelude.{◌≡◌, None, ◌+◌, ◌<◌, ◌≤◌, ◌^◌, true, false, [], ◌++◌};
 ghost use Rattle.std.specs.Option.{option_to_list};
 ghost use Rattle.clock27.specs.Departure.{last_left};
-ghost use Rattle.packet_arrival.specs.Rows.{IsTimed, IsEarly, times_of};
-ghost use Rattle.transport_buffer.specs.Buffers.{IsPaced};
+ghost use Rattle.packet_arrival.specs.Rows.{IsTimed, times_of};
+ghost use Rattle.transport_buffer.specs.Buffers.{IsPaced, IsSoon};
 ghost use Rattle.transport_buffer.specs.Excesses.{AreOver, room_again, excess_after, excesses_ended};
 
 use crate::leaving::leave;
@@ -56,10 +56,10 @@ impl ExcessWatch {
     // Bytes that find none.
     fn grow(&mut self, step: u64, prev: u128, row: &Row)
         requires some { 0 < step }
-        requires slow { step ≤ 2 ^ 28 }
-        requires prev { prev ≤ 2 ^ 86 + 2 ^ 69 }
+        requires slow { step ≤ 2 ^ 40 }
+        requires prev { prev ≤ 2 ^ 86 + 2 ^ 81 }
         requires timed { IsTimed row.now }
-        requires early { IsEarly row.now }
+        requires soon { IsSoon row.now }
         requires count { row.now.bytes ≤ 2 ^ 40 }
         requires size { self.old.size ≤ 2 ^ 40 }
         requires over { AreOver true step self.old.size prev (times_of row.now) }
@@ -91,7 +91,7 @@ impl ExcessWatch {
     pub fn enter(&mut self, buffer: &TransportBuffer, row: &Row) -> Option<Excess>
         requires paced { IsPaced buffer.now }
         requires timed { IsTimed row.now }
-        requires early { IsEarly row.now }
+        requires soon { IsSoon row.now }
         requires some { 0 < row.now.bytes }
         requires count { buffer.now.bytes + row.now.bytes ≤ 2 ^ 40 }
         requires size { 0 < self.old.size }

@@ -1,8 +1,8 @@
 //! Bytes that leave a buffer.
 ghost use Rattle.std.specs.Prelude.{◌≡◌, ℕ, ◌+◌, ◌-◌, ◌*◌, ◌/◌, ◌<◌, ◌≤◌, ◌^◌, max};
 ghost use Rattle.clock27.specs.Departure.{departures, last_left};
-ghost use Rattle.packet_arrival.specs.Rows.{IsTimed, IsEarly, times_of};
-ghost use Rattle.transport_buffer.specs.Buffers.{times_left, waiting_row, free_row};
+ghost use Rattle.packet_arrival.specs.Rows.{IsTimed, times_of};
+ghost use Rattle.transport_buffer.specs.Buffers.{IsSoon, RowsSoon, times_left, waiting_row, free_row};
 
 use packet_arrival::{Row, multiples_below};
 
@@ -19,10 +19,10 @@ pub struct Leaving {
 // The bytes of a row, of which the first `count` wait for one that leaves at `prev`.
 #[inline(always)]
 fn leaving_rows(step: u64, prev: u128, row: &Row, count: u64, last: u128) -> Leaving
-    requires step { step ≤ 2 ^ 28 }
-    requires prev { prev ≤ 2 ^ 86 + 2 ^ 69 }
+    requires step { step ≤ 2 ^ 40 }
+    requires prev { prev ≤ 2 ^ 86 + 2 ^ 81 }
     requires timed { IsTimed row.now }
-    requires early { IsEarly row.now }
+    requires soon { IsSoon row.now }
     requires bytes { row.now.bytes ≤ 2 ^ 40 }
     requires count { count ≤ row.now.bytes }
     ensures waiting { result.waiting ≡ waiting_row step prev count }
@@ -52,16 +52,18 @@ fn leaving_rows(step: u64, prev: u128, row: &Row, count: u64, last: u128) -> Lea
 #[inline(always)]
 fn leave_fast(step: u64, prev: u128, row: &Row) -> Leaving
     requires some { 0 < step }
-    requires step { step ≤ 2 ^ 28 }
-    requires prev { prev ≤ 2 ^ 86 + 2 ^ 69 }
+    requires step { step ≤ 2 ^ 40 }
+    requires prev { prev ≤ 2 ^ 86 + 2 ^ 81 }
     requires timed { IsTimed row.now }
-    requires early { IsEarly row.now }
+    requires soon { IsSoon row.now }
     requires bytes { 0 < row.now.bytes }
     requires count { row.now.bytes ≤ 2 ^ 40 }
     requires fast { row.now.pace ≤ step * row.now.parts }
     ensures left { times_left result ≡ departures step prev (times_of row.now) }
     ensures last { result.last ≡ last_left step prev (times_of row.now) }
     ensures timed { IsTimed result.waiting × IsTimed result.free }
+    ensures soon { (latest : ℕ) → prev ≤ latest → row.now.from + row.now.bytes * row.now.pace ≤ latest * row.now.parts →
+        RowsSoon step latest row.now.bytes result }
 {
     let first = row.time(0).max(prev);
     let last = first + u128::from(row.bytes) * u128::from(step);
@@ -72,16 +74,18 @@ fn leave_fast(step: u64, prev: u128, row: &Row) -> Leaving
 #[inline(always)]
 fn leave_slow(step: u64, prev: u128, row: &Row) -> Leaving
     requires some { 0 < step }
-    requires step { step ≤ 2 ^ 28 }
-    requires prev { prev ≤ 2 ^ 86 + 2 ^ 69 }
+    requires step { step ≤ 2 ^ 40 }
+    requires prev { prev ≤ 2 ^ 86 + 2 ^ 81 }
     requires timed { IsTimed row.now }
-    requires early { IsEarly row.now }
+    requires soon { IsSoon row.now }
     requires bytes { 0 < row.now.bytes }
     requires count { row.now.bytes ≤ 2 ^ 40 }
     requires slow { step * row.now.parts ≤ row.now.pace }
     ensures left { times_left result ≡ departures step prev (times_of row.now) }
     ensures last { result.last ≡ last_left step prev (times_of row.now) }
     ensures timed { IsTimed result.waiting × IsTimed result.free }
+    ensures soon { (latest : ℕ) → prev ≤ latest → row.now.from + row.now.bytes * row.now.pace ≤ latest * row.now.parts →
+        RowsSoon step latest row.now.bytes result }
 {
     let room = ((prev + 1) * u128::from(row.parts)).saturating_sub(row.from);
     let gain = u128::from(row.pace) - u128::from(step) * u128::from(row.parts);
@@ -99,15 +103,17 @@ fn leave_slow(step: u64, prev: u128, row: &Row) -> Leaving
 #[inline(always)]
 pub(crate) fn leave(step: u64, prev: u128, row: &Row) -> Leaving
     requires some { 0 < step }
-    requires step { step ≤ 2 ^ 28 }
-    requires prev { prev ≤ 2 ^ 86 + 2 ^ 69 }
+    requires step { step ≤ 2 ^ 40 }
+    requires prev { prev ≤ 2 ^ 86 + 2 ^ 81 }
     requires timed { IsTimed row.now }
-    requires early { IsEarly row.now }
+    requires soon { IsSoon row.now }
     requires bytes { 0 < row.now.bytes }
     requires count { row.now.bytes ≤ 2 ^ 40 }
     ensures left { times_left result ≡ departures step prev (times_of row.now) }
     ensures last { result.last ≡ last_left step prev (times_of row.now) }
     ensures timed { IsTimed result.waiting × IsTimed result.free }
+    ensures soon { (latest : ℕ) → prev ≤ latest → row.now.from + row.now.bytes * row.now.pace ≤ latest * row.now.parts →
+        RowsSoon step latest row.now.bytes result }
 {
     if u128::from(row.pace) <= u128::from(step) * u128::from(row.parts) {
         leave_fast(step, prev, row)

@@ -21,8 +21,8 @@ pub(crate) fn found(step: u64, prev: u128, time: u128) -> u128
 #[inline(always)]
 pub(crate) fn most_found(step: u64, prev: u128, row: &Row) -> u128
     requires some { 0 < step }
-    requires step { step ≤ 2 ^ 28 }
-    requires prev { prev ≤ 2 ^ 86 + 2 ^ 69 }
+    requires step { step ≤ 2 ^ 40 }
+    requires prev { prev ≤ 2 ^ 86 + 2 ^ 81 }
     requires timed { IsTimed row.now }
     requires bytes { 0 < row.now.bytes }
     requires count { row.now.bytes ≤ 2 ^ 40 }
