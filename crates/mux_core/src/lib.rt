@@ -25,6 +25,6 @@ pub use carry::{CarryError, carry};
 pub use done::{Done, NewError};
 pub use multiplexer::Mux;
 pub use multiplexing::{MuxError, multiplex, multiplex_as, multiplex_switch, multiplex_switch_as};
-pub use pes_packet::Unit;
+pub use pes_packet::{Marks, PesFlags, Unit};
 pub use unit_queue::FeedError;
 pub use unit_records::{UnitFileError, read_unit};

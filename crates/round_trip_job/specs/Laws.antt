@@ -28,10 +28,12 @@ AcceptedLaw = (made : Bool) (schedule : Scheduled) (findings : List FindingView)
 
 -- ---- coming out
 
--- units at moments of a run are these units of the wire: on a clock that shows `base` at moment 0 their stamps are the same, and their bytes are
+-- units at moments of a run are these units of the wire: on a clock that shows `base` at moment 0 their stamps are the same, and
+-- their marks and bytes are
 pub record AreTheSame (wire : List AccessUnit) (base : ℕ) (us : List AccessUnit) : Type 0 where
   pub dts : map (λ u. on_wire (u.dts + base)) us ≡ map (λ u. on_wire u.dts) wire
   pub pts : map (λ u. on_wire (u.pts + base)) us ≡ map (λ u. on_wire u.pts) wire
+  pub marks : map (λ u. u.marks) us ≡ map (λ u. u.marks) wire
   pub bytes : map (λ u. u.bytes) us ≡ map (λ u. u.bytes) wire
 
 -- by one constant
@@ -63,7 +65,7 @@ CarriedLaw = (d : Described) (p : Planned) (findings : List FindingView) (units 
 
 -- a unit of the wire with stamps that are later by this time, modulo 2^33
 abbrev pub later_by : ℕ → AccessUnit → AccessUnit
-later_by time u = record { dts = on_wire (u.dts + time); pts = on_wire (u.pts + time); bytes = u.bytes }
+later_by time u = record { dts = on_wire (u.dts + time); pts = on_wire (u.pts + time); marks = u.marks; bytes = u.bytes }
 
 -- a run of n slots ends no earlier than the DTS of each of these units
 abbrev pub AllDue : ℕ → ℕ → List AccessUnit → Type 0

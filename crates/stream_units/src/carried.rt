@@ -23,6 +23,7 @@ fn copied<A: Allocator>(
         stream_id: unit.stream_id,
         dts: unit.dts,
         pts: unit.pts,
+        marks: unit.marks,
         bytes,
     })
 }

@@ -45,10 +45,10 @@ fn shorter(least: u32, time: u64) -> u32
     }
 }
 
-/// The size of the largest unit, in bytes.
+/// The size of the largest unit in bytes, with what its marks take.
 pub fn max_unit_size<A: Allocator>(units: &[Unit<A>]) -> usize
     ensures value { result ≡ spec.max_unit_size units.now }
-    ensures bound { result < 2 ^ 63 }
+    ensures bound { result < 2 ^ 63 + 26 }
 {
     let mut greatest = 0;
     for unit in units {
@@ -67,7 +67,7 @@ pub(crate) fn unit_packets<A: Allocator>(base0: u64, unit: &Unit<A>) -> u64
 
 /// The packets of a unit of `size` bytes with the longest header.
 pub(crate) fn max_unit_packets(size: usize) -> u64
-    requires { size < 2 ^ 63 }
+    requires { size < 2 ^ 63 + 26 }
     ensures { result ≡ spec.max_unit_packets size }
 {
     (19 + size as u64 + 183) / 184

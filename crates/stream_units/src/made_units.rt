@@ -19,13 +19,15 @@ fn all_pts<A: Allocator>(alloc: A, found: &[FoundUnit<'_, A>]) -> Result<Vec<u64
 
 // A unit with another DTS.
 fn restamped<'f, A: Allocator>(dts: u64, unit: FoundUnit<'f, A>) -> FoundUnit<'f, A>
-    ensures { result ≡ unit_with unit.entry.packet unit.entry.stream_id dts unit.entry.unit.pts unit.entry.unit.bytes }
+    ensures { result ≡ unit_with unit.entry.packet unit.entry.stream_id dts unit.entry.unit.pts
+        unit.entry.unit.marks unit.entry.unit.bytes }
 {
     WireUnit {
         packet: unit.packet,
         stream_id: unit.stream_id,
         dts,
         pts: unit.pts,
+        marks: unit.marks,
         bytes: unit.bytes,
     }
 }

@@ -1,6 +1,7 @@
 //! What is asked of one unit.
 
-ghost use Rattle.std.specs.Prelude.{◌≡◌, ◌<◌, ◌^◌, length};
+ghost use Rattle.std.specs.Prelude.{◌≡◌, ◌<◌, ◌+◌, ◌^◌, length};
+ghost use Rattle.pes_packet.specs.Marks.{marks_size};
 
 use pes_packet::Unit;
 use std::alloc::Allocator;
@@ -12,10 +13,10 @@ pub(crate) fn dts_of<A: Allocator>(unit: &Unit<A>) -> u64
     unit.dts
 }
 
-/// Its size in bytes.
+/// Its size in bytes, with what its marks take.
 pub(crate) fn size_of<A: Allocator>(unit: &Unit<A>) -> usize
-    ensures value { result ≡ length unit.now.bytes }
-    ensures bound { result < 2 ^ 63 }
+    ensures value { result ≡ length unit.now.bytes + marks_size unit.now.marks }
+    ensures bound { result < 2 ^ 63 + 26 }
 {
-    unit.bytes.len()
+    unit.bytes.len() + unit.marks.size()
 }

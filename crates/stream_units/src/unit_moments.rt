@@ -66,6 +66,7 @@ pub fn moved_unit<A: Allocator>(
         Ok(moment) => Ok(Unit {
             dts: moment.dts,
             pts: moment.pts,
+            marks: wire.marks,
             bytes: wire.bytes,
         }),
     }
@@ -108,6 +109,7 @@ fn unit_at<A: Allocator>(moment: UnitMoment, wire: WireUnit<Vec<u8, A>>) -> Unit
     Unit {
         dts: moment.dts,
         pts: moment.pts,
+        marks: wire.marks,
         bytes: wire.bytes,
     }
 }

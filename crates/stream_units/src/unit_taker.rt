@@ -12,6 +12,7 @@ use crate::pes_role::{PesRole, UnitStart, is_on, role_of};
 use crate::unit_bytes::{BodyBytes, UnitBytes};
 use crate::wire_unit::WireUnit;
 use demux::{Finding, Part, What};
+use pes_packet::Marks;
 use std::alloc::{AllocError, Allocator};
 use std::marker::Model;
 use std::mem;
@@ -47,6 +48,7 @@ fn started<'f, A, B: BodyBytes<'f, A>>(
         stream_id: first.stream_id,
         dts: first.dts,
         pts: first.pts,
+        marks: first.marks,
         bytes,
     })
 }
@@ -67,16 +69,22 @@ fn moved_body<A: Allocator>(alloc: A, what: What<'_, A>) -> Result<Vec<u8, A>, A
 
 // The first PES packet of a unit, if a finding is one: all but its body.
 #[tactic(auto, using(crate::proofs::TakenUnits::start_body))]
-fn start_in<A: Allocator>(pid: u16, finding: &Finding<'_, A>) -> Option<(u64, u8, u64, u64)>
+fn start_in<A: Allocator>(pid: u16, finding: &Finding<'_, A>) -> Option<(u64, u8, u64, u64, Marks)>
     ensures start { IfSome result (λ s. units.role_of pid (finding_view finding.now)
-        ≡ units.Start (units.unit_with s.0 s.1 s.2 s.3 (taken.body_of (what_view finding.now.what)))) }
+        ≡ units.Start (units.unit_with s.0 s.1 s.2 s.3 s.4 (taken.body_of (what_view finding.now.what)))) }
     ensures on { IfSome result (λ s. finding.now.pid ≡ Some pid) }
 {
     if !is_on(pid, finding) {
         return None;
     }
     match role_of(pid, finding) {
-        PesRole::Start(first) => Some((first.packet, first.stream_id, first.dts, first.pts)),
+        PesRole::Start(first) => Some((
+            first.packet,
+            first.stream_id,
+            first.dts,
+            first.pts,
+            first.marks,
+        )),
         _ => None,
     }
 }
@@ -93,7 +101,7 @@ fn moved_start<A: Allocator + Clone>(
     ensures none { IfOk result (λ unit. unit ≡ None → finding.new ≡ finding.old) }
     ensures others { OnOk result (OthersStay pid (finding_view finding.old ∷ []) (finding_view finding.new ∷ [])) }
 {
-    let Some((packet, stream_id, dts, pts)) = start_in(pid, finding) else {
+    let Some((packet, stream_id, dts, pts, marks)) = start_in(pid, finding) else {
         return Ok(None);
     };
     let empty = alloc.clone()?;
@@ -104,6 +112,7 @@ fn moved_start<A: Allocator + Clone>(
         stream_id,
         dts,
         pts,
+        marks,
         bytes,
     }))
 }

@@ -1,6 +1,7 @@
-//! Units with the stamps that they have on the wire.
+//! Units with the stamps and marks that they have on the wire.
 
 use crate::unit_bytes::{LentBytes, UnitBytes};
+use pes_packet::Marks;
 use std::alloc::Global;
 use std::marker::Model;
 
@@ -13,6 +14,8 @@ pub struct WireUnit<B: UnitBytes = Vec<u8>> {
     pub stream_id: u8,
     pub dts: u64,
     pub pts: u64,
+    /// What its first PES packet says beside the stamps.
+    pub marks: Marks,
     pub bytes: B,
 }
 
@@ -25,5 +28,5 @@ impl<B: UnitBytes> Model for WireUnit<B> {
 
     ghost Value = { CarriedUnit };
 
-    ghost view = { λ u. unit_with u.packet u.stream_id u.dts u.pts (B.bytes u.bytes) };
+    ghost view = { λ u. unit_with u.packet u.stream_id u.dts u.pts u.marks (B.bytes u.bytes) };
 }

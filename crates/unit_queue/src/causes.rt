@@ -11,8 +11,8 @@ use unit_timing::allowance::Allowance;
 // No DTS over this is accepted.
 const MAX_DTS: u64 = 1 << 52;
 
-/// The first cause that lies in the unit by itself and in its distance from the one before: it has 1 to `largest`
-/// bytes, its DTS is `min_next_dts` or later, and its PTS at most 90,000 after its DTS.
+/// The first cause that lies in the unit by itself and in its distance from the one before: it has a byte, and with
+/// what its marks take at most `largest`, its DTS is `min_next_dts` or later, and its PTS at most 90,000 after its DTS.
 #[tactic(auto, unfolding(crate::specs::Causes::own_cause))]
 pub fn own_cause<A: Allocator>(
     largest: usize,
@@ -24,7 +24,7 @@ pub fn own_cause<A: Allocator>(
     let size = unit.bytes.len();
     if size == 0 {
         Some(FeedError::Empty)
-    } else if size > largest {
+    } else if size + unit.marks.size() > largest {
         Some(FeedError::TooLarge)
     } else if unit.dts < min_next_dts {
         Some(FeedError::TooSoon)

@@ -5,6 +5,7 @@ ghost use Rattle.unit_records.specs.OpenRecords.{ClosesRecord, IsOpen, NamesSize
 ghost use Rattle.unit_records.specs.Records.{record_at};
 
 use crate::reading::{MAX_UNIT_SIZE, UnitFileError};
+use crate::words::{marks_in, size_in};
 use arrayvec::ArrayVec;
 use bit_fields::append;
 use byteorder::{BigEndian, ByteOrder};
@@ -19,7 +20,7 @@ const HEAD: usize = 21;
 #[derive(Drop)]
 pub struct OpenRecord {
     alloc: Global,
-    /// The bytes before those of the unit: stream (1 byte), size (4), DTS and PTS (8 each).
+    /// The bytes before those of the unit: stream and marks (1 byte each), size (3), DTS and PTS (8 each).
     head: ArrayVec<u8, HEAD>,
     /// The bytes of the unit.
     unit: Vec<u8>,
@@ -42,7 +43,7 @@ fn named_size(head: &[u8]) -> Result<Option<usize>, UnitFileError>
     if head.len() < 5 {
         return Ok(None);
     }
-    let size = BigEndian::read_u32(&head[1..]) as usize;
+    let size = size_in(BigEndian::read_u32(&head[1..]));
     if size > MAX_UNIT_SIZE {
         return Err(UnitFileError::Size);
     }
@@ -92,11 +93,18 @@ impl OpenRecord {
         }
         let head = self.head.as_slice();
         let stream = head[0];
+        let marks = marks_in(BigEndian::read_u32(&head[1..]));
         let dts = BigEndian::read_u64(&head[5..]);
         let pts = BigEndian::read_u64(&head[13..]);
         let bytes = mem::replace(&mut self.unit, Vec::new(self.alloc));
         self.head.clear();
-        Some((stream, Unit { dts, pts, bytes }))
+        let unit = Unit {
+            dts,
+            pts,
+            marks,
+            bytes,
+        };
+        Some((stream, unit))
     }
 
     /// Takes the next bytes. Where the record ends among them, it returns how many of them belong to it, with the number

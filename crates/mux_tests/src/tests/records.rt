@@ -4,7 +4,7 @@ use super::carrying::{NEVER, RECORD, carried};
 use super::{changed, joined};
 use counted_io::Counted;
 use linked_list_allocator::LocalHeap;
-use mux_core::{CarryError, FeedError, Unit, UnitFileError, read_unit};
+use mux_core::{CarryError, FeedError, Marks, Unit, UnitFileError, read_unit};
 use std::alloc::Global;
 
 /// A record after RECORD: stream 0, 2 bytes, DTS 92,160 and PTS 95,760.
@@ -13,8 +13,8 @@ const NEXT: [u8; 23] = [
     0x00, 0x00, 0x01, 0x76, 0x10, 0x44, 0x45,
 ];
 
-/// The stream, DTS, PTS and bytes of a unit.
-type Parts<'a> = (u8, u64, u64, &'a [u8]);
+/// The stream, DTS, PTS, bytes and marks of a unit.
+type Parts<'a> = (u8, u64, u64, &'a [u8], u64);
 
 /// A number of these bytes, with its highest byte first.
 fn number_at(bytes: &[u8], from: usize, to: usize) -> u64 {
@@ -30,15 +30,16 @@ fn rule(bytes: &[u8]) -> Result<Option<Parts<'_>>, UnitFileError> {
     let Some(stream) = bytes.first() else {
         return Ok(None);
     };
-    let size = number_at(bytes, 1, 5);
-    if bytes.len() >= 5 && size > 4_000_000 {
+    let (marks, size) = (number_at(bytes, 1, 2), number_at(bytes, 2, 5));
+    let refused = size > 4_000_000 || marks > 0x1f || marks != 0 && size == 0;
+    if bytes.len() >= 5 && refused {
         return Err(UnitFileError::Size);
     }
     let rest = bytes.get(21..).unwrap_or(&[]);
     match rest.get(..size as usize) {
         Some(unit) if bytes.len() >= 21 => {
             let (dts, pts) = (number_at(bytes, 5, 13), number_at(bytes, 13, 21));
-            Ok(Some((*stream, dts, pts, unit)))
+            Ok(Some((*stream, dts, pts, unit, marks)))
         }
         _ => Err(UnitFileError::Cut),
     }
@@ -46,7 +47,7 @@ fn rule(bytes: &[u8]) -> Result<Option<Parts<'_>>, UnitFileError> {
 
 /// The bytes after a record.
 fn after<'a>(bytes: &'a [u8], parts: &Parts<'a>) -> &'a [u8] {
-    let (_, _, _, unit) = parts;
+    let (_, _, _, unit, _) = parts;
     bytes
         .get(21..)
         .unwrap_or(&[])
@@ -54,13 +55,32 @@ fn after<'a>(bytes: &'a [u8], parts: &Parts<'a>) -> &'a [u8] {
         .unwrap_or(&[])
 }
 
+/// The byte of these marks.
+fn byte_of(marks: Marks) -> u8 {
+    let flags = [
+        (marks.long, 16),
+        (marks.flags.priority, 8),
+        (marks.flags.aligned, 4),
+        (marks.flags.copyright, 2),
+        (marks.flags.original, 1),
+    ];
+    let mut byte = 0u8;
+    for (stands, value) in &flags {
+        if *stands {
+            byte |= *value;
+        }
+    }
+    byte
+}
+
 fn is_unit(stream: u8, unit: &Unit, wanted: Result<Option<Parts<'_>>, UnitFileError>) -> bool {
     match wanted {
-        Ok(Some((wanted_stream, dts, pts, bytes))) => {
+        Ok(Some((wanted_stream, dts, pts, bytes, marks))) => {
             stream == wanted_stream
                 && unit.dts == dts
                 && unit.pts == pts
                 && unit.bytes.as_slice() == bytes
+                && byte_of(unit.marks) as u64 == marks
         }
         _ => false,
     }
@@ -118,7 +138,7 @@ fn names_the_size(alloc: Global, bytes: &[u8]) -> bool {
 
 /// Why `carry` refuses a unit after one with this DTS.
 fn refusal(parts: &Parts<'_>, last: Option<u64>) -> Option<FeedError> {
-    let (stream, dts, pts, unit) = *parts;
+    let (stream, dts, pts, unit, _) = *parts;
     if stream != 0 {
         Some(FeedError::UnknownStream)
     } else if unit.is_empty() {

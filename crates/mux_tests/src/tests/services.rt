@@ -2,7 +2,7 @@
 
 use super::texts::{DESCRIPTION, PLAN, TURNED_PLAN};
 use super::{checked, edited, followed};
-use mux_core::Unit;
+use mux_core::{Marks, Unit};
 use plan_checker::{CheckedPlan, CheckedSwitch};
 use std::alloc::{Allocator, Global};
 
@@ -121,7 +121,13 @@ impl Series {
 /// A unit of `size` equal bytes.
 pub fn unit<A: Allocator>(alloc: A, size: usize, dts: u64, pts: u64, byte: u8) -> Option<Unit<A>> {
     let bytes = vec![in alloc; byte; size].ok()?;
-    Some(Unit { dts, pts, bytes })
+    let marks = Marks::NONE;
+    Some(Unit {
+        dts,
+        pts,
+        marks,
+        bytes,
+    })
 }
 
 /// All units of these series.

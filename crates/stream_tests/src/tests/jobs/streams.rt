@@ -2,7 +2,7 @@
 
 use demux::{Finding, Kind, Part, What};
 use given_values::{ClockBase, DeclareBy};
-use pes_packet::{PesHeader, Stamps};
+use pes_packet::{PesFlags, PesHeader, Stamps};
 use psi_tables::check_word;
 use std::alloc::{AllocError, Global};
 use stream_jobs::{JobInput, JobOptions, job_input};
@@ -66,6 +66,8 @@ fn add_unit(
             id,
             len: 0,
             stamps: Stamps::Pts(pts),
+            flags: PesFlags::NONE,
+            data_length: 5,
         },
         unended: false,
         body: Part::Joined(vec![in alloc; 7u8; size]?),
