@@ -75,6 +75,10 @@ program_line program Missing = codes "program " ++ decimal program ++ codes " is
 program_line program NoStream = codes "program " ++ decimal program ++ codes " has no stream with units: left out\n"
 program_line program UnreadText = codes "name of program " ++ decimal program ++ codes " has characters that cannot be read\n"
 
+-- the buffer that a stream says
+unfoldable pub header_line : ℕ → ℕ → ℕ → ℕ → List ℕ
+header_line pid said unit counted = codes "pid " ++ decimal pid ++ codes " says a buffer of " ++ decimal said ++ codes " bytes and has a unit of " ++ decimal unit ++ codes ": its level's " ++ decimal counted ++ codes " declared\n"
+
 unfoldable pub warning_line : Warning → List ℕ
 warning_line (warning.Packet packet what) = packet_line packet what
 warning_line (warning.TrailingBytes size) = codes "rest of " ++ decimal size ++ codes " bytes\n"
@@ -89,6 +93,7 @@ warning_line (warning.StreamId program pid packet id) = id_line program pid pack
 warning_line warning.UnreadNetwork = codes "name of the network has characters that cannot be read\n"
 warning_line (warning.Information about) = information_line about
 warning_line (warning.MapMoved program from to) = codes "PMT of program " ++ decimal program ++ codes " moved from pid " ++ decimal from ++ codes " to " ++ decimal to ++ codes "\n"
+warning_line (warning.HeaderBuffer pid said unit counted) = header_line pid said unit counted
 
 -- 2. All of them
 

@@ -182,6 +182,23 @@ fn write_program(program: u16, what: ProgramWarning, text: &mut String) -> Resul
     }
 }
 
+// The line for the buffer that a stream says.
+#[tactic(auto, unfolding(crate::specs::WarningLines::header_line))]
+fn write_header_buffer(
+    pid: u16,
+    said: u32,
+    unit: usize,
+    counted: u32,
+    text: &mut String,
+) -> Result<(), AllocError>
+    ensures { OnOk result (string_bytes text.new ≡ string_bytes text.old ++ spec.header_line pid said unit counted) }
+{
+    write!(
+        text,
+        "pid {pid} says a buffer of {said} bytes and has a unit of {unit}: its level's {counted} declared\n"
+    )
+}
+
 // The line of a warning.
 #[tactic(auto, unfolding(crate::specs::WarningLines::warning_line))]
 fn write_warning(warning: Warning, text: &mut String) -> Result<(), AllocError>
@@ -221,6 +238,12 @@ fn write_warning(warning: Warning, text: &mut String) -> Result<(), AllocError>
             text,
             "PMT of program {program} moved from pid {from} to {to}\n"
         ),
+        Warning::HeaderBuffer {
+            pid,
+            said,
+            unit,
+            counted,
+        } => write_header_buffer(pid, said, unit, counted, text),
     }
 }
 

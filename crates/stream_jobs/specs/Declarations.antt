@@ -1,5 +1,5 @@
 -- What a description declares of the streams of a job.
-use Rattle.std.specs.Prelude.{ℕ, ◌+◌, ◌-◌, ◌*◌, ◌/◌, ◌^◌, ◌==◌, ◌&&◌, min, max, nat_lt, Bool, if◌then◌else◌, List, [], ◌∷◌, length, map, find, zip, sum_by, unwrap_or, ok_or, Option, Some, None, is_some, option_map, Result, Ok}
+use Rattle.std.specs.Prelude.{ℕ, ◌+◌, ◌-◌, ◌*◌, ◌/◌, ◌^◌, ◌==◌, ◌&&◌, ◌||◌, min, max, nat_lt, Bool, if◌then◌else◌, List, [], ◌∷◌, length, map, flat_map, find, zip, sum_by, unwrap_or, ok_or, Option, Some, None, is_some, option_map, Result, Ok}
 use Rattle.std.specs.List.{range_with_len}
 use Rattle.clock27.specs.Units.{slot_units_at_1bps}
 use Rattle.clock27.specs.declared.rate.TheConstants.{LEAST_RATE}
@@ -25,6 +25,8 @@ use Rattle.stream_jobs.specs.declared.refusal.JobRefusal.{JobRefusal}
 use Rattle.stream_jobs.specs.declared.refusal.JobRefusal.TheVariants as refusals
 use Rattle.given_values.specs.declared.declare_by.DeclareBy.{DeclareBy}
 use Rattle.given_values.specs.declared.declare_by.DeclareBy.TheVariants as by
+use Rattle.stream_jobs.specs.declared.warning.Warning.{Warning}
+use Rattle.stream_jobs.specs.declared.warning.Warning.TheVariants as warning
 use Rattle.stream_jobs.specs.Answers.{unless, each}
 use Rattle.stream_jobs.specs.JobStreams.{TimedStreamView}
 
@@ -52,9 +54,13 @@ unfoldable pub first_bytes : List AccessUnit → List ℕ
 first_bytes [] = []
 first_bytes (u ∷ us) = u.bytes
 
--- by the first unit; a buffer that does not hold the greatest one is none that the stream keeps to
+-- by the first unit
+abbrev pub said_coding : TimedStreamView → Coding
+said_coding s = coding_of s.stream_type s.descriptors (first_bytes s.units)
+
+-- a buffer that does not hold the greatest one is none that the stream keeps to
 unfoldable pub coding_for : TimedStreamView → Coding
-coding_for s = coding_holding (max_unit_size s.units) (coding_of s.stream_type s.descriptors (first_bytes s.units))
+coding_for s = coding_holding (max_unit_size s.units) (said_coding s)
 
 unfoldable pub buffers_for : List PidBuffers → TimedStreamView → Buffers
 buffers_for given s = unwrap_or (given_buffers given s.pid) (buffers_of (coding_for s))
@@ -68,6 +74,22 @@ without_header b = record { rbx = b.rbx; size = if nat_lt 19 b.size then b.size 
 -- MB of video; there is none beside buffers that are asked for, which are one main buffer
 unfoldable pub multiplexing_for : List PidBuffers → TimedStreamView → Option MultiplexingBuffer
 multiplexing_for given s = if is_some (given_buffers given s.pid) then None else option_map without_header (multiplexing_of (coding_for s))
+
+-- the size of the buffer that a stream says by its first unit, and the one that counts in its place
+abbrev pub said_size : TimedStreamView → ℕ
+said_size s = (buffers_of (said_coding s)).main
+
+abbrev pub counted_size : TimedStreamView → ℕ
+counted_size s = (buffers_of (coding_for s)).main
+
+-- they differ, and no buffers are asked for
+unfoldable pub header_warning : List PidBuffers → TimedStreamView → List Warning
+header_warning given s =
+    if is_some (given_buffers given s.pid) || said_size s == counted_size s then []
+    else warning.HeaderBuffer s.pid (said_size s) (max_unit_size s.units) (counted_size s) ∷ []
+
+abbrev pub header_warnings : List PidBuffers → List TimedStreamView → List Warning
+header_warnings given streams = flat_map (header_warning given) streams
 
 -- 3. What is counted of a stream's units: what they need, and the greatest number of packets of 1, 2, .. of them in a row
 

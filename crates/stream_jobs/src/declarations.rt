@@ -1,6 +1,6 @@
 //! What is counted of a stream's units.
 
-ghost use Rattle.std.specs.Prelude.{◌≡◌, ◌≤◌, IfErr, IfNone, IfOk, List, Ok, All};
+ghost use Rattle.std.specs.Prelude.{◌≡◌, ◌≤◌, ◌++◌, IfErr, IfNone, IfOk, OnOk, List, Ok, All, option_to_list};
 ghost use Rattle.pes_packet.specs.AccessUnits.{AccessUnit};
 ghost use Rattle.stream_units.specs.Declaration.{counted_packets, max_unit_size};
 ghost use Rattle.stream_jobs.specs.Answers.{Answers, Refuses};
@@ -9,6 +9,7 @@ ghost use Rattle.stream_jobs.specs.Jobs.{FitsQueue};
 
 use crate::job_stream::TimedStream;
 use crate::refusal::{JobError, JobRefusal};
+use crate::warning::Warning;
 use pes_packet::greatest_size;
 use std::alloc::{AllocError, Global};
 use std::marker::Model;
@@ -114,13 +115,68 @@ fn first_bytes(stream: &TimedStream) -> &[u8]
     }
 }
 
+// How a stream is coded by its first unit.
+fn said_coding(stream: &TimedStream) -> Coding
+    ensures { result ≡ spec.said_coding stream.now }
+{
+    coding_of(stream.stream_type, &stream.descriptors, first_bytes(stream))
+}
+
 // How a stream is coded: by its first unit, and by a buffer that holds its greatest one.
 #[tactic(auto, unfolding(crate::specs::Declarations::coding_for))]
 fn coding_for(stream: &TimedStream) -> Coding
     ensures { result ≡ spec.coding_for stream.now }
 {
-    let coding = coding_of(stream.stream_type, &stream.descriptors, first_bytes(stream));
-    coding_holding(max_unit_size(&stream.units), coding)
+    coding_holding(max_unit_size(&stream.units), said_coding(stream))
+}
+
+// The warning about the buffer that a stream says.
+#[tactic(auto, unfolding(crate::specs::Declarations::header_warning))]
+fn header_warning(given: &[PidBuffers], stream: &TimedStream) -> Option<Warning>
+    ensures { option_to_list result ≡ spec.header_warning given.now stream.now }
+{
+    if given_buffers(given, stream.pid).is_some() {
+        return None;
+    }
+    let said = buffers_of(said_coding(stream)).main;
+    let counted = buffers_of(coding_for(stream)).main;
+    if said == counted {
+        return None;
+    }
+    Some(Warning::HeaderBuffer {
+        pid: stream.pid,
+        said,
+        unit: max_unit_size(&stream.units),
+        counted,
+    })
+}
+
+// Appends the warning about the buffer that a stream says.
+fn push_header_warning(
+    given: &[PidBuffers],
+    stream: &TimedStream,
+    warnings: &mut Vec<Warning>,
+) -> Result<(), AllocError>
+    ensures { OnOk result (warnings.new.items ≡ warnings.old.items ++ spec.header_warning given.now stream.now) }
+{
+    if let Some(warning) = header_warning(given, stream) {
+        warnings.push(warning)?;
+    }
+    Ok(())
+}
+
+/// Appends the warnings about the buffers that streams say.
+pub(crate) fn push_header_warnings(
+    given: &[PidBuffers],
+    streams: &[TimedStream],
+    warnings: &mut Vec<Warning>,
+) -> Result<(), AllocError>
+    ensures { OnOk result (warnings.new.items ≡ warnings.old.items ++ spec.header_warnings given.now streams.now) }
+{
+    for stream in streams {
+        push_header_warning(given, stream, warnings)?;
+    }
+    Ok(())
 }
 
 // The buffers of a stream: those that the options give, or those of its coding.

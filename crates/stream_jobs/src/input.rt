@@ -9,7 +9,9 @@ ghost use Rattle.stream_jobs.specs.Jobs.{AreStreams, FitsQueue, IsMoved};
 ghost use Rattle.stream_jobs.specs.JobInput as spec;
 
 use crate::choices::choices;
-use crate::declarations::{StreamChoice, UnitCounts, count_units, too_long, too_many};
+use crate::declarations::{
+    StreamChoice, UnitCounts, count_units, push_header_warnings, too_long, too_many,
+};
 use crate::information::JobInformation;
 use crate::input_draft::{InputDraft, input_draft};
 use crate::job_options::JobOptions;
@@ -103,6 +105,8 @@ fn with_moved(
         &streams,
         &unit_counts,
     )?;
+    let mut warnings = warnings;
+    push_header_warnings(options.buffers, &streams, &mut warnings)?;
     Ok(JobInput {
         information,
         base0,

@@ -93,6 +93,13 @@ pub enum Warning {
         from: u16,
         to: u16,
     },
+    /// A stream says that a buffer of this size is enough for it, which does not hold this unit of it: another one counts.
+    HeaderBuffer {
+        pid: u16,
+        said: u32,
+        unit: usize,
+        counted: u32,
+    },
 }
 
 impl PacketWarning {
@@ -139,6 +146,7 @@ impl Warning {
             Warning::UnreadNetwork => true,
             Warning::Information(_) => true,
             Warning::MapMoved { .. } => false,
+            Warning::HeaderBuffer { .. } => false,
         }
     }
 }

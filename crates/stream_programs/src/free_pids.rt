@@ -3,9 +3,9 @@
 ghost use Rattle.std.specs.Prelude.{◌≡◌, IfSome, IfNone};
 ghost use Rattle.stream_programs.specs.FreePids as spec;
 
-/// Whether a PID is one of these.
+// Whether a PID is one of these.
 #[tactic(auto, unfolding(crate::specs::FreePids::is_taken))]
-pub(crate) fn is_taken(pid: u16, taken: &[u16]) -> bool
+fn is_taken(pid: u16, taken: &[u16]) -> bool
     ensures { result ≡ spec.is_taken pid taken.now }
 {
     taken.iter().any(|other| *other == pid)
