@@ -12,7 +12,7 @@ ghost use Rattle.checked_jobs.specs.JobFaults.{plans_view};
 ghost use Rattle.tsair_cli.specs.AirRuns as spec;
 ghost use Rattle.tsair_cli.specs.Arguments.{asked};
 ghost use Rattle.tsair_cli.specs.Options.{known_words, usage_text};
-ghost use Rattle.word_faults.specs.UsageReport.{Prints, is_version, usage_report, version_text};
+ghost use Rattle.word_faults.specs.UsageReport.{AnswersWords};
 ghost use Rattle.tsair_cli.specs.declared.arguments.AirOptions.{AirOptions};
 
 use crate::arguments::{AirOptions, read_arguments};
@@ -26,7 +26,7 @@ use devices::{Halt, report_halt, report_text};
 use held_input::HeldInput;
 use on_air::{NewError, OnAir};
 use std::alloc::Global;
-use word_faults::answer_other_words;
+use word_faults::answer_words;
 
 /// Writes the usage, and returns the status.
 pub fn report_usage<E: Sink>(faults: &mut E) -> u8
@@ -128,23 +128,17 @@ pub fn run<R: HeldInput, W: Sink, E: Sink>(
     ensures air { (o : AirOptions) → asked words.now ≡ Some o →
         spec.AirsJob o (reads R.Source input.old input.new) (writes W.Sink output.old output.new)
         (writes E.Sink faults.old faults.new) result }
-    // `--version` alone.
-    ensures version { asked words.now ≡ None → is_version (map (λ s. s.now) words.now) ≡ true →
-        Prints (version_text (codes "tsair")) (reads R.Source input.old input.new) (writes W.Sink output.old output.new)
-        (writes E.Sink faults.old faults.new) result }
-    // Anything else: the first word that cannot be taken and the usage are told.
-    ensures usage { asked words.now ≡ None → is_version (map (λ s. s.now) words.now) ≡ false →
-        TellsUsage (usage_report known_words (map (λ s. s.now) words.now) usage_text)
+    // Anything else: `--version`, `--help`, or a word that cannot be taken.
+    ensures other { asked words.now ≡ None →
+        AnswersWords (codes "tsair") known_words (map (λ s. s.now) words.now) usage_text
         (reads R.Source input.old input.new) (writes W.Sink output.old output.new)
-        (writes E.Sink faults.old faults.new) result
-        ⊎ LacksMemory (reads R.Source input.old input.new) (writes W.Sink output.old output.new)
         (writes E.Sink faults.old faults.new) result }
 {
     match read_arguments(alloc, words) {
         Ok(Some(options)) => air_job(alloc, options, input, output, faults),
         Ok(None) => {
             let known = known_words();
-            answer_other_words(alloc, "tsair", known, words, usage(), output, faults)
+            answer_words(alloc, "tsair", known, words, usage(), output, faults)
         }
         Err(_) => report_halt(faults, Halt::Memory),
     }

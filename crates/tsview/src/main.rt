@@ -17,12 +17,12 @@ impl Program for Tsview {
     fn run<F: NamedFiles, R: HeldInput, W: Sink, E: Sink>(
         alloc: Global,
         words: &[&str],
-        _files: &F,
+        files: &F,
         input: &mut R,
         output: &mut W,
         faults: &mut E,
     ) -> u8 {
-        run(alloc, words, input, output, faults)
+        run(alloc, words, files, input, output, faults)
     }
 
     fn report_usage<E: Sink>(faults: &mut E) -> u8 {

@@ -1,5 +1,5 @@
 -- A table of options, and what a word or a value is by it.
-use Rattle.std.specs.Prelude.{ℕ, Bool, true, false, if◌then◌else◌, nat_eq, List, drop, Option, Some, None, codes, find, is_some, option_map, option_and_then}
+use Rattle.std.specs.Prelude.{ℕ, Bool, true, false, if◌then◌else◌, nat_eq, List, [], drop, Option, Some, None, codes, find, is_some, option_map, option_and_then}
 use Rattle.std.specs.Borrow.{Bor}
 use Rattle.std.specs.List.{starts_with}
 use Rattle.std.specs.Str.{bytes_eq}
@@ -18,10 +18,10 @@ abbrev pub OptionRow : Type 0
 OptionRow = Row Text
 
 abbrev pub view : Row (Bor (List ℕ)) → OptionRow
-view row = record { name = row.name.now; value = row.value; form = row.form.now; help = row.help.now }
+view row = record { name = row.name.now; value = row.value; form = row.form.now; unit = row.unit.now; apart = row.apart.now; help = row.help.now }
 
 abbrev pub constant_view : Row (record { now : List ℕ }) → OptionRow
-constant_view row = record { name = row.name.now; value = row.value; form = row.form.now; help = row.help.now }
+constant_view row = record { name = row.name.now; value = row.value; form = row.form.now; unit = row.unit.now; apart = row.apart.now; help = row.help.now }
 
 -- 1. The option of a word
 
@@ -36,7 +36,19 @@ kind_named rows name = option_map (λ row. row.value) (find (λ row. bytes_eq ro
 abbrev pub kind_of : List OptionRow → Text → Option ValueKind
 kind_of rows word = option_and_then (kind_named rows) (name_in word)
 
+-- the first row of this name
+abbrev pub row_of : List OptionRow → Text → Option OptionRow
+row_of rows word = option_and_then (λ name. find (λ row. bytes_eq row.name name) rows) (name_in word)
+
 -- 2. What stands with it
+
+-- the option that may not stand beside it, by its word; an empty word is none
+abbrev pub apart_by : Option OptionRow → Text
+apart_by None = []
+apart_by (Some row) = row.apart
+
+unfoldable pub apart_of : List OptionRow → Text → Text
+apart_of rows word = apart_by (row_of rows word)
 
 -- a value follows the option: none where there is no option, or a word that is none
 abbrev pub takes_value : Option ValueKind → Option Bool

@@ -17,8 +17,8 @@ fn is_dashed(word: &str) -> bool
     }
 }
 
-// The option of a word, and the value that stands with it.
-fn split_word(word: &str) -> (&str, Option<&str>)
+/// The option of a word, and the value that stands with it.
+pub(crate) fn split_word(word: &str) -> (&str, Option<&str>)
     ensures option { result.0.now ≡ spec.option_in word.now }
     ensures value { option_map (λ s. s.now) result.1 ≡ spec.value_in word.now }
 {
@@ -134,6 +134,7 @@ fn option_reason(
     match known.takes_value(option) {
         None => Ok(Some(Reason::Unknown)),
         Some(_) if is_given(option, before) => Ok(Some(Reason::Twice)),
+        Some(_) if is_given(known.apart(option), before) => Ok(Some(Reason::Apart)),
         Some(takes_value) => known_reason(alloc, known, takes_value, option, value, rest),
     }
 }

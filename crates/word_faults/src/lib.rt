@@ -14,6 +14,7 @@
 #![tactic(auto)]
 
 mod faults;
+mod hints;
 mod known_words;
 mod laws;
 mod option_row;
@@ -28,6 +29,6 @@ pub use known_words::KnownWords;
 pub use laws::faults_name_words;
 pub use option_row::{OptionRow, Row, ValueKind};
 pub use option_values::{given_options, number_if, number_of, numbers_of, subcommand};
-pub use other_words::answer_other_words;
+pub use other_words::{answer_other_words, answer_words};
 pub use usage::usage_report;
 pub use word_fault::{Reason, WordFault};

@@ -1,6 +1,7 @@
 //! A table of options: a row is the name of an option, its value, and its line of the usage.
-ghost use Rattle.std.specs.Prelude.{◌≡◌, IfOk, find, map, option_map};
+ghost use Rattle.std.specs.Prelude.{◌≡◌, ◌++◌, IfOk, OnOk, find, map, option_map, string_bytes};
 ghost use Rattle.std.specs.Str.{bytes_eq};
+ghost use Rattle.word_faults.specs.Hints as hints;
 ghost use Rattle.word_faults.specs.OptionRows as spec;
 
 use devices::number_in;
@@ -9,6 +10,7 @@ use option_lists::{
 };
 use pes_packet::is_unit_id;
 use std::alloc::{AllocError, Global};
+use std::fmt::Write;
 
 /// What follows the word of an option.
 #[derive(Clone, Copy)]
@@ -57,6 +59,10 @@ pub struct Row<Text> {
     pub value: ValueKind,
     /// How the usage writes its value; a number without a form has its range.
     pub form: Text,
+    /// In what the numbers of its value count; empty if it has none.
+    pub unit: Text,
+    /// The word of the option that may not stand beside it; empty if each may.
+    pub apart: Text,
     /// What it is for, in a line.
     pub help: Text,
 }
@@ -86,6 +92,75 @@ pub(crate) fn kind_named(options: &[OptionRow], name: &[u8]) -> Option<ValueKind
     match row_named(options, name) {
         Some(row) => Some(row.value),
         None => None,
+    }
+}
+
+// The row of the option of this word.
+fn row_of<'a>(options: &'a [OptionRow], word: &str) -> Option<&'a OptionRow>
+    ensures { option_map (λ row. spec.view row.now) result ≡ spec.row_of (map spec.view options.now) word.now }
+{
+    match name_in(word) {
+        Some(name) => row_named(options, name),
+        None => None,
+    }
+}
+
+/// The word of the option that may not stand beside the option of this word; empty if each may.
+#[tactic(auto, unfolding(crate::specs::OptionRows::apart_of))]
+pub(crate) fn apart_of(options: &[OptionRow], word: &str) -> &'static str
+    ensures { result.now ≡ spec.apart_of (map spec.view options.now) word.now }
+{
+    match row_of(options, word) {
+        Some(row) => row.apart,
+        None => "",
+    }
+}
+
+/// Appends the line that says what the option of a word takes; nothing where there is no such option.
+#[tactic(auto, unfolding(crate::specs::Hints::takes_by))]
+pub(crate) fn write_takes(
+    text: &mut String,
+    options: &[OptionRow],
+    word: &str,
+) -> Result<(), AllocError>
+    ensures { OnOk result (string_bytes text.new
+        ≡ string_bytes text.old ++ hints.takes_line (map spec.view options.now) word.now) }
+{
+    let Some(row) = row_of(options, word) else {
+        return Ok(());
+    };
+    write!(text, "{word} takes")?;
+    write_value(text, row.value, row.form)?;
+    write_unit(text, row.unit)
+}
+
+// Appends the value of an option, after a space.
+#[tactic(auto, unfolding(crate::specs::Hints::taken_text))]
+fn write_value(text: &mut String, kind: ValueKind, form: &str) -> Result<(), AllocError>
+    ensures { OnOk result (string_bytes text.new ≡ string_bytes text.old ++ hints.taken_text kind form.now) }
+{
+    match kind {
+        ValueKind::Flag | ValueKind::Alone | ValueKind::Word => text.push_str(" no value"),
+        ValueKind::Number {
+            least,
+            greatest,
+            ..
+        } if form.is_empty() => write!(text, " {least}..{greatest}"),
+        ValueKind::Numbers { greatest } => write!(text, " {form}, each 0..{greatest}"),
+        ValueKind::Base => write!(text, " 0..8589934591|input"),
+        _ => write!(text, " {form}"),
+    }
+}
+
+// Appends in what numbers count, and the end of the line.
+#[tactic(auto, unfolding(crate::specs::Hints::unit_text))]
+fn write_unit(text: &mut String, unit: &str) -> Result<(), AllocError>
+    ensures { OnOk result (string_bytes text.new ≡ string_bytes text.old ++ hints.unit_text unit.now) }
+{
+    if unit.is_empty() {
+        text.push_str("\n")
+    } else {
+        write!(text, ", in {unit}\n")
     }
 }
 

@@ -5,11 +5,8 @@ use Rattle.tsjob_cli.proofs.program.run_on_stream.Goals as goal
 pub returns-in-Ok-None-clause-files : goal.returns-in-Ok-None-clause-files
 returns-in-Ok-None-clause-files g c = λ a none asked. c.run_on_files.ensures.files a asked
 
-pub returns-in-Ok-None-clause-version : goal.returns-in-Ok-None-clause-version
-returns-in-Ok-None-clause-version g c = λ none is. c.run_on_files.ensures.version is
-
-pub returns-in-Ok-None-clause-usage : goal.returns-in-Ok-None-clause-usage
-returns-in-Ok-None-clause-usage g c = λ none no_files is. c.run_on_files.ensures.usage no_files is
+pub returns-in-Ok-None-clause-other : goal.returns-in-Ok-None-clause-other
+returns-in-Ok-None-clause-other g c = λ none no_files. c.run_on_files.ensures.other no_files
 
 pub returns-in-Ok-Some-clause-job : goal.returns-in-Ok-Some-clause-job
 returns-in-Ok-Some-clause-job g c = λ a is none. job_asked _ c.in-Ok-Some.arguments a _ _ _ _ (sym c.in-Ok-Some.field-0-is ∙ c.in-Ok-Some.ensures) is c.answer.ensures.job none
