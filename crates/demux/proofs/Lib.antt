@@ -15,3 +15,5 @@ pub mod LeastSizes
 pub mod HeadedUnits
 pub mod NullPackets
 pub mod GoingOn
+pub mod HeaderFronts
+pub mod Headers

@@ -2,6 +2,7 @@
 
 ghost use Rattle.demux.specs.Laws.{EachPidAlone, PacketsDecide, PiecesJoin, TakenAsPushed};
 ghost use Rattle.demux.specs.Machine.{RunFindsAll};
+ghost use Rattle.demux.specs.Headers.{AllBodiesAreWhole, BodiesDecideNothing, FewAreKept, HeadersAlone};
 ghost use Rattle.demux.specs.FoundSoFar.{AllAreFound, NothingAtFirst, PacketAdds, PacketsAdd, PidFoundSoFar, PieceAdds};
 
 /// Packet by packet, with a state that keeps the last packet and the open unit, the findings are those that the packets
@@ -46,4 +47,13 @@ pub fn nothing_is_lost()
 /// Those of a PID are then the findings of its packets, with the end of the stream and without it.
 pub fn each_pid_so_far()
     ensures { PidFoundSoFar }
+{}
+
+/// A demultiplexer that keeps the bodies of PES packets on some PIDs alone, and of the others the headers and the number of bytes, finds
+/// what the whole one finds, without these other bodies; of an open unit it then keeps 4,098 bytes at most. With all bodies it is the whole one.
+pub fn headers_alone()
+    ensures packet { BodiesDecideNothing }
+    ensures stream { HeadersAlone }
+    ensures all { AllBodiesAreWhole }
+    ensures few { FewAreKept }
 {}
