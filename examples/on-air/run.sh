@@ -46,7 +46,7 @@ receiver=$!
 sleep 1
 # A pacer counts from its own start, so it begins with the first packets.
 ffmpeg -nostdin -loglevel error -re -i "$stream" -map 0 -c copy -copyts -f mpegts - | tee "$work/aired.ts" | "$tsjob" units --stream "$work/description" \
-    | cat "$work/description" "$work/plan" - | "$tsair" --wait 90000 \
+    | cat "$work/description" "$work/plan" - | "$tsair" \
     | ( dd bs=1316 count=1 iflag=fullblock status=none; exec mbuffer -q -m 1M -s 1316 -R $((rate / 8)) ) \
     | socat -u -b 1316 - UDP4-SENDTO:127.0.0.1:5004
 sleep 2

@@ -10,7 +10,7 @@ use Rattle.tsair_cli.specs.declared.arguments.AirOptions.{AirOptions}
 abbrev pub air_options : Bool → Bool → ℕ → ℕ → Option ℕ → Option ℕ → AirOptions
 air_options hex stop wait ahead slots periods = record { terms = record { wait = wait; ahead = ahead; slots = slots }; periods = periods; hex = hex; stop = stop }
 
--- times in units of 90 kHz: without words, nothing is waited for, and a record may lie 10 s ahead
+-- times in units of 90 kHz: without words, a unit may come 2 s after a greater DTS, and a record may lie 10 s ahead
 unfoldable pub options_of : List Row → Option AirOptions
 options_of rows =
     option_and_then (λ wait.

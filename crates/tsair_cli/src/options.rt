@@ -12,10 +12,10 @@ pub(crate) const OPTIONS: [OptionRow; 8] = [
         value: ValueKind::Number {
             least: 0,
             greatest: 8_100_000,
-            default: Some(0),
+            default: Some(180_000),
         },
         form: "",
-        help: "how much later than a greater DTS a unit may come, in units of 90 kHz",
+        help: "how much later than a greater DTS a unit may come, in units of 90 kHz; else 180000",
     },
     OptionRow {
         name: "ahead",
@@ -75,7 +75,7 @@ pub(crate) const OPTIONS: [OptionRow; 8] = [
 
 /// The usage, written to the second writer on a usage error: a line for each row of the table.
 const USAGE: &str = "usage: tsair [OPTIONS] < JOB > PACKETS
-  --wait 0..8100000              how much later than a greater DTS a unit may come, in units of 90 kHz
+  --wait 0..8100000              how much later than a greater DTS a unit may come, in units of 90 kHz; else 180000
   --ahead 0..4503599627370496    how far after the greatest DTS so far the next may lie; else 900000
   --stop                         the first unit that is refused ends the run
   --hex                          packets are written as lines of hexadecimal digits
