@@ -2,13 +2,13 @@
 
 ghost use Rattle.bit_fields.specs.Laws.{BytesJoin, FieldsJoin};
 
-/// The number of two strings of bytes one after the other, and its bound: `n` bytes make a number
+/// States the number of two strings of bytes in a row, and its bound: `n` bytes make a number
 /// below 256 to the power `n`.
 pub fn bytes_join()
     ensures { BytesJoin }
 {}
 
-/// The number of two tables of fields one after the other: the first is shifted by the widths of the
+/// States the number of two tables of fields in a row: the first is shifted by the widths of the
 /// second.
 pub fn fields_join()
     ensures { FieldsJoin }

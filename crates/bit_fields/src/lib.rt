@@ -5,7 +5,7 @@
 //! The standards give each structure as a table of fields, each with a width ("bslbf" and "uimsbf",
 //! ISO/IEC 13818-1, 2.2.6). In this workspace such a table is the statement
 //! `number bytes ≡ fields ((8, sync) ∷ (1, error) ∷ (13, pid) ∷ ..)`, and each reader of a format is
-//! proved against it. Definitions stand in `specs/`, the lemmas that readers cite in `proofs/`.
+//! proved against it. Definitions are in `specs/`, the lemmas that readers cite in `proofs/`.
 //!
 //! Writers append their bytes to a vector of fixed capacity: `append`.
 #![tactic(auto)]

@@ -36,7 +36,7 @@ pub enum JobReadError {
     Memory,
 }
 
-/// Whether the fault is a condition that does not hold.
+/// Returns whether the fault is a condition that does not hold.
 pub fn is_refusal(fault: JobFault) -> bool
     ensures { result ≡ is_refusal (fault_view fault) }
 {
@@ -49,7 +49,7 @@ pub fn is_refusal(fault: JobFault) -> bool
     }
 }
 
-/// Whether more bytes after the job can't change the fault: they may go on with a text that is cut off.
+/// Returns whether more bytes after the job can't change the fault: they may go on with a text that is cut off.
 pub fn is_final(fault: JobFault) -> bool
     ensures { result ≡ is_final (fault_view fault) }
 {
@@ -74,7 +74,7 @@ fn name_of(fault: JobFault) -> &'static str
     }
 }
 
-/// The numbers of a fault's line.
+/// Returns the numbers of a fault's line.
 fn numbers_of(fault: JobFault) -> ArrayVec<u128, 5>
     ensures { result.items ≡ fault_numbers (fault_view fault) }
 {

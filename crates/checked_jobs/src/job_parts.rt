@@ -5,7 +5,7 @@ ghost use Rattle.checked_jobs.specs.Jobs.{parts_of, plan_offset};
 /// The first line of a plan's text.
 const FIRST_PLAN_LINE: &[u8] = b"tsplan 1\n";
 
-/// The offset of the first line of a plan's text.
+/// Returns the offset of the first line of a plan's text.
 fn plan_offset(bytes: &[u8]) -> Option<usize>
     ensures place { result ≡ plan_offset 0 true bytes.now }
     ensures within { IfSome result (λ place. place ≤ length bytes.now) }
@@ -20,7 +20,7 @@ fn plan_offset(bytes: &[u8]) -> Option<usize>
     None
 }
 
-/// The description's bytes and the bytes from the first line `tsplan 1` on, if there is one.
+/// Returns the description's bytes and the bytes from the first line `tsplan 1` on, if there is one.
 pub fn parts_of(bytes: &[u8]) -> Option<(&[u8], &[u8])>
     ensures { option_map (λ parts. (parts.0.now, parts.1.now)) result ≡ parts_of bytes.now }
 {

@@ -30,7 +30,7 @@ pub struct CheckedJob<'a> {
     pub rest: &'a [u8],
 }
 
-/// The description in these bytes.
+/// Returns the description in these bytes.
 pub fn read_description(alloc: Global, bytes: &[u8]) -> Result<Description, DescError>
     ensures { (result ≡ Err DescError.Memory) ⊎ (result ≡ described bytes.now) }
 {
@@ -40,7 +40,7 @@ pub fn read_description(alloc: Global, bytes: &[u8]) -> Result<Description, Desc
     }
 }
 
-/// The plan at the front of a text, and the bytes after it.
+/// Returns the plan at the front of a text, and the bytes after it.
 fn read_plan(alloc: Global, text: &[u8]) -> Result<(Plan, &[u8]), PlanTextError>
     ensures read { IfOk result (λ read. planned text.entry.now ≡ Ok (read.0, read.1.now)) }
     ensures refused { IfErr result (NamesLine (planned text.entry.now)) }
@@ -51,7 +51,7 @@ fn read_plan(alloc: Global, text: &[u8]) -> Result<(Plan, &[u8]), PlanTextError>
     }
 }
 
-/// The plan, checked against the description; or the first condition that does not hold.
+/// Returns the plan, checked against the description; or the first condition that does not hold.
 fn check_plan(description: Description, plan: Plan) -> Result<CheckedPlan, Refusal>
     ensures fault { failed result ≡ fault_of description plan }
     ensures description { IfOk result (λ first. first.description ≡ description) }
@@ -63,7 +63,7 @@ fn check_plan(description: Description, plan: Plan) -> Result<CheckedPlan, Refus
     }
 }
 
-/// The two plans, checked as first and second; or the first condition that does not hold.
+/// Returns the two plans, checked as first and second; or the first condition that does not hold.
 fn check_second(first: CheckedPlan, second: Plan) -> Result<CheckedSwitch, Refusal>
     ensures fault { failed result ≡ second_fault_of first.description first.plan second }
     ensures first { IfOk result (λ both. both.first ≡ first) }
@@ -75,7 +75,7 @@ fn check_second(first: CheckedPlan, second: Plan) -> Result<CheckedSwitch, Refus
     }
 }
 
-/// The job with the first plan, the text of a second plan, and the bytes after it.
+/// Returns the job with the first plan, the text of a second plan, and the bytes after it.
 fn read_second<'a>(
     alloc: Global,
     first: CheckedPlan,
@@ -96,7 +96,7 @@ fn read_second<'a>(
     }
 }
 
-/// The job with a description, the texts of its plans, and the bytes after these.
+/// Returns the job with a description, the texts of its plans, and the bytes after these.
 fn read_plans<'a>(
     alloc: Global,
     switch: bool,
@@ -124,7 +124,7 @@ fn read_plans<'a>(
     }
 }
 
-/// The job in these bytes, with or without a second plan.
+/// Returns the job in these bytes, with or without a second plan.
 #[tactic(auto, unfolding(crate::specs::Jobs::job_of))]
 pub fn read_job<'a>(
     alloc: Global,
@@ -143,7 +143,7 @@ pub fn read_job<'a>(
     }
 }
 
-/// The plans at the front of bytes, and the offset after them.
+/// Returns the plans at the front of bytes, and the offset after them.
 pub fn plans_at_front(
     alloc: Global,
     switch: bool,

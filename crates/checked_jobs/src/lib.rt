@@ -1,5 +1,5 @@
-//! A job: a description, the text of a plan that serves it, on request that of a second plan that may follow the first,
-//! and the bytes after these.
+//! A job: a description, the text of a plan that serves it, on request the text of a second plan that may follow the
+//! first, and the bytes after these.
 //!
 //! `job_parts` is where the plans begin, `jobs` reads and checks them, `job_fault` is the first fault in a job with its
 //! line, and `fault_lines` has the lines for faults in records and units. `specs/JobSchedules` says which slots the plans

@@ -15,13 +15,13 @@ pub fn departures()
     ensures earliest { EarliestLaw }
 {}
 
-/// The last departure of bytes that arrive in a row.
+/// States the last departure of bytes that arrive in a row.
 pub fn packet()
     ensures last { PacketLaw }
     ensures row { RowLaw }
 {}
 
-/// The fullness of a buffer: the number of bytes in it.
+/// States the fullness of a buffer: the number of bytes in it.
 pub fn fullness()
     ensures appended { FullnessLaw }
     ensures bound { FullnessBound }
@@ -30,32 +30,32 @@ pub fn fullness()
     ensures room { RoomLaw }
 {}
 
-/// The greatest fullness of a buffer over all moments: one pass over the arrivals.
+/// States the greatest fullness of a buffer over all moments: one pass over the arrivals.
 pub fn peak()
     ensures fullness { PeakLaw }
     ensures arrivals { ArrivalsClimb }
     ensures departures { DeparturesClimb }
 {}
 
-/// Two queues, the second after the first and no faster.
+/// States two queues, the second after the first and no faster.
 pub fn tandem()
     ensures departures { TandemLaw }
     ensures fullness { SecondLaw }
 {}
 
-/// Times in smaller units.
+/// States times in smaller units.
 pub fn scale()
     ensures departures { ScaleLaw }
     ensures arrivals { ArrivalsScaleLaw }
     ensures fullness { FullnessScaleLaw }
 {}
 
-/// Recurrence within a limit.
+/// States recurrence within a limit.
 pub fn recurrence()
     ensures { LimitLaw }
 {}
 
-/// The slot of a release.
+/// States the slot of a release.
 pub fn release()
     ensures { ReleaseLaw }
 {}

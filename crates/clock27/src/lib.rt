@@ -1,6 +1,6 @@
 //! The clocks of a constant-rate transport stream, in whole numbers: the rate, the time of a byte
-//! in ticks of 27 MHz, program clock references, 33-bit stamps and the slot in which a unit of data
-//! is released (ISO/IEC 13818-1, 2.4.2 and 2.4.3.5).
+//! in ticks of 27 MHz, program clock references, 33-bit stamps and the slot that releases a unit of
+//! data (ISO/IEC 13818-1, 2.4.2 and 2.4.3.5).
 //!
 //! At `R` bits a second byte `i` arrives at `8 * i / R` seconds. A slot is one packet of 188 bytes:
 //! slot `s` has the bytes `188 * s` to `188 * s + 187` and begins at `135,360,000 * s / R` units of
@@ -10,7 +10,7 @@
 //! - [`rate_search`]: the least rate at which an output has slots enough for what it carries.
 //! - [`pcr`]: the time of a byte, and program clock references.
 //! - [`stamp`]: stamps of 33 bits.
-//! - [`release`]: the slot in which a unit is released.
+//! - [`release`]: the slot that releases a unit.
 //! - [`units`]: how long a byte and a slot last at 1 bit a second, in whole numbers.
 //! - [`laws`]: laws of the times of bytes. The definitions in `specs/` say when bytes arrive at a
 //!   buffer, when they leave it, its fullness, and how often something recurs.

@@ -8,7 +8,7 @@ use crate::stamp::STAMP_MODULUS;
 use crate::units::BYTE_TICKS_AT_1BPS;
 use std::marker::Model;
 
-/// The time of byte `i` of an output of this rate, in whole ticks of 27 MHz.
+/// Returns the time of byte `i` of an output of this rate, in whole ticks of 27 MHz.
 pub fn byte_ticks(rate: Rate, i: u64) -> u128
     ensures { result ≡ byte_ticks_at_1bps * i / rate }
 {
@@ -16,7 +16,7 @@ pub fn byte_ticks(rate: Rate, i: u64) -> u128
 }
 
 /// A program clock reference: its base counts units of 90 kHz in 33 bits, its extension ticks of
-/// 27 MHz in 9 bits. One that is written has an extension below 300; one that is read has any.
+/// 27 MHz in 9 bits. A written reference has an extension below 300; a reference that was read has any.
 #[derive(Clone, Copy, Debug, PartialEq, Eq)]
 pub struct Pcr {
     base: u64,
@@ -34,7 +34,7 @@ impl Model for Pcr {
 }
 
 impl Pcr {
-    /// The reference of these two fields.
+    /// Returns the reference of these two fields.
     pub fn new(base: u64, extension: u16) -> Pcr
         requires base { base < 2 ^ 33 }
         requires extension { extension < 2 ^ 9 }
@@ -43,8 +43,8 @@ impl Pcr {
         Pcr { base, extension }
     }
 
-    /// The reference in whose packet the clock's byte is byte `i` of an output of this rate, where
-    /// the clock stood at `base0` units of 90 kHz at byte 0.
+    /// Returns the reference in whose packet the clock's byte is byte `i` of an output of this rate,
+    /// if the clock showed `base0` units of 90 kHz at byte 0.
     pub fn at(rate: Rate, base0: u64, i: u64) -> Pcr
         ensures exact { result ≡ pcr_at rate base0 i }
         ensures ticks { ticks_of result ≡ pcr_ticks rate base0 i }
@@ -57,7 +57,7 @@ impl Pcr {
         }
     }
 
-    /// The units of 90 kHz.
+    /// Returns the units of 90 kHz.
     pub fn base(self) -> u64
         ensures value { result ≡ self.base }
         ensures within { result < 2 ^ 33 }
@@ -65,7 +65,7 @@ impl Pcr {
         self.base
     }
 
-    /// The ticks of 27 MHz beyond the base.
+    /// Returns the ticks of 27 MHz beyond the base.
     pub fn extension(self) -> u16
         ensures value { result ≡ self.extension }
         ensures within { result < 2 ^ 9 }
@@ -73,7 +73,7 @@ impl Pcr {
         self.extension
     }
 
-    /// The reference's value, in ticks of 27 MHz.
+    /// Returns the reference's value, in ticks of 27 MHz.
     pub fn ticks(self) -> u64
         ensures { result ≡ ticks_of self }
     {

@@ -35,7 +35,7 @@ pub enum RateError {
 }
 
 impl RateError {
-    /// The error's number.
+    /// Returns the error's number.
     pub fn code(self) -> u8
         ensures { result ≡ 1 }
     {
@@ -46,7 +46,7 @@ impl RateError {
 }
 
 impl Rate {
-    /// The rate of this number of bits a second.
+    /// Returns the rate of this number of bits a second.
     pub fn new(bits_per_second: u64) -> Result<Rate, RateError>
         ensures value { IfOk result (λ rate. rate ≡ bits_per_second) }
         ensures range { IsErrOf result RateError.Range
@@ -60,7 +60,7 @@ impl Rate {
         })
     }
 
-    /// The bits a second.
+    /// Returns the bits a second.
     pub fn bits_per_second(self) -> u64
         ensures value { result ≡ self }
         ensures least { LEAST_RATE ≤ self }

@@ -9,15 +9,15 @@ use crate::rate::GREATEST_RATE;
 pub trait Load {
     ghost enough: { Self → ℕ → Bool };
 
-    /// Whether an output of that rate, in bits a second, has slots enough.
+    /// Returns whether an output of that rate, in bits a second, has slots enough.
     fn has_slots(&self, rate: u64) -> bool
         requires low { LEAST_RATE ≤ rate }
         requires high { rate ≤ GREATEST_RATE }
         ensures { result ≡ enough self.now rate };
 }
 
-/// The least rate, of `from` to the greatest, at which an output has slots enough, found by halving the
-/// range; none if it has at no rate.
+/// Returns the least rate, of `from` to the greatest, at which an output has slots enough, found by
+/// halving the range; none if it has at no rate.
 pub fn least_rate<L: Load>(load: &L, from: u64) -> Option<u64>
     requires low { LEAST_RATE ≤ from }
     requires high { from ≤ GREATEST_RATE + 1 }

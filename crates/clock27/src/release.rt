@@ -1,12 +1,12 @@
-//! The slot in which a unit is released.
+//! The slot that releases a unit.
 ghost use Rattle.std.specs.Prelude.{◌≡◌, ◌-◌, ◌*◌, ◌<◌, ◌↔◌, IsNone, IfSome};
 ghost use Rattle.clock27.specs.Release.{IsReleaseSlot, release};
 
 use crate::rate::Rate;
 use crate::units::SLOT_UNITS_AT_1BPS;
 
-/// The first slot that begins no earlier than `lead` before the decoding time `dts`, both in units
-/// of 90 kHz; none where the time lies before the lead.
+/// Returns the first slot that begins no earlier than `lead` before the decoding time `dts`, both
+/// in units of 90 kHz; none where the time lies before the lead.
 pub fn release_slot(rate: Rate, dts: u64, lead: u64) -> Option<u64>
     ensures early { IsNone result ↔ (dts < lead) }
     ensures least { IfSome result (IsReleaseSlot rate (dts - lead)) }

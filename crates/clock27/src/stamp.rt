@@ -1,4 +1,4 @@
-//! Stamps as they stand in a PES packet (ISO/IEC 13818-1, 2.4.3.7).
+//! Stamps as a PES packet carries them (ISO/IEC 13818-1, 2.4.3.7).
 ghost use Rattle.std.specs.Prelude.{◌≡◌, ℕ, ◌%◌, ◌^◌, ◌<◌};
 
 use std::marker::Model;
@@ -23,7 +23,7 @@ impl Model for Stamp33 {
 }
 
 impl Stamp33 {
-    /// The stamp of a time in units of 90 kHz.
+    /// Returns the stamp of a time in units of 90 kHz.
     pub fn of(time: u64) -> Stamp33
         ensures { result ≡ time % 2 ^ 33 }
     {
@@ -32,7 +32,7 @@ impl Stamp33 {
         }
     }
 
-    /// The units of 90 kHz.
+    /// Returns the units of 90 kHz.
     pub fn units(self) -> u64
         ensures value { result ≡ self }
         ensures within { result < 2 ^ 33 }

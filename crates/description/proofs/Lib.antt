@@ -6,6 +6,7 @@ pub mod Elements
 pub mod MemberKeys
 pub mod TableNumbers
 pub mod KeyRanges
+pub mod Quotients
 pub mod Octets
 pub mod TextRanges
 pub mod Counts

@@ -1,15 +1,17 @@
 -- Each part of a description is in its ranges.
-use Rattle.std.proofs.Common.{◌≡◌, ℕ, pos, suc, zero, ◌≤◌, ◌<◌, ◌*◌, ◌==◌, nat_le, Bool, true, false, List, [], ◌∷◌, length, filter, get_or, Option, None, Some, IfSome, unwrap_or, option_map, refl, arith, if◌then◌else◌, All, codes, inl, inr, is_none}
+use Rattle.std.proofs.Common.{◌≡◌, ℕ, pos, suc, zero, ◌≤◌, ◌<◌, ◌-◌, ◌*◌, ◌/◌, max, ◌==◌, nat_le, Bool, true, false, List, [], ◌∷◌, length, filter, get_or, Option, None, Some, IfSome, unwrap_or, option_map, refl, arith, if◌then◌else◌, All, codes, inl, inr, is_none}
+use Rattle.std.proofs.Math.Nat.{le_trans, div-le_self, mul-div-le, mul-le-mul_left, mul-le-mul_right}
 use Rattle.std.proofs.lemmas.Bool.{leb-true, or_cases, eqb-true}
 use Rattle.std.proofs.lemmas.List.Elements.{All-nil, All-cons, All-map, All-weaker}
 use Rattle.std.specs.Option.{option_to_list}
 use Rattle.std.specs.List.{filter_map, cons_option}
 use Rattle.toml.specs.Data.{Data, get}
 use Rattle.unit_timing.specs.declared.allowance.Allowance.{Allowance}
+use Rattle.unit_timing.specs.declared.framing.Framing.{Framing}
 use Rattle.unit_timing.specs.declared.multiplexing_buffer.MultiplexingBuffer.{MultiplexingBuffer}
-use Rattle.description.specs.Ranges.{IsPid, IsBytes, IsNetwork, IsEvent, IsProgram, IsStreamId, IsGroups, IsPace, IsAllowance, IsMultiplexingBuffer, IsStream, IsEntry, IsTable}
+use Rattle.description.specs.Ranges.{IsPid, IsBytes, IsNetwork, IsEvent, IsProgram, IsStreamId, IsGroups, IsPace, IsAllowance, IsMultiplexingBuffer, IsFraming, IsStream, IsEntry, IsTable}
 use Rattle.description.specs.Values.{integer_in, integer_at, elements, is_one_section, section_in}
-use Rattle.description.specs.StreamKeys.{is_owned_by, sharers_of, stream_sharers, number_in, is_stream_id, stream_id, is_video_id, id_or_private, greatest_size, leaves_out_buffers, stream_rx, stream_main, stream_size, stream_tag, stream_group, unit_packets, greatest_group_packets, stream_group_packets, is_paced, stream_burst_packets, stream_pace, stream_allowance, has_multiplexing, greatest_rbx, multiplexing_of}
+use Rattle.description.specs.StreamKeys.{is_owned_by, sharers_of, stream_sharers, number_in, is_stream_id, stream_id, is_video_id, id_or_private, greatest_size, leaves_out_buffers, stream_rx, stream_main, stream_size, stream_tag, stream_group, unit_packets, greatest_group_packets, stream_group_packets, is_paced, stream_burst_packets, stream_pace, stream_allowance, has_multiplexing, greatest_rbx, multiplexing_of, has_framing, greatest_frame, stream_frame, stream_interval, stream_frames, framing_of}
 use Rattle.description.specs.Contents.{described_network, described_event, described_number, described_program, described_stream, described_sections, described_entry, described_table}
 use Rattle.description.specs.Described.{DescribedEntry}
 use Rattle.description.specs.TableKeys.{is_listed}
@@ -164,6 +166,42 @@ buffer_if : (rx : ℕ) (b : Bool) (m : MultiplexingBuffer) → IsMultiplexingBuf
 buffer_if rx true m is = All-cons (IsMultiplexingBuffer rx) m [] is (All-nil (IsMultiplexingBuffer rx))
 buffer_if rx false m is = All-nil (IsMultiplexingBuffer rx)
 
+-- so many times the longest time are within the interval
+in_turn : (n t interval : ℕ) → t ≤ interval / max n 1 → n * t ≤ interval
+in_turn n t interval le =
+    le_trans (mul-le-mul_right t (most_of n)) (le_trans (mul-le-mul_left (max n 1) le) (mul-div-le interval (max n 1)))
+  where
+    most_of : (n : ℕ) → n ≤ max n 1
+    most_of n = omega arith
+
+frame_within : (d : Data) → unwrap_or (stream_frame d) 0 ≤ greatest_frame d
+frame_within d =
+    holds_of (λ n. n ≤ greatest_frame d) (stream_frame d) 0
+    (weaker (Within 1 (greatest_frame d)) (λ n. n ≤ greatest_frame d) (stream_frame d) (λ n w. w.most)
+    (at_key-all (Within 1 (greatest_frame d)) (codes "frame") None (integer_in (pos 1) (pos (greatest_frame d))) d tt
+    (integer_in-within 1 (greatest_frame d))))
+    (omega arith)
+
+framing_is : (d : Data) → 1 ≤ unwrap_or (stream_size d) 1 → IsFraming (unwrap_or (stream_interval d) 1) (unwrap_or (stream_size d) 1) (framing_of d)
+framing_is d some =
+    let frames = integer_at-within (codes "frames") 1 64 1 d (omega arith) (omega arith) in
+    let size = integer_at-within (codes "frame_size") 1 (unwrap_or (stream_size d) 1) 1 d (omega arith) some in
+    let interval = unwrap_or (stream_interval d) 1 in
+    let others = unwrap_or (stream_frames d) 1 - 1 in
+    record {
+      some_frames = frames.least;
+      most_frames = frames.most;
+      in_turn = in_turn others (unwrap_or (stream_frame d) 0) interval (frame_within d);
+      most_frame = le_trans (frame_within d) (div-le_self interval (max others 1));
+      some_size = size.least;
+      most_size = size.most;
+    }
+
+framing_if : (interval size : ℕ) (b : Bool) (f : Framing) → IsFraming interval size f
+    → All (IsFraming interval size) (option_to_list (if b then Some f else None))
+framing_if interval size true f is = All-cons (IsFraming interval size) f [] is (All-nil (IsFraming interval size))
+framing_if interval size false f is = All-nil (IsFraming interval size)
+
 pub stream_is : (d : Data) → IsStream (described_stream d)
 stream_is d =
     let interval = integer_at-within (codes "interval") 1 90000 1 d (omega arith) (omega arith) in
@@ -194,6 +232,7 @@ stream_is d =
       allowance = allowance_is d small;
       few_sharers = few_sharers (elements (codes "shared_with") d);
       multiplexing = buffer_if (greatest_rbx d) (has_multiplexing d) (multiplexing_of d) (buffer_is d rx.least);
+      framing = framing_if (unwrap_or (stream_interval d) 1) (unwrap_or (stream_size d) 1) (has_framing d) (framing_of d) (framing_is d size.least);
     }
 
 entry_is : (d : Data) → IsEntry (described_entry d)

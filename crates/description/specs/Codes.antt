@@ -59,6 +59,9 @@ stream_code stream.Pace = 56
 stream_code stream.SharedWith = 57
 stream_code stream.Rbx = 58
 stream_code stream.Mb = 59
+stream_code stream.Frames = 84
+stream_code stream.Frame = 85
+stream_code stream.FrameSize = 86
 
 abbrev pub event_code : EventKey → ℕ
 event_code event.Program = 61

@@ -39,8 +39,8 @@ pub record DescribedProgram : Type 0 where
 -- one elementary stream of the program of that number. Its units come at least `interval` apart and `lead` before their
 -- decoding time at the latest (units of 90 kHz), of at most `size` bytes, and have at most the packets that `allowance`
 -- lets units in a row have. Its transport buffer leaks `rx` bits a second into a main buffer of `main` bytes; where it has
--- a multiplexing buffer the leak is into that one, whose own leak is into an elementary stream buffer of `main` bytes. The
--- PMTs of the programs of `shared_with` name it too
+-- a multiplexing buffer the leak is into that one, whose own leak is into an elementary stream buffer of `main` bytes. Where it
+-- has a framing its units are PES packets of several access units. The PMTs of the programs of `shared_with` name it too
 abbrev pub DescribedStream : Type 0
 DescribedStream = StreamDescription
 

@@ -1,9 +1,10 @@
 -- What holds of every description that is read: the ranges of its numbers, its texts and its tables.
-use Rattle.std.specs.Prelude.{◌≡◌, ℕ, ◌*◌, ◌^◌, ◌<◌, ◌≤◌, ◌⊎◌, true, List, ◌++◌, length, map, sum_by, All, Contains, nat_eq, IsTrue}
+use Rattle.std.specs.Prelude.{◌≡◌, ℕ, ◌-◌, ◌*◌, ◌^◌, ◌<◌, ◌≤◌, ◌⊎◌, true, List, ◌++◌, length, map, sum_by, All, Contains, nat_eq, IsTrue}
 use Rattle.std.specs.List.{IsDistinct}
 use Rattle.std.specs.Option.{option_to_list}
 use Rattle.unit_timing.specs.declared.allowance.Allowance.{Allowance}
 use Rattle.unit_timing.specs.declared.allowance.Allowance.TheVariants.{Groups, Pace}
+use Rattle.unit_timing.specs.declared.framing.Framing.{Framing}
 use Rattle.unit_timing.specs.declared.multiplexing_buffer.MultiplexingBuffer.{MultiplexingBuffer}
 use Rattle.description.specs.Described.{Described, DescribedNetwork, DescribedProgram, DescribedStream, DescribedEvent, DescribedEntry, DescribedTable}
 use Rattle.description.specs.Values.{is_one_section}
@@ -84,6 +85,15 @@ pub record IsMultiplexingBuffer (rx : ℕ) (b : MultiplexingBuffer) : Type 0 whe
   pub some_size : 1 ≤ b.size
   pub most_size : b.size ≤ 10000000
 
+-- the access units of units of at most so many bytes, an interval apart: the last of a unit is due by the time of the next unit
+pub record IsFraming (interval size : ℕ) (f : Framing) : Type 0 where
+  pub some_frames : 1 ≤ f.frames
+  pub most_frames : f.frames ≤ 64
+  pub in_turn : (f.frames - 1) * f.frame ≤ interval
+  pub most_frame : f.frame ≤ interval
+  pub some_size : 1 ≤ f.frame_size
+  pub most_size : f.frame_size ≤ size
+
 pub record IsStream (s : DescribedStream) : Type 0 where
   pub pid : IsPid s.pid
   pub stream_id : IsStreamId s.stream_id
@@ -105,6 +115,7 @@ pub record IsStream (s : DescribedStream) : Type 0 where
   pub allowance : IsAllowance (greatest_unit_packets s) s.allowance
   pub few_sharers : length s.shared_with ≤ 15
   pub multiplexing : All (IsMultiplexingBuffer s.rx) (option_to_list s.multiplexing)
+  pub framing : All (IsFraming s.interval s.size) (option_to_list s.framing)
 
 pub record IsEntry (e : DescribedEntry) : Type 0 where
   pub some_type : 1 ≤ e.stream_type

@@ -1,14 +1,15 @@
 -- The keys of a table of the array `stream`.
-use Rattle.std.specs.Prelude.{ℕ, pos, ◌+◌, ◌*◌, ◌/◌, ◌&&◌, ◌||◌, ◌==◌, not, nat_le, Bool, true, false, List, [], ◌∷◌, length, Option, None, Some, codes, is_none, is_some, unwrap_or, option_and_then, if◌then◌else◌}
+use Rattle.std.specs.Prelude.{ℕ, pos, ◌+◌, ◌-◌, ◌*◌, ◌/◌, max, ◌&&◌, ◌||◌, ◌==◌, not, nat_le, Bool, true, false, List, [], ◌∷◌, length, Option, None, Some, codes, is_none, is_some, unwrap_or, option_and_then, if◌then◌else◌}
 use Rattle.std.specs.List.{list_any, list_all, filter_map}
 use Rattle.toml.specs.Data.{Data, get}
 use Rattle.unit_timing.specs.declared.allowance.Allowance.{Allowance}
 use Rattle.unit_timing.specs.declared.allowance.Allowance.TheVariants as allowance
+use Rattle.unit_timing.specs.declared.framing.Framing.{Framing}
 use Rattle.unit_timing.specs.declared.multiplexing_buffer.MultiplexingBuffer.{MultiplexingBuffer}
 use Rattle.description.specs.Values.{at_key, integer_in, integer_at, integer_or, optional_integer, optional_language, descriptors_or_none, elements, array_in, is_distinct}
 use Rattle.description.specs.ProgramKeys.{program_number}
 use Rattle.description.specs.declared.stream_keys.StreamKey.{StreamKey}
-use Rattle.description.specs.declared.stream_keys.StreamKey.TheVariants.{Program, Pid, StreamId, StreamType, Interval, Size, Lead, Rx, Main, Tag, Language, Descriptors, Group, GroupPackets, BurstPackets, Pace, SharedWith, Rbx, Mb}
+use Rattle.description.specs.declared.stream_keys.StreamKey.TheVariants.{Program, Pid, StreamId, StreamType, Interval, Size, Lead, Rx, Main, Tag, Language, Descriptors, Group, GroupPackets, BurstPackets, Pace, SharedWith, Rbx, Mb, Frames, Frame, FrameSize}
 
 -- the number of the program that a stream or an event belongs to
 abbrev pub owner_number : Data → Option ℕ
@@ -183,11 +184,56 @@ refuses_rbx stream = has_multiplexing stream && is_none (stream_rbx stream)
 abbrev pub refuses_mb : Data → Bool
 refuses_mb stream = has_multiplexing stream && is_none (stream_mb stream)
 
+-- the access units of a unit, where this is a PES packet of several: each is removed from the main buffer at its own decoding
+-- time (ISO/IEC 13818-1, 2.4.2.3; 2.7.5 for those that no stamp names). `frames` is the most of them in a unit, `frame` the
+-- longest time from one to the next, and `frame_size` the greatest but the first of a unit, which has the header too. A stream
+-- has all three keys, or none: of what is left when some are gone, number and unit size alone bound no less than the whole unit
+abbrev pub has_framing : Data → Bool
+has_framing stream = is_some (get (codes "frames") stream) || is_some (get (codes "frame") stream) || is_some (get (codes "frame_size") stream)
+
+abbrev pub stream_frames : Data → Option ℕ
+stream_frames = integer_at (codes "frames") (pos 1) (pos 64)
+
+-- the longest time from one access unit to the next: the last of a unit is due by the time of the next unit at the latest. It is
+-- a fact of the stream, so a range of this key and no condition on a plan
+abbrev pub greatest_frame : Data → ℕ
+greatest_frame stream = unwrap_or (stream_interval stream) 1 / max (unwrap_or (stream_frames stream) 1 - 1) 1
+
+-- in units of 90 kHz
+abbrev pub stream_frame : Data → Option ℕ
+stream_frame stream = integer_at (codes "frame") (pos 1) (pos (greatest_frame stream)) stream
+
+-- in bytes
+abbrev pub stream_frame_size : Data → Option ℕ
+stream_frame_size stream = integer_at (codes "frame_size") (pos 1) (pos (unwrap_or (stream_size stream) 1)) stream
+
+-- what is declared; where a key is refused, one access unit of one byte, and no time
+abbrev pub framing_of : Data → Framing
+framing_of stream = record {
+  frames = unwrap_or (stream_frames stream) 1;
+  frame = unwrap_or (stream_frame stream) 0;
+  frame_size = unwrap_or (stream_frame_size stream) 1;
+}
+
+abbrev pub stream_framing : Data → Option Framing
+stream_framing stream = if has_framing stream then Some (framing_of stream) else None
+
+-- a key is refused that is absent beside another, or out of its range
+abbrev pub refuses_frames : Data → Bool
+refuses_frames stream = has_framing stream && is_none (stream_frames stream)
+
+abbrev pub refuses_frame : Data → Bool
+refuses_frame stream = has_framing stream && is_none (stream_frame stream)
+
+abbrev pub refuses_frame_size : Data → Bool
+refuses_frame_size stream = has_framing stream && is_none (stream_frame_size stream)
+
 -- the names of the keys
 abbrev pub stream_key_names : List (List ℕ)
 stream_key_names = codes "program" ∷ codes "pid" ∷ codes "id" ∷ codes "type" ∷ codes "interval" ∷ codes "size" ∷ codes "lead"
     ∷ codes "rx" ∷ codes "main" ∷ codes "tag" ∷ codes "language" ∷ codes "descriptors" ∷ codes "group" ∷ codes "group_packets"
-    ∷ codes "burst_packets" ∷ codes "pace" ∷ codes "shared_with" ∷ codes "rbx" ∷ codes "mb" ∷ []
+    ∷ codes "burst_packets" ∷ codes "pace" ∷ codes "shared_with" ∷ codes "rbx" ∷ codes "mb"
+    ∷ codes "frames" ∷ codes "frame" ∷ codes "frame_size" ∷ []
 
 -- what each key refuses
 abbrev pub refuses_stream : StreamKey → Data → Data → Bool
@@ -210,3 +256,6 @@ refuses_stream Pace document stream = refuses_pace stream
 refuses_stream SharedWith document stream = not (has_sharers document stream)
 refuses_stream Rbx document stream = refuses_rbx stream
 refuses_stream Mb document stream = refuses_mb stream
+refuses_stream Frames document stream = refuses_frames stream
+refuses_stream Frame document stream = refuses_frame stream
+refuses_stream FrameSize document stream = refuses_frame_size stream

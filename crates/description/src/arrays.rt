@@ -9,7 +9,7 @@ ghost use Rattle.description.specs.Values.{tables_at, is_section, are_sections, 
 use crate::private_section::section_of;
 use toml::Value;
 
-/// The elements of an array.
+/// Returns the elements of an array.
 pub fn array_in(value: &Value) -> Option<&[Value]>
     ensures { option_map (λ values. map view values.now) result ≡ array_in (view value.now) }
 {
@@ -19,7 +19,7 @@ pub fn array_in(value: &Value) -> Option<&[Value]>
     }
 }
 
-/// The elements of an array, none where the value is no array.
+/// Returns the elements of an array, none where the value is no array.
 pub fn elements_in(value: &Value) -> &[Value]
     ensures { map view result.now ≡ elements_in (view value.now) }
 {
@@ -29,7 +29,7 @@ pub fn elements_in(value: &Value) -> &[Value]
     }
 }
 
-/// The elements of the array at a key, none where there is no array.
+/// Returns the elements of the array at a key, none where there is no array.
 pub fn elements<'a>(table: &'a Value, key: &str) -> &'a [Value]
     ensures { map view result.now ≡ elements key.now (view table.now) }
 {
@@ -91,7 +91,7 @@ fn are_tables(value: &Value, low: usize, high: usize) -> bool
     }
 }
 
-/// Whether there is an array of `low` to `high` tables at a key; `absent` where the key is absent.
+/// Returns whether there is an array of `low` to `high` tables at a key; `absent` where the key is absent.
 pub fn tables_at(absent: bool, table: &Value, key: &str, low: usize, high: usize) -> bool
     ensures { result ≡ tables_at absent key.now low high (view table.now) }
 {
@@ -111,7 +111,7 @@ fn are_sections(value: &Value) -> bool
     }
 }
 
-/// Whether there is an array of 1 to 8 sections at a key.
+/// Returns whether there is an array of 1 to 8 sections at a key.
 pub fn sections_at(table: &Value, key: &str) -> bool
     ensures { result ≡ sections_at key.now (view table.now) }
 {

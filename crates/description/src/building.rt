@@ -12,6 +12,7 @@ ghost use Rattle.description.specs.Contents as spec;
 use crate::arrays::elements;
 use crate::contents::Contents;
 use crate::descriptors::DescriptorLoop;
+use crate::frame_keys::framing;
 use crate::map_entry::MapEntry;
 use crate::multiplexing_keys::multiplexing;
 use crate::network::Network;
@@ -118,6 +119,7 @@ fn stream_of(stream: &Value) -> StreamDescription
         allowance: stream_keys::allowance(stream),
         shared_with: sharers(stream),
         multiplexing: multiplexing(stream),
+        framing: framing(stream),
     }
 }
 
@@ -204,7 +206,7 @@ fn rate_of(document: &Value) -> Rate
     }
 }
 
-/// The contents of a document whose keys are all in their ranges.
+/// Returns the contents of a document whose keys are all in their ranges.
 pub fn contents_of(alloc: Global, document: &Value) -> Result<Contents, AllocError>
     requires { refusals.key_fault (view document.now) ≡ None }
     ensures { IfOk result (λ c. c ≡ spec.described (view document.now)) }

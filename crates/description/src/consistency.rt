@@ -21,7 +21,7 @@ use crate::table_kind::TableKind;
 use arrayvec::ArrayVec;
 use toml::Value;
 
-/// Whether no number is in a list twice.
+/// Returns whether no number is in a list twice.
 pub fn is_distinct(numbers: &[u16]) -> bool
     ensures { result ≡ is_distinct numbers.now }
 {
@@ -194,8 +194,8 @@ fn too_long_fault(contents: &Contents) -> Option<DescFault>
     contents.first_too_long().map(DescFault::TooLong)
 }
 
-/// The first refusal of the parts together: equal PIDs, equal program numbers, events out of order, a
-/// table too long.
+/// Returns the first refusal of the parts together: equal PIDs, equal program numbers, events out of
+/// order, a table too long.
 pub fn joint_fault(contents: &Contents, document: &Value) -> Option<DescFault>
     ensures { result ≡ spec.joint_fault contents.now (view document.now) }
 {

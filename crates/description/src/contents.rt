@@ -41,14 +41,14 @@ impl Model for Contents {
 impl Contents {
     ghost use Rattle.description.specs.Ranges.{HasCounts};
 
-    /// The network, if there is one.
+    /// Returns the network, if there is one.
     pub fn network(&self) -> Option<&Network>
         ensures { option_map (λ n. n.now) result ≡ self.now.network }
     {
         self.network.as_ref()
     }
 
-    /// The programs, in order.
+    /// Returns the programs, in order.
     pub fn programs(&self) -> &[ProgramDescription]
         ensures value { result.now ≡ self.now.programs }
         ensures counts { HasCounts self.now }
@@ -56,7 +56,7 @@ impl Contents {
         self.programs.as_slice()
     }
 
-    /// The streams, in order.
+    /// Returns the streams, in order.
     pub fn streams(&self) -> &[StreamDescription]
         ensures value { result.now ≡ self.now.streams }
         ensures counts { HasCounts self.now }
@@ -64,7 +64,7 @@ impl Contents {
         self.streams.as_slice()
     }
 
-    /// The private tables, in order.
+    /// Returns the private tables, in order.
     pub fn private_tables(&self) -> &[PrivateTable]
         ensures value { result.now ≡ self.now.tables }
         ensures counts { HasCounts self.now }

@@ -36,28 +36,28 @@ impl Description {
     ghost use Rattle.description.specs.Tables.{table_count, table_kind, table_pid, table_limit, section_count};
     ghost use Rattle.description.specs.Tables.{greatest_length, round_packets};
 
-    /// The numbers of every description are in range, and its PIDs distinct.
+    /// States that the numbers of every description are in range, and its PIDs distinct.
     pub fn keeps_ranges(&self)
         ensures { IsInRange self.now }
     {
         let _ = &self.contents;
     }
 
-    /// The rate of the transport stream.
+    /// Returns the rate of the transport stream.
     pub fn rate(&self) -> Rate
         ensures { result ≡ self.now.rate }
     {
         self.contents.rate
     }
 
-    /// The moment of the first slot, in seconds since 1970-01-01T00:00:00.
+    /// Returns the moment of the first slot, in seconds since 1970-01-01T00:00:00.
     pub fn start(&self) -> u64
         ensures { result ≡ self.now.start }
     {
         self.contents.start
     }
 
-    /// The system clock as the run begins, in units of 90 kHz, 33 bits.
+    /// Returns the system clock as the run begins, in units of 90 kHz, 33 bits.
     pub fn base0(&self) -> u64
         ensures value { result ≡ self.now.base0 }
         ensures range { self.now.base0 < 2 ^ 33 }
@@ -65,42 +65,42 @@ impl Description {
         self.contents.base0
     }
 
-    /// transport_stream_id.
+    /// Returns transport_stream_id.
     pub fn transport_stream_id(&self) -> u16
         ensures { result ≡ self.now.transport_stream_id }
     {
         self.contents.transport_stream_id
     }
 
-    /// original_network_id.
+    /// Returns original_network_id.
     pub fn original_network_id(&self) -> u16
         ensures { result ≡ self.now.original_network_id }
     {
         self.contents.original_network_id
     }
 
-    /// Whether there is a service description table.
+    /// Returns whether there is a service description table.
     pub fn has_sdt(&self) -> bool
         ensures { result ≡ self.now.has_sdt }
     {
         self.contents.has_sdt()
     }
 
-    /// Whether there is a time and date table.
+    /// Returns whether there is a time and date table.
     pub fn has_tdt(&self) -> bool
         ensures { result ≡ self.now.has_tdt }
     {
         self.contents.has_tdt()
     }
 
-    /// The network, if there is one.
+    /// Returns the network, if there is one.
     pub fn network(&self) -> Option<&Network>
         ensures { option_map (λ n. n.now) result ≡ self.now.network }
     {
         self.contents.network()
     }
 
-    /// The programs, in order.
+    /// Returns the programs, in order.
     pub fn programs(&self) -> &[ProgramDescription]
         ensures value { result.now ≡ self.now.programs }
         ensures ranges { IsInRange self.now }
@@ -108,7 +108,7 @@ impl Description {
         self.contents.programs()
     }
 
-    /// The streams, in order.
+    /// Returns the streams, in order.
     pub fn streams(&self) -> &[StreamDescription]
         ensures value { result.now ≡ self.now.streams }
         ensures ranges { IsInRange self.now }
@@ -116,7 +116,7 @@ impl Description {
         self.contents.streams()
     }
 
-    /// The private tables, in order.
+    /// Returns the private tables, in order.
     pub fn private_tables(&self) -> &[PrivateTable]
         ensures value { result.now ≡ self.now.tables }
         ensures ranges { IsInRange self.now }
@@ -124,22 +124,22 @@ impl Description {
         self.contents.private_tables()
     }
 
-    /// The number of tables.
+    /// Returns the number of tables.
     pub fn tables(&self) -> usize
         ensures { result ≡ table_count self.now }
     {
         self.contents.tables()
     }
 
-    /// What the table of a number is: 0 the PAT, then the PMTs in the order of the programs, those of
-    /// NIT, SDT, EIT and TDT that the description has, and the private tables.
+    /// Returns the kind of the table of a number: 0 the PAT, then the PMTs in the order of the programs, the
+    /// description's tables among NIT, SDT, EIT and TDT, and the private tables.
     pub fn kind(&self, table: usize) -> Option<TableKind>
         ensures { result ≡ table_kind self.now table }
     {
         self.contents.kind(table)
     }
 
-    /// The PID of a table.
+    /// Returns the PID of a table.
     pub fn table_pid(&self, table: usize) -> u16
         requires { table < table_count self.now }
         ensures { result ≡ table_pid self.now table }
@@ -147,7 +147,7 @@ impl Description {
         self.contents.table_pid(table)
     }
 
-    /// The greatest time between two starts of a section of a table, in ms.
+    /// Returns the greatest time between two starts of a section of a table, in ms.
     pub fn table_limit(&self, table: usize) -> u16
         requires { table < table_count self.now }
         ensures { result ≡ table_limit self.now table }
@@ -155,7 +155,7 @@ impl Description {
         self.contents.table_limit(table)
     }
 
-    /// The number of sections of a table.
+    /// Returns the number of sections of a table.
     pub fn sections(&self, table: usize) -> usize
         requires { table < table_count self.now }
         ensures { result ≡ section_count self.now table }
@@ -163,7 +163,7 @@ impl Description {
         self.contents.section_lengths(table).len()
     }
 
-    /// The greatest length of a section of a table over all moments, in bytes.
+    /// Returns the greatest length of a section of a table over all moments, in bytes.
     pub fn greatest(&self, table: usize, section: usize) -> usize
         requires table { table < table_count self.now }
         requires section { section < section_count self.now table }
@@ -172,7 +172,7 @@ impl Description {
         self.contents.section_lengths(table)[section] as usize
     }
 
-    /// The packets of a round of all sections of a table.
+    /// Returns the packets of a round of all sections of a table.
     pub fn round_packets(&self, table: usize) -> usize
         requires { table < table_count self.now }
         ensures { result ≡ round_packets self.now table }

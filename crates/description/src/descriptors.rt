@@ -23,7 +23,7 @@ impl Model for DescriptorLoop {
 }
 
 impl DescriptorLoop {
-    /// No descriptors.
+    /// Returns no descriptors.
     pub fn none() -> Self
         ensures { result ≡ [] }
     {
@@ -32,7 +32,7 @@ impl DescriptorLoop {
         }
     }
 
-    /// The bytes as they are written.
+    /// Returns the bytes as they are written.
     pub fn as_bytes(&self) -> &[u8]
         ensures value { result.now ≡ self.now }
         ensures fits { length self.now ≤ 700 }
@@ -52,7 +52,7 @@ fn descriptors_of(value: &Value) -> Option<DescriptorLoop>
     }
 }
 
-/// The descriptors at a key, none where it is absent.
+/// Returns the descriptors at a key, none where it is absent.
 pub fn descriptors_or_none(table: &Value, key: &str) -> Option<DescriptorLoop>
     ensures { result ≡ descriptors_or_none key.now (view table.now) }
 {
@@ -62,7 +62,7 @@ pub fn descriptors_or_none(table: &Value, key: &str) -> Option<DescriptorLoop>
     }
 }
 
-/// The descriptors at a key that has to be there.
+/// Returns the descriptors at a key that has to be there.
 pub fn descriptors_at(table: &Value, key: &str) -> Option<DescriptorLoop>
     ensures { result ≡ descriptors_at key.now (view table.now) }
 {

@@ -77,7 +77,7 @@ impl EventKey {
         EventKey::Text,
     ];
 
-    /// The number of its refusal.
+    /// Returns the number of its refusal.
     pub fn code(self) -> u8
         ensures { result ≡ event_code self }
     {

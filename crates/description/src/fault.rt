@@ -53,7 +53,7 @@ pub enum DescFault {
 impl DescFault {
     ghost use Rattle.description.specs.Codes.{fault_code, fault_item};
 
-    /// The number of the refusal.
+    /// Returns the number of the refusal.
     pub fn code(self) -> u8
         ensures { result ≡ fault_code self }
     {
@@ -78,7 +78,7 @@ impl DescFault {
         }
     }
 
-    /// The place in its array of what is refused, and 0 where there is no array; for a table that would
+    /// Returns the place of the refused part in its array, and 0 if there is no array; for a table that would
     /// be too long, its number.
     pub fn item(self) -> usize
         ensures { result ≡ fault_item self }

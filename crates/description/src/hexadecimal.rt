@@ -5,7 +5,7 @@ ghost use Rattle.description.specs.Values.{hex_bytes};
 
 use arrayvec::ArrayVec;
 
-/// The bytes that a text of pairs of digits, of either case, writes, if they are at most `N`.
+/// Returns the bytes that a text of pairs of digits, of either case, writes, if they are at most `N`.
 pub fn hex_bytes<const N: usize>(text: &str) -> Option<ArrayVec<u8, N>>
     ensures { option_map (λ bytes. bytes.items) result ≡ hex_bytes N text.now }
 {

@@ -15,16 +15,16 @@ pub trait Key: Copy {
 
     ghost refuses: { Self → Data → Data → Bool };
 
-    /// Whether a table has no keys but those of this kind.
+    /// Returns whether a table has no keys but those of this kind.
     fn knows(part: &Value) -> bool
         ensures { result ≡ knows_keys names (view part.now) };
 
-    /// Whether a table of the document has at this key what the description may not have there.
+    /// Returns whether a table of the document has at this key what the description may not have there.
     fn refuses(self, document: &Value, part: &Value) -> bool
         ensures { result ≡ refuses self (view document.now) (view part.now) };
 }
 
-/// The first of the keys that refuses a part.
+/// Returns the first of the keys that refuses a part.
 pub fn refused_key<K: Key>(keys: &[K], document: &Value, part: &Value) -> Option<K>
     ensures { result ≡ find (λ k. K.refuses k (view document.now) (view part.now)) keys.now }
 {
@@ -45,7 +45,7 @@ fn first_place<K: Key>(key: K, document: &Value, parts: &[Value]) -> Option<usiz
     position_of_refused(key, document, parts)
 }
 
-/// The first of the keys that refuses one of the parts, with the place of the first such part.
+/// Returns the first key that refuses a part, with the place of the first such part.
 pub fn first_refused<K: Key>(keys: &[K], document: &Value, parts: &[Value]) -> Option<(K, usize)>
     ensures { result ≡ first_refused (λ k. K.refuses k (view document.now)) keys.now (map view parts.now) }
 {
@@ -63,7 +63,7 @@ fn each_knows<K: Key>(parts: &[Value]) -> bool
     parts.iter().all(|part| K::knows(part))
 }
 
-/// Whether no part has a key of another kind.
+/// Returns whether no part has a key of another kind.
 pub fn all_known<K: Key>(parts: &[Value]) -> bool
     ensures { result ≡ list_all (knows_keys K.names) (map view parts.now) }
 {

@@ -33,7 +33,7 @@ fn has_keys_of(table: &Table, names: &[&str]) -> bool
     has_listed_keys(table, names)
 }
 
-/// Whether a value, if it is a table, has no other keys than these.
+/// Returns whether a value, if it is a table, has no other keys than these.
 pub fn knows_keys(value: &Value, names: &[&str]) -> bool
     ensures { result ≡ knows_keys (map (λ name. name.now) names.now) (view value.now) }
 {

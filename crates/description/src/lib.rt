@@ -27,6 +27,7 @@ mod values;
 
 // The keys of each part, with their ranges.
 mod event_keys;
+mod frame_keys;
 mod key;
 mod known_keys;
 mod multiplexing_keys;

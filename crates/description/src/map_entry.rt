@@ -3,7 +3,7 @@
 use crate::descriptors::DescriptorLoop;
 
 /// The entry of a private table in the PMT of a program (ISO/IEC 13818-1, 2.4.4.8): its elementary_PID is
-/// that of the table.
+/// the table's PID.
 #[derive(Drop)]
 pub struct MapEntry {
     /// The number of the program.

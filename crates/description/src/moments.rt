@@ -115,7 +115,7 @@ fn moment(value: &Value) -> Option<u64>
     }
 }
 
-/// The moment at a key that has to be there, in seconds since 1970.
+/// Returns the moment at a key that has to be there, in seconds since 1970.
 pub fn moment_at(table: &Value, key: &str) -> Option<u64>
     ensures { result ≡ moment_at key.now (view table.now) }
 {

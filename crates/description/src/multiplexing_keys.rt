@@ -47,7 +47,7 @@ fn multiplexing_of(stream: &Value) -> MultiplexingBuffer
     }
 }
 
-/// The multiplexing buffer, if there is one.
+/// Returns the multiplexing buffer, if there is one.
 pub fn multiplexing(stream: &Value) -> Option<MultiplexingBuffer>
     ensures { result ≡ stream_multiplexing (view stream.now) }
 {
@@ -58,14 +58,14 @@ pub fn multiplexing(stream: &Value) -> Option<MultiplexingBuffer>
     }
 }
 
-/// Whether `rbx` is refused: absent beside `mb`, or out of its range.
+/// Returns whether `rbx` is refused: absent beside `mb`, or out of its range.
 pub fn refuses_rbx(stream: &Value) -> bool
     ensures { result ≡ refuses_rbx (view stream.now) }
 {
     has_multiplexing(stream) && rbx(stream).is_none()
 }
 
-/// Whether `mb` is refused: absent beside `rbx`, or out of its range.
+/// Returns whether `mb` is refused: absent beside `rbx`, or out of its range.
 pub fn refuses_mb(stream: &Value) -> bool
     ensures { result ≡ refuses_mb (view stream.now) }
 {

@@ -44,7 +44,7 @@ impl NetworkKey {
     /// All of them, in the order of their numbers.
     pub const ALL: [NetworkKey; 3] = [NetworkKey::Id, NetworkKey::Name, NetworkKey::Descriptors];
 
-    /// The number of its refusal.
+    /// Returns the number of its refusal.
     pub fn code(self) -> u8
         ensures { result ≡ network_code self }
     {

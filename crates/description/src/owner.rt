@@ -10,7 +10,7 @@ use crate::program_keys;
 use crate::values::integer_at;
 use toml::Value;
 
-/// The number of the program that a stream or an event names.
+/// Returns the number of the program that a stream or an event names.
 pub fn owner_number(part: &Value) -> Option<u16>
     ensures { result ≡ owner_number (view part.now) }
 {
@@ -29,14 +29,14 @@ fn one_has_number(number: u16, programs: &[Value]) -> bool
     programs.iter().any(|program| has_number(number, program))
 }
 
-/// Whether a program of the document has the number.
+/// Returns whether a program of the document has the number.
 pub fn declares(document: &Value, number: u16) -> bool
     ensures { result ≡ declares (view document.now) number }
 {
     one_has_number(number, elements(document, "program"))
 }
 
-/// Whether a stream or an event names a program of the document.
+/// Returns whether a stream or an event names a program of the document.
 pub fn has_owner(document: &Value, part: &Value) -> bool
     ensures { result ≡ has_owner (view document.now) (view part.now) }
 {
@@ -46,7 +46,7 @@ pub fn has_owner(document: &Value, part: &Value) -> bool
     }
 }
 
-/// Whether a stream or an event names the program of a number.
+/// Returns whether a stream or an event names the program of a number.
 pub fn is_owned_by(number: u16, part: &Value) -> bool
     ensures { result ≡ is_owned_by number (view part.now) }
 {

@@ -10,7 +10,7 @@ use psi_tables::Section;
 use std::marker::Model;
 use toml::Value;
 
-/// A section that is sent as it stands. A contract sees its bytes.
+/// A section that is sent unchanged. A contract sees its bytes.
 #[derive(Drop)]
 pub struct PrivateSection {
     bytes: ArrayVec<u8, 4096>,
@@ -23,7 +23,7 @@ impl Model for PrivateSection {
 }
 
 impl PrivateSection {
-    /// The bytes of the section.
+    /// Returns the bytes of the section.
     pub fn as_bytes(&self) -> &[u8]
         ensures value { result.now ≡ self.now }
         ensures fits { length self.now ≤ 4096 }
@@ -42,7 +42,7 @@ fn is_one_section(bytes: &[u8]) -> bool
     }
 }
 
-/// The section of a text of hexadecimal digits.
+/// Returns the section of a text of hexadecimal digits.
 pub fn section_of(value: &Value) -> Option<PrivateSection>
     ensures { result ≡ section_in (view value.now) }
 {

@@ -30,35 +30,35 @@ impl Model for PrivateTable {
 }
 
 impl PrivateTable {
-    /// The PID of its sections.
+    /// Returns the PID of its sections.
     pub fn pid(&self) -> u16
         ensures { result ≡ self.now.pid }
     {
         self.pid
     }
 
-    /// The greatest time between two starts of a section, in ms.
+    /// Returns the greatest time between two starts of a section, in ms.
     pub fn limit(&self) -> u16
         ensures { result ≡ self.now.limit }
     {
         self.limit
     }
 
-    /// The sections in their order.
+    /// Returns the sections in their order.
     pub fn sections(&self) -> &[PrivateSection]
         ensures { result.now ≡ self.now.sections }
     {
         self.sections.as_slice()
     }
 
-    /// What names it in a PMT, if one does.
+    /// Returns what names it in a PMT, if one does.
     pub fn entry(&self) -> Option<&MapEntry>
         ensures { option_map (λ e. e.now) result ≡ self.now.entry }
     {
         self.entry.as_ref()
     }
 
-    /// What names it in the PMT of the program of a number.
+    /// Returns what names it in the PMT of the program of a number.
     pub(crate) fn entry_in(&self, number: u16) -> Option<&MapEntry>
         ensures { option_map (λ e. e.now) result ≡ entry_in number self.now }
     {

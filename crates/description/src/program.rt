@@ -41,63 +41,63 @@ impl Model for ProgramDescription {
 }
 
 impl ProgramDescription {
-    /// program_number.
+    /// Returns program_number.
     pub fn number(&self) -> u16
         ensures { result ≡ self.now.number }
     {
         self.number
     }
 
-    /// The PID of its PMT.
+    /// Returns the PID of its PMT.
     pub fn pmt_pid(&self) -> u16
         ensures { result ≡ self.now.pmt_pid }
     {
         self.pmt_pid
     }
 
-    /// The PID of its clock references.
+    /// Returns the PID of its clock references.
     pub fn pcr_pid(&self) -> u16
         ensures { result ≡ self.now.pcr_pid }
     {
         self.pcr_pid
     }
 
-    /// The greatest time between two clock references, in ms.
+    /// Returns the greatest time between two clock references, in ms.
     pub fn pcr_limit(&self) -> u8
         ensures { result ≡ self.now.pcr_limit }
     {
         self.pcr_limit
     }
 
-    /// Its descriptors in its PMT.
+    /// Returns its descriptors in its PMT.
     pub fn descriptors(&self) -> &DescriptorLoop
         ensures { result.now ≡ self.now.descriptors }
     {
         &self.descriptors
     }
 
-    /// service_type of its service.
+    /// Returns service_type of its service.
     pub fn service_type(&self) -> u8
         ensures { result ≡ self.now.service_type }
     {
         self.service_type
     }
 
-    /// The provider of its service.
+    /// Returns the provider of its service.
     pub fn provider(&self) -> &Text<100>
         ensures { result.now ≡ self.now.provider }
     {
         &self.provider
     }
 
-    /// The name of its service.
+    /// Returns the name of its service.
     pub fn name(&self) -> &Text<100>
         ensures { result.now ≡ self.now.name }
     {
         &self.name
     }
 
-    /// The events of its service, in order.
+    /// Returns the events of its service, in order.
     pub fn events(&self) -> &[Event]
         ensures { map event_view result.now ≡ self.now.events }
     {

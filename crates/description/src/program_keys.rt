@@ -90,7 +90,7 @@ impl ProgramKey {
         ProgramKey::Name,
     ];
 
-    /// The number of its refusal.
+    /// Returns the number of its refusal.
     pub fn code(self) -> u8
         ensures { result ≡ program_code self }
     {

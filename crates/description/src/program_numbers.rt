@@ -19,7 +19,7 @@ impl Model for ProgramNumbers {
 }
 
 impl ProgramNumbers {
-    /// The numbers in their order.
+    /// Returns the numbers in their order.
     pub fn as_slice(&self) -> &[u16]
         ensures value { result.now ≡ self.now }
         ensures fits { length self.now ≤ 15 }
@@ -27,7 +27,7 @@ impl ProgramNumbers {
         self.numbers.as_slice()
     }
 
-    /// Whether a number is one of them.
+    /// Returns whether the list has a number.
     pub fn contains(&self, number: u16) -> bool
         ensures { result ≡ list_any (λ n. n == number) self.now }
     {

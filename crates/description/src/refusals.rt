@@ -137,7 +137,7 @@ fn table_fault(document: &Value) -> Option<DescFault>
     Some(DescFault::Table(key, item))
 }
 
-/// The first refusal of a key.
+/// Returns the first refusal of a key.
 pub fn key_fault(document: &Value) -> Option<DescFault>
     ensures { result ≡ key_fault (view document.now) }
 {

@@ -183,7 +183,7 @@ fn lengths_of(sections: &[PrivateSection]) -> ArrayVec<u16, 32>
     lengths
 }
 
-/// The packets of sections of these lengths.
+/// Returns the packets of sections of these lengths.
 pub fn packets_of_sections(lengths: &[u16]) -> usize
     requires { length lengths.now ≤ 32 }
     ensures { result ≡ sum_by spec.packets_of_section lengths.now }
@@ -221,7 +221,7 @@ impl Contents {
         15 + services_length(self.programs())
     }
 
-    /// The greatest length of each section of a table.
+    /// Returns the greatest length of each section of a table.
     pub fn kind_lengths(&self, kind: TableKind) -> ArrayVec<u16, 32>
         ensures { result.items ≡ spec.kind_lengths self.now kind }
     {
@@ -251,7 +251,7 @@ impl Contents {
         }
     }
 
-    /// The greatest length of each section of the table of a number.
+    /// Returns the greatest length of each section of the table of a number.
     pub fn section_lengths(&self, table: usize) -> ArrayVec<u16, 32>
         ensures { result.items ≡ spec.section_lengths self.now table }
     {

@@ -75,7 +75,7 @@ fn are_sharers(document: &Value, stream: &Value, value: &Value) -> bool
     }
 }
 
-/// Whether the key is absent, or has what it may have.
+/// Returns whether the key is absent, or has what it may have.
 pub fn has_sharers(document: &Value, stream: &Value) -> bool
     ensures { result ≡ has_sharers (view document.now) (view stream.now) }
 {
@@ -96,7 +96,7 @@ fn sharers_of(values: &[Value]) -> ProgramNumbers
     ProgramNumbers { numbers }
 }
 
-/// The numbers at the key; none where it is absent, or has more than it may have.
+/// Returns the numbers at the key; none where it is absent, or has more than it may have.
 pub fn sharers(stream: &Value) -> ProgramNumbers
     ensures { result ≡ stream_sharers (view stream.now) }
 {

@@ -3,6 +3,7 @@
 use crate::descriptors::DescriptorLoop;
 use crate::program_numbers::ProgramNumbers;
 use unit_timing::allowance::Allowance;
+use unit_timing::framing::Framing;
 use unit_timing::multiplexing_buffer::MultiplexingBuffer;
 
 /// An elementary stream and what it declares of its units (ISO/IEC 13818-1, 2.4.2 and 2.4.4.8).
@@ -33,4 +34,6 @@ pub struct StreamDescription {
     pub shared_with: ProgramNumbers,
     /// Its multiplexing buffer MB before EB; one main buffer takes the place of both where there is no such buffer.
     pub multiplexing: Option<MultiplexingBuffer>,
+    /// The access units of its units, if these are PES packets that hold several; otherwise a unit is one access unit.
+    pub framing: Option<Framing>,
 }

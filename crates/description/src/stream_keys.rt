@@ -11,6 +11,7 @@ ghost use Rattle.description.specs.StreamKeys.{stream_burst_packets, stream_pace
 ghost use Rattle.description.specs.StreamKeys.{refuses_group, refuses_group_packets, refuses_burst_packets, refuses_pace};
 
 use crate::descriptors::{DescriptorLoop, descriptors_or_none};
+use crate::frame_keys::{refuses_frame, refuses_frame_size, refuses_frames};
 use crate::key::Key;
 use crate::known_keys::knows_keys;
 use crate::multiplexing_keys::{refuses_mb, refuses_rbx};
@@ -43,6 +44,9 @@ pub enum StreamKey {
     SharedWith,
     Rbx,
     Mb,
+    Frames,
+    Frame,
+    FrameSize,
 }
 
 pub fn pid(stream: &Value) -> Option<u16>
@@ -77,7 +81,7 @@ fn is_video_id(id: u8) -> bool
     224 <= id
 }
 
-/// stream_id, and 189 where it is refused.
+/// Returns stream_id, and 189 where it is refused.
 pub fn id_or_private(stream: &Value) -> u8
     ensures { result ≡ id_or_private (view stream.now) }
 {
@@ -91,7 +95,8 @@ pub fn stream_type(stream: &Value) -> Option<u8>
 }
 
 pub fn interval(stream: &Value) -> Option<u32>
-    ensures { result ≡ stream_interval (view stream.now) }
+    ensures value { result ≡ stream_interval (view stream.now) }
+    ensures bound { IfSome result (λ n. n ≤ 90000) }
 {
     Some(integer_at(stream, "interval", 1, 90_000)? as u32)
 }
@@ -225,7 +230,7 @@ fn pace(stream: &Value) -> Option<u32>
     Some(integer_at(stream, "pace", 1, 100_000_000)? as u32)
 }
 
-/// The most packets of units in a row, with the least value of its range where a key is refused.
+/// Returns the most packets of units in a row, with the least value of its range where a key is refused.
 pub fn allowance(stream: &Value) -> Allowance
     ensures { result ≡ stream_allowance (view stream.now) }
 {
@@ -278,7 +283,7 @@ impl StreamKey {
     ghost use Rattle.description.specs.Codes.{stream_code};
 
     /// All of them, in the order of their numbers.
-    pub const ALL: [StreamKey; 19] = [
+    pub const ALL: [StreamKey; 22] = [
         StreamKey::Program,
         StreamKey::Pid,
         StreamKey::StreamId,
@@ -298,9 +303,12 @@ impl StreamKey {
         StreamKey::SharedWith,
         StreamKey::Rbx,
         StreamKey::Mb,
+        StreamKey::Frames,
+        StreamKey::Frame,
+        StreamKey::FrameSize,
     ];
 
-    /// The number of its refusal.
+    /// Returns the number of its refusal.
     pub fn code(self) -> u8
         ensures { result ≡ stream_code self }
     {
@@ -324,6 +332,9 @@ impl StreamKey {
             StreamKey::SharedWith => 57,
             StreamKey::Rbx => 58,
             StreamKey::Mb => 59,
+            StreamKey::Frames => 84,
+            StreamKey::Frame => 85,
+            StreamKey::FrameSize => 86,
         }
     }
 }
@@ -358,6 +369,9 @@ impl Key for StreamKey {
                 "shared_with",
                 "rbx",
                 "mb",
+                "frames",
+                "frame",
+                "frame_size",
             ],
         )
     }
@@ -383,6 +397,9 @@ impl Key for StreamKey {
             StreamKey::SharedWith => !has_sharers(document, part),
             StreamKey::Rbx => refuses_rbx(part),
             StreamKey::Mb => refuses_mb(part),
+            StreamKey::Frames => refuses_frames(part),
+            StreamKey::Frame => refuses_frame(part),
+            StreamKey::FrameSize => refuses_frame_size(part),
         }
     }
 }

@@ -42,7 +42,7 @@ fn has_sections(table: &Value) -> bool
     sections_at(table, "sections")
 }
 
-/// Whether a PMT names the table: one of the three keys of its entry stands there.
+/// Returns whether a PMT names the table: whether the table has any of the three keys of its entry.
 pub fn is_listed(table: &Value) -> bool
     ensures { result ≡ is_listed (view table.now) }
 {
@@ -51,14 +51,14 @@ pub fn is_listed(table: &Value) -> bool
         || table.get("descriptors").is_some()
 }
 
-/// The stream_type of its entry.
+/// Returns the stream_type of its entry.
 pub fn entry_type(table: &Value) -> Option<u8>
     ensures { result ≡ entry_type (view table.now) }
 {
     Some(integer_at(table, "stream_type", 1, 255)? as u8)
 }
 
-/// The descriptors of its entry.
+/// Returns the descriptors of its entry.
 pub fn entry_descriptors(table: &Value) -> Option<DescriptorLoop>
     ensures { result ≡ entry_descriptors (view table.now) }
 {
@@ -78,7 +78,7 @@ impl TableKey {
         TableKey::Descriptors,
     ];
 
-    /// The number of its refusal.
+    /// Returns the number of its refusal.
     pub fn code(self) -> u8
         ensures { result ≡ table_code self }
     {

@@ -67,15 +67,15 @@ impl Contents {
         kinds
     }
 
-    /// The number of tables.
+    /// Returns the number of tables.
     pub fn tables(&self) -> usize
         ensures { result ≡ table_count self.now }
     {
         1 + self.programs().len() + self.service_tables().len() + self.private_tables().len()
     }
 
-    /// What the table of a number is: 0 the PAT, then the PMTs in the order of the programs, those of
-    /// NIT, SDT, EIT and TDT that the description has, and the private tables.
+    /// Returns the kind of the table of a number: 0 the PAT, then the PMTs in the order of the programs, the
+    /// description's tables among NIT, SDT, EIT and TDT, and the private tables.
     pub fn kind(&self, table: usize) -> Option<TableKind>
         ensures { result ≡ table_kind self.now table }
     {
@@ -100,7 +100,7 @@ impl Contents {
         }
     }
 
-    /// The PID of the table of a number, 0 where there is none.
+    /// Returns the PID of the table of a number, 0 if there is no such table.
     pub fn table_pid(&self, table: usize) -> u16
         ensures { result ≡ table_pid self.now table }
     {
@@ -130,7 +130,7 @@ impl Contents {
         }
     }
 
-    /// The limit of the table of a number in ms, 0 where there is none.
+    /// Returns the limit of the table of a number in ms, 0 if there is no such table.
     pub fn table_limit(&self, table: usize) -> u16
         ensures { result ≡ table_limit self.now table }
     {

@@ -7,7 +7,8 @@ use crate::description::Description;
 use arrayvec::ArrayVec;
 
 impl Description {
-    /// The greatest length of each section of a table over all moments, in bytes; none where there is no such table.
+    /// Returns the greatest length of each section of a table over all moments, in bytes; none where there is no
+    /// such table.
     pub fn section_lengths(&self, table: usize) -> ArrayVec<u16, 32>
         ensures { result.items ≡ section_lengths self.now table }
     {

@@ -29,7 +29,7 @@ fn text<const N: usize>(value: &Value) -> Option<Text<N>>
     }
 }
 
-/// The text at a key that has to be there.
+/// Returns the text at a key that has to be there.
 pub fn text_at<const N: usize>(table: &Value, key: &str) -> Option<Text<N>>
     ensures { result ≡ text_at N key.now (view table.now) }
 {
@@ -39,7 +39,7 @@ pub fn text_at<const N: usize>(table: &Value, key: &str) -> Option<Text<N>>
     }
 }
 
-/// The empty text.
+/// Returns the empty text.
 #[tactic(auto, unfolding(dvb_tables::specs::CharacterCoding::is_plain))]
 pub fn empty_text<const N: usize>() -> Text<N>
     ensures { result ≡ [] }
@@ -50,7 +50,7 @@ pub fn empty_text<const N: usize>() -> Text<N>
     }
 }
 
-/// The text at a key, empty where it is absent.
+/// Returns the text at a key, empty where it is absent.
 pub fn text_or_empty<const N: usize>(table: &Value, key: &str) -> Option<Text<N>>
     ensures { result ≡ text_or N key.now (view table.now) }
 {
@@ -85,7 +85,7 @@ fn language(value: &Value) -> Option<[u8; 3]>
     }
 }
 
-/// The language at a key that has to be there.
+/// Returns the language at a key that has to be there.
 pub fn language_at(table: &Value, key: &str) -> Option<[u8; 3]>
     ensures { result ≡ language_at key.now (view table.now) }
 {
@@ -95,7 +95,7 @@ pub fn language_at(table: &Value, key: &str) -> Option<[u8; 3]>
     }
 }
 
-/// The language at a key that may be absent.
+/// Returns the language at a key that may be absent.
 pub fn optional_language(table: &Value, key: &str) -> Option<Option<[u8; 3]>>
     ensures { result ≡ optional_language key.now (view table.now) }
 {

@@ -78,7 +78,7 @@ impl TopKey {
         TopKey::Tdt,
     ];
 
-    /// The number of its refusal.
+    /// Returns the number of its refusal.
     pub fn code(self) -> u8
         ensures { result ≡ top_code self }
     {
@@ -93,7 +93,7 @@ impl TopKey {
         }
     }
 
-    /// Whether the document has at this key what a description may not have there.
+    /// Returns whether the document has at this key what a description may not have there.
     pub fn refuses(self, document: &Value) -> bool
         ensures { result ≡ refuses_top self (view document.now) }
     {
@@ -108,7 +108,7 @@ impl TopKey {
         }
     }
 
-    /// The first key that refuses the document.
+    /// Returns the first key that refuses the document.
     pub fn first_refused(document: &Value) -> Option<TopKey>
         ensures { result ≡ find (λ key. refuses_top key (view document.now)) top_keys }
     {

@@ -6,7 +6,7 @@ ghost use Rattle.description.specs.Values.{in_range, integer_in, integer_at, int
 
 use toml::Value;
 
-/// The number of a value from `low` to `high`.
+/// Returns the number of a value from `low` to `high`.
 pub fn integer_in(value: &Value, low: i64, high: i64) -> Option<u64>
     requires { pos 0 ≤ℤ low }
     ensures value { result ≡ integer_in low high (view value.now) }
@@ -30,7 +30,7 @@ pub fn within(number: i64, low: i64, high: i64) -> Option<u64>
     }
 }
 
-/// The number at a key that has to be there.
+/// Returns the number at a key that has to be there.
 pub fn integer_at(table: &Value, key: &str, low: i64, high: i64) -> Option<u64>
     requires { pos 0 ≤ℤ low }
     ensures value { result ≡ integer_at key.now low high (view table.now) }
@@ -42,7 +42,7 @@ pub fn integer_at(table: &Value, key: &str, low: i64, high: i64) -> Option<u64>
     }
 }
 
-/// The number at a key with a default.
+/// Returns the number at a key with a default.
 pub fn integer_or(default: u64, table: &Value, key: &str, low: i64, high: i64) -> Option<u64>
     requires low { pos 0 ≤ℤ low }
     requires default { pos default ≤ℤ high }
@@ -55,7 +55,7 @@ pub fn integer_or(default: u64, table: &Value, key: &str, low: i64, high: i64) -
     }
 }
 
-/// The number at a key that may be absent.
+/// Returns the number at a key that may be absent.
 pub fn optional_integer(table: &Value, key: &str, low: i64, high: i64) -> Option<Option<u64>>
     requires { pos 0 ≤ℤ low }
     ensures value { result ≡ optional_integer key.now low high (view table.now) }
@@ -67,7 +67,7 @@ pub fn optional_integer(table: &Value, key: &str, low: i64, high: i64) -> Option
     }
 }
 
-/// The boolean at a key with a default.
+/// Returns the boolean at a key with a default.
 pub fn boolean_or(default: bool, table: &Value, key: &str) -> Option<bool>
     ensures { result ≡ boolean_or default key.now (view table.now) }
 {

@@ -21,7 +21,7 @@ pub struct Descriptors<'a> {
 }
 
 impl<'a> Descriptors<'a> {
-    /// The descriptors that stand in these bytes.
+    /// Returns the descriptors that stand in these bytes.
     #[tactic(auto, unfolding(crate::specs::Descriptors::descriptors_of))]
     pub fn of(bytes: &'a [u8]) -> Descriptors<'a>
         ensures { spec.descriptors_of result ≡ spec.descriptors_in bytes.now }
@@ -62,7 +62,7 @@ fn first(bytes: &[u8]) -> Option<(Descriptor<'_>, &[u8])>
     first_descriptor(bytes)
 }
 
-/// The descriptor at the front, and what follows it; `None` where it is not whole.
+/// Returns the descriptor at the front, and what follows it; `None` where it is not whole.
 #[tactic(auto, unfolding(crate::specs::Descriptors::first_descriptor))]
 pub fn first_descriptor(bytes: &[u8]) -> Option<(Descriptor<'_>, &[u8])>
     ensures { option_map (λ p. (spec.descriptor_view p.0, p.1.now)) result ≡ spec.first_descriptor bytes.now }

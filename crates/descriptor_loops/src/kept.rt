@@ -24,7 +24,7 @@ fn append_kept<A: Allocator>(
     out.extend_from_slice(descriptor.body)
 }
 
-/// The bytes of the whole descriptors, in order, but for those of conditional access and of a multiplex.
+/// Returns the bytes of the whole descriptors, in order, but for those of conditional access and of a multiplex.
 #[tactic(auto, unfolding(crate::specs::Descriptors::kept_descriptors))]
 pub fn kept_descriptors<A: Allocator>(alloc: A, bytes: &[u8]) -> Result<Vec<u8, A>, AllocError>
     ensures { IfOk result (λ kept. kept.items ≡ spec.kept_descriptors bytes.now) }

@@ -38,7 +38,7 @@ fn is_by_hrd(body: &[u8]) -> bool
     }
 }
 
-/// Whether a descriptor speaks of a multiplex.
+/// Returns whether a descriptor speaks of a multiplex.
 #[tactic(auto, unfolding(crate::specs::Descriptors::is_of_multiplex))]
 pub(crate) fn is_of_multiplex(descriptor: Descriptor<'_>) -> bool
     ensures { result ≡ spec.is_of_multiplex (spec.descriptor_view descriptor.entry) }
@@ -50,7 +50,7 @@ pub(crate) fn is_of_multiplex(descriptor: Descriptor<'_>) -> bool
         || (descriptor.tag == AVC_TIMING_AND_HRD && is_by_hrd(descriptor.body))
 }
 
-/// Whether one of the whole descriptors in these bytes speaks of a multiplex.
+/// Returns whether one of the whole descriptors in these bytes speaks of a multiplex.
 #[tactic(auto, unfolding(crate::specs::Descriptors::has_of_multiplex))]
 pub fn has_of_multiplex(bytes: &[u8]) -> bool
     ensures { result ≡ spec.has_of_multiplex bytes.now }

@@ -8,7 +8,7 @@ use crate::descriptors::{Descriptor, Descriptors};
 // The tag of a CA descriptor (2.6.16).
 const CONDITIONAL_ACCESS: u8 = 9;
 
-/// Whether a descriptor is of conditional access.
+/// Returns whether a descriptor is of conditional access.
 #[tactic(auto, unfolding(crate::specs::Descriptors::is_ca, crate::specs::Descriptors::is_tagged))]
 pub(crate) fn is_ca(descriptor: Descriptor<'_>) -> bool
     ensures { result ≡ spec.is_ca (spec.descriptor_view descriptor.entry) }
@@ -23,7 +23,7 @@ fn is_tagged(tag: u8, descriptor: Descriptor<'_>) -> bool
     descriptor.tag == tag
 }
 
-/// Whether one of the whole descriptors in these bytes has this tag.
+/// Returns whether one of the whole descriptors in these bytes has this tag.
 #[tactic(auto, unfolding(crate::specs::Descriptors::has_tag))]
 pub fn has_tag(tag: u8, bytes: &[u8]) -> bool
     ensures { result ≡ spec.has_tag tag bytes.now }
@@ -36,7 +36,7 @@ pub fn has_tag(tag: u8, bytes: &[u8]) -> bool
     false
 }
 
-/// Whether one of the whole descriptors in these bytes is of conditional access (a CA descriptor, 2.6.16).
+/// Returns whether one of the whole descriptors in these bytes is of conditional access (a CA descriptor, 2.6.16).
 #[tactic(auto, unfolding(crate::specs::Descriptors::has_ca))]
 pub fn has_ca(bytes: &[u8]) -> bool
     ensures { result ≡ spec.has_ca bytes.now }

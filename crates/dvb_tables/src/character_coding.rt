@@ -18,7 +18,7 @@ pub enum TextError {
 }
 
 impl TextError {
-    /// The number of the refusal: 1 TooLong.
+    /// Returns the number of the refusal: 1 TooLong.
     pub fn code(self) -> u8
         ensures { result ≡ text_error_code self }
     {
@@ -28,9 +28,9 @@ impl TextError {
     }
 }
 
-/// A text of at most `N` bytes, as it is written: ASCII letters, digits and spaces alone (or nothing)
-/// stand plain in the default table, and any other text is 0x15 and its UTF-8 bytes. A contract sees
-/// these bytes.
+/// A text of at most `N` bytes, as it is written: a text of ASCII letters, digits and spaces alone (or
+/// of nothing) is plain, in the default table; any other text is 0x15 and its UTF-8 bytes. A contract
+/// sees these bytes.
 #[derive(Drop)]
 pub struct Text<const N: usize> {
     bytes: ArrayVec<u8, N>,
@@ -43,7 +43,7 @@ impl<const N: usize> Model for Text<N> {
 }
 
 impl<const N: usize> Text<N> {
-    /// The coded text, or 1 TooLong where it takes more than `N` bytes.
+    /// Returns the coded text, or 1 TooLong where it takes more than `N` bytes.
     pub fn new(text: &str) -> Result<Self, TextError>
         ensures fits { IsOk result ↔ (length (text_bytes text.now) ≤ N) }
         ensures value { IfOk result (λ t. t ≡ text_bytes text.now) }
@@ -58,7 +58,7 @@ impl<const N: usize> Text<N> {
         Ok(Text { bytes })
     }
 
-    /// The bytes as they are written.
+    /// Returns the bytes as they are written.
     pub fn as_bytes(&self) -> &[u8]
         ensures value { result.now ≡ self.now }
         ensures fits { length self.now ≤ N }
@@ -67,7 +67,7 @@ impl<const N: usize> Text<N> {
     }
 }
 
-/// Whether all bytes are ASCII letters, digits and spaces: such a text stands in the default character table as it is
+/// Returns whether all bytes are ASCII letters, digits and spaces: the default character table has such a text as it is
 /// (EN 300 468, annex A).
 #[tactic(auto, unfolding(crate::specs::CharacterCoding::is_plain))]
 pub fn is_plain(bytes: &[u8]) -> bool

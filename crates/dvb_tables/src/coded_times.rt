@@ -3,9 +3,9 @@
 ghost use Rattle.std.specs.Prelude.{◌≡◌, ◌<◌};
 ghost use Rattle.dvb_tables.specs.CodedTimes.{utc_time_bytes, clock_bytes, coded_decimal};
 
-/// The 5 bytes of UTC_time and of an event's start_time (EN 300 468, 5.2.4 and 5.2.5): the Modified
-/// Julian Date and the digits hhmmss. The moment counts seconds since 1 January 1970 UTC. A day past the
-/// 16 bits of the date is written modulo 65,536.
+/// Returns the 5 bytes of UTC_time and of an event's start_time (EN 300 468, 5.2.4 and 5.2.5): the
+/// Modified Julian Date and the digits hhmmss. The moment counts seconds since 1 January 1970 UTC. A day
+/// past the 16 bits of the date is written modulo 65,536.
 pub fn utc_time(moment: u64) -> [u8; 5]
     ensures { result ≡ utc_time_bytes moment }
 {
@@ -15,7 +15,7 @@ pub fn utc_time(moment: u64) -> [u8; 5]
     [high, low, hours, minutes, seconds]
 }
 
-/// The 3 bytes of an event's duration (EN 300 468, 5.2.4): the digits hhmmss of a number of seconds.
+/// Returns the 3 bytes of an event's duration (EN 300 468, 5.2.4): the digits hhmmss of a number of seconds.
 pub fn duration_digits(seconds: u32) -> [u8; 3]
     requires { seconds < 360_000 }
     ensures { result ≡ clock_bytes seconds }

@@ -5,8 +5,8 @@ ghost use Rattle.dvb_tables.specs.DescriptorLoops.{are_whole_descriptors};
 
 use descriptor_loops::{Descriptor, first_descriptor};
 
-/// Whether bytes are whole descriptors, one after another: a descriptor's tag, the number of the bytes
-/// after it, and these bytes. No bytes are whole descriptors too.
+/// Returns whether bytes are whole descriptors, one after another: a descriptor's tag, the number of
+/// the bytes after it, and these bytes. No bytes are whole descriptors too.
 #[tactic(auto, using(crate::proofs::WholeParts::front_nil))]
 pub fn are_whole_descriptors(bytes: &[u8]) -> bool
     ensures { result ≡ are_whole_descriptors bytes.now }

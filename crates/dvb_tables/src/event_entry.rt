@@ -8,7 +8,7 @@ use arrayvec::ArrayVec;
 use bit_fields::append;
 use psi_tables::{Entry, SectionError, entry_at, is_whole_loop};
 
-/// One event of an event information section. The times are the bytes that stand there, decimal digits or
+/// An event of an event information section. The times are the section's bytes, decimal digits or
 /// not, and the descriptors are kept as bytes, whole descriptors or not.
 #[derive(Clone, Copy)]
 pub struct EventEntry<'a> {
@@ -43,7 +43,7 @@ impl<'a> EventEntries<'a> {
         EventEntries { bytes }
     }
 
-    /// The events that bytes are; `Body` where they end within an entry.
+    /// Returns the events that bytes are; `Body` where they end within an entry.
     #[tactic(auto, unfolding(crate::specs::EventEntries::events_at, crate::specs::EventEntries::events_of))]
     pub fn read(bytes: &'a [u8]) -> Result<EventEntries<'a>, SectionError>
         ensures { Gives events_of result (events_at bytes.now) }

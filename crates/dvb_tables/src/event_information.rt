@@ -65,7 +65,7 @@ impl EitPf {
         EitPf::of_body(header, body)
     }
 
-    /// The events, in order.
+    /// Returns the events, in order.
     pub fn events(&self) -> EventEntries<'_>
         ensures { events_of result ≡ event_loop_of self.now.events }
     {
@@ -90,7 +90,7 @@ impl EitPf {
         Ok(())
     }
 
-    /// The bytes of the section in a vector of their own.
+    /// Returns the bytes of the section in a vector of their own.
     pub fn write<A: Allocator>(&self, alloc: A) -> Result<Vec<u8, A>, WriteError>
         requires { self.now.header.version_number < 32 }
         ensures ok { IfOk result (λ bytes. bytes.items ≡ section_bytes (eit_section (eit_view self.now))) }

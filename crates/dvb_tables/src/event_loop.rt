@@ -27,7 +27,7 @@ impl EventLoop {
     ghost use Rattle.dvb_tables.specs.EventEntries.{event_view, events_at, events_of, events_bytes};
     ghost use Rattle.dvb_tables.specs.EventInformation.{event_loop_of};
 
-    /// No events.
+    /// Returns no events.
     #[tactic(auto, unfolding(crate::specs::EventInformation::event_loop_of))]
     pub fn new() -> EventLoop
         ensures { event_loop_of result ≡ [] }
@@ -37,7 +37,7 @@ impl EventLoop {
         }
     }
 
-    /// The events that bytes are; `Body` where they end within an entry.
+    /// Returns the events that bytes are; `Body` where they end within an entry.
     #[tactic(auto, unfolding(crate::specs::EventInformation::event_loop_of, crate::specs::EventEntries::events_at))]
     pub fn read(bytes: &[u8]) -> Result<EventLoop, SectionError>
         requires { length bytes.now ≤ GREATEST_EVENT_LOOP }
@@ -52,7 +52,7 @@ impl EventLoop {
         }
     }
 
-    /// The events, in order.
+    /// Returns the events, in order.
     #[tactic(auto, unfolding(crate::specs::EventInformation::event_loop_of))]
     pub fn events(&self) -> EventEntries<'_>
         ensures { events_of result ≡ event_loop_of self.now }
@@ -60,7 +60,7 @@ impl EventLoop {
         EventEntries::of_whole(self.bytes.as_slice())
     }
 
-    /// How many bytes are written for them.
+    /// Returns how many bytes are written for them.
     #[tactic(auto, unfolding(crate::specs::EventInformation::event_loop_of))]
     pub fn byte_length(&self) -> usize
         ensures value { result ≡ length (events_bytes (event_loop_of self.now)) }

@@ -15,7 +15,7 @@ pub enum MjdError {
 }
 
 impl MjdError {
-    /// The number of the refusal: 1 Range.
+    /// Returns the number of the refusal: 1 Range.
     pub fn code(self) -> u8
         ensures { result ≡ mjd_error_code self }
     {
@@ -25,7 +25,7 @@ impl MjdError {
     }
 }
 
-/// The Modified Julian Date of a civil date, as the 16 bits of UTC_time hold it: the days since
+/// Returns the Modified Julian Date of a civil date, as the 16 bits of UTC_time hold it: the days since
 /// 1 January 1970, and 40,587 (EN 300 468, annex C). Refused is a date outside 17 November 1858 (day 0)
 /// to 22 April 2038 (day 65,535).
 pub fn mjd(date: Date) -> Result<u16, MjdError>

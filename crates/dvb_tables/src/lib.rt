@@ -3,7 +3,7 @@
 //! date (TDT); with their descriptors, their texts and their times.
 //!
 //! Each table reads itself from a section of `psi_tables` (`read`), keeping loops of descriptors as bytes,
-//! and writes itself as a section, into a vector of fixed capacity (`write_to`) or one of its own
+//! and writes itself as a section, into a vector of fixed capacity (`write_to`) or into its own vector
 //! (`write`). Loops are built without memory by `TransportStreamLoop`, `ServiceLoop` and
 //! `EventLoop`. Reserved bits are written 1 and not looked at when they are read.
 #![tactic(auto)]

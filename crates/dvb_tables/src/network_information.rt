@@ -132,7 +132,7 @@ impl Nit<'_> {
         self.transport_streams.append_all_to(out);
     }
 
-    /// The bytes of the section in a vector of their own.
+    /// Returns the bytes of the section in a vector of their own.
     pub fn write<A: Allocator>(&self, alloc: A) -> Result<Vec<u8, A>, WriteError>
         requires { self.now.header.version_number < 32 }
         ensures ok { IfOk result (λ bytes. bytes.items ≡ section_bytes (nit_section (nit_view self.now))) }

@@ -5,8 +5,9 @@ ghost use Rattle.dvb_tables.specs.Schedule.{is_present, is_following};
 
 use crate::schedule::Event;
 
-/// The places of the present event, the first with `start <= moment < start + duration`, and of the
-/// following event, the first with `start > moment`. The moment counts seconds since 1 January 1970 UTC.
+/// Returns the places of the present event, the first with `start <= moment < start + duration`, and of
+/// the following event, the first with `start > moment`. The moment counts seconds since 1 January 1970
+/// UTC.
 pub fn present_following(events: &[Event], moment: u64) -> (Option<usize>, Option<usize>)
     ensures present { result.0 ≡ position (is_present moment) events.now }
     ensures following { result.1 ≡ position (is_following moment) events.now }

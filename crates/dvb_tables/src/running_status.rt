@@ -19,7 +19,7 @@ pub enum RunningStatus {
 impl RunningStatus {
     ghost use Rattle.dvb_tables.specs.RunningStates.{status_code, status_of};
 
-    /// The three bits.
+    /// Returns the three bits.
     pub fn code(self) -> u8
         ensures bits { result ≡ status_code self }
         ensures three { result < 8 }
@@ -36,7 +36,7 @@ impl RunningStatus {
         }
     }
 
-    /// The status of three bits.
+    /// Returns the status of three bits.
     pub fn of_code(code: u8) -> Self
         requires { code < 8 }
         ensures { result ≡ status_of code }

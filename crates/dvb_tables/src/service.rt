@@ -43,7 +43,7 @@ impl<'a> Services<'a> {
         Services { bytes }
     }
 
-    /// The services that bytes are; `Body` where they end within an entry.
+    /// Returns the services that bytes are; `Body` where they end within an entry.
     #[tactic(auto, unfolding(crate::specs::Services::services_at, crate::specs::Services::services_of))]
     pub fn read(bytes: &'a [u8]) -> Result<Services<'a>, SectionError>
         ensures { Gives services_of result (services_at bytes.now) }
@@ -61,7 +61,7 @@ impl Services<'_> {
     ghost use Rattle.arrayvec.specs.ArrayVec.{array_vec_len};
     ghost use Rattle.dvb_tables.specs.Services.{services_of, services_bytes};
 
-    /// How many bytes are written for them.
+    /// Returns how many bytes are written for them.
     pub fn byte_length(&self) -> usize
         ensures { result ≡ length (services_bytes (services_of self.now)) }
     {

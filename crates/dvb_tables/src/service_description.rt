@@ -120,7 +120,7 @@ impl Sdt<'_> {
         self.services.append_all_to(out);
     }
 
-    /// The bytes of the section in a vector of their own.
+    /// Returns the bytes of the section in a vector of their own.
     pub fn write<A: Allocator>(&self, alloc: A) -> Result<Vec<u8, A>, WriteError>
         requires { self.now.header.version_number < 32 }
         ensures ok { IfOk result (λ bytes. bytes.items ≡ section_bytes (sdt_section (sdt_view self.now))) }

@@ -23,7 +23,7 @@ impl ServiceLoop {
     ghost use Rattle.std.specs.Prelude.{◌↔◌, ◌≤◌, [], ◌∷◌, ◌++◌, length, IsOk, OnOk, OnErr, IfErr};
     ghost use Rattle.dvb_tables.specs.Services.{service_view, services_of, services_bytes, service_loop_of};
 
-    /// No services.
+    /// Returns no services.
     #[tactic(auto, unfolding(crate::specs::Services::service_loop_of))]
     pub fn new() -> ServiceLoop
         ensures { service_loop_of result ≡ [] }
@@ -33,7 +33,7 @@ impl ServiceLoop {
         }
     }
 
-    /// The services, in order.
+    /// Returns the services, in order.
     #[tactic(auto, unfolding(crate::specs::Services::service_loop_of))]
     pub fn services(&self) -> Services<'_>
         ensures { services_of result ≡ service_loop_of self.now }

@@ -66,7 +66,7 @@ impl Tdt {
         section.write_to(out)
     }
 
-    /// The bytes of the section in a vector of their own.
+    /// Returns the bytes of the section in a vector of their own.
     pub fn write<A: Allocator>(&self, alloc: A) -> Result<Vec<u8, A>, WriteError>
         ensures ok { IfOk result (λ bytes. bytes.items ≡ section_bytes (tdt_section self.now)) }
         ensures memory { IfErr result (λ e. e ≡ WriteError.Memory) }

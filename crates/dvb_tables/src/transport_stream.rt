@@ -36,7 +36,7 @@ impl<'a> TransportStreams<'a> {
         TransportStreams { bytes }
     }
 
-    /// The transport streams that bytes are; `Body` where they end within an entry.
+    /// Returns the transport streams that bytes are; `Body` where they end within an entry.
     #[tactic(auto, unfolding(crate::specs::TransportStreams::transport_streams_at, crate::specs::TransportStreams::transport_streams_of))]
     pub fn read(bytes: &'a [u8]) -> Result<TransportStreams<'a>, SectionError>
         ensures { Gives transport_streams_of result (transport_streams_at bytes.now) }
@@ -54,7 +54,7 @@ impl TransportStreams<'_> {
     ghost use Rattle.arrayvec.specs.ArrayVec.{array_vec_len};
     ghost use Rattle.dvb_tables.specs.TransportStreams.{transport_streams_of, transport_streams_bytes};
 
-    /// How many bytes are written for them.
+    /// Returns how many bytes are written for them.
     pub fn byte_length(&self) -> usize
         ensures { result ≡ length (transport_streams_bytes (transport_streams_of self.now)) }
     {

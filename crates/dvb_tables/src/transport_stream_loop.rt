@@ -24,7 +24,7 @@ impl TransportStreamLoop {
     ghost use Rattle.dvb_tables.specs.TransportStreams.{transport_stream_view, transport_streams_of};
     ghost use Rattle.dvb_tables.specs.TransportStreams.{transport_streams_bytes, transport_stream_loop_of};
 
-    /// No transport streams.
+    /// Returns no transport streams.
     #[tactic(auto, unfolding(crate::specs::TransportStreams::transport_stream_loop_of))]
     pub fn new() -> TransportStreamLoop
         ensures { transport_stream_loop_of result ≡ [] }
@@ -34,7 +34,7 @@ impl TransportStreamLoop {
         }
     }
 
-    /// The transport streams, in order.
+    /// Returns the transport streams, in order.
     #[tactic(auto, unfolding(crate::specs::TransportStreams::transport_stream_loop_of))]
     pub fn transport_streams(&self) -> TransportStreams<'_>
         ensures { transport_streams_of result ≡ transport_stream_loop_of self.now }

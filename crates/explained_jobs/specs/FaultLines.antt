@@ -20,18 +20,18 @@ key_line lines table words = row_words (row_of table words.0 lines) ++ (table_wo
 
 -- the number of a table in its array is counted from 0
 unfoldable pub fault_line : List (List ℕ) → DescFault → List ℕ
-fault_line lines fault.Text = codes "the description is no TOML\n"
-fault_line lines fault.UnknownKey = codes "a key is none of a description\n"
+fault_line lines fault.Text = codes "the description is not valid TOML\n"
+fault_line lines fault.UnknownKey = codes "unknown key\n"
 fault_line lines (fault.Top key) = key_line lines Document (top_words key)
 fault_line lines fault.Network = codes "network has to be a table\n"
 fault_line lines (fault.NetworkKey key) = key_line lines Network (network_words key)
-fault_line lines fault.Programs = codes "[[program]] has to stand 1 to 16 times\n"
+fault_line lines fault.Programs = codes "expected 1 to 16 [[program]] tables\n"
 fault_line lines (fault.Program key item) = key_line lines (Program item) (program_words key)
-fault_line lines fault.Streams = codes "[[stream]] has to stand up to 32 times\n"
+fault_line lines fault.Streams = codes "expected at most 32 [[stream]] tables\n"
 fault_line lines (fault.Stream key item) = key_line lines (Stream item) (stream_words key)
-fault_line lines fault.Events = codes "[[event]] has to stand up to 256 times\n"
+fault_line lines fault.Events = codes "expected at most 256 [[event]] tables\n"
 fault_line lines (fault.Event key item) = key_line lines (Event item) (event_words key)
-fault_line lines fault.Tables = codes "[[table]] has to stand up to 16 times\n"
+fault_line lines fault.Tables = codes "expected at most 16 [[table]] tables\n"
 fault_line lines (fault.Table key item) = key_line lines (Private item) (private_words key)
 fault_line lines fault.EqualPids = equal_line lines Pids
 fault_line lines fault.EqualNumbers = equal_line lines Numbers

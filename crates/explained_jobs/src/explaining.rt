@@ -1,4 +1,4 @@
-//! What is said of a description, or of a description and a plan for it.
+//! The explanation of a description, or of a description and a plan for it.
 
 ghost use Rattle.std.specs.Prelude.{◌≡◌, ◌++◌, IfOk, OnOk, Ok, map, option_map, string_bytes};
 ghost use Rattle.checked_jobs.specs.Jobs.{described, planned};
@@ -84,7 +84,7 @@ fn write_parts(
     }
 }
 
-/// What is wrong with a description, or with a plan after it; nothing where nothing is known to be.
+/// Returns the faults of a description, or of a plan after it, in words; an empty text if none is known.
 #[tactic(auto, unfolding(crate::specs::Explained::parts_words))]
 pub fn explain(alloc: Global, bytes: &[u8]) -> Result<String, AllocError>
     ensures { IfOk result (λ text. string_bytes text ≡ spec.explained bytes.now) }

@@ -44,24 +44,24 @@ pub fn write_fault(lines: &[&str], fault: DescFault, text: &mut String) -> Resul
         ≡ string_bytes text.old ++ spec.fault_line (map (λ s. s.now) lines.now) fault) }
 {
     match fault {
-        DescFault::Text => text.push_str("the description is no TOML\n"),
-        DescFault::UnknownKey => text.push_str("a key is none of a description\n"),
+        DescFault::Text => text.push_str("the description is not valid TOML\n"),
+        DescFault::UnknownKey => text.push_str("unknown key\n"),
         DescFault::Top(key) => write_key(lines, KeyTable::Document, top_words(key), text),
         DescFault::Network => text.push_str("network has to be a table\n"),
         DescFault::NetworkKey(key) => write_key(lines, KeyTable::Network, network_words(key), text),
-        DescFault::Programs => text.push_str("[[program]] has to stand 1 to 16 times\n"),
+        DescFault::Programs => text.push_str("expected 1 to 16 [[program]] tables\n"),
         DescFault::Program(key, item) => {
             write_key(lines, KeyTable::Program(item), program_words(key), text)
         }
-        DescFault::Streams => text.push_str("[[stream]] has to stand up to 32 times\n"),
+        DescFault::Streams => text.push_str("expected at most 32 [[stream]] tables\n"),
         DescFault::Stream(key, item) => {
             write_key(lines, KeyTable::Stream(item), stream_words(key), text)
         }
-        DescFault::Events => text.push_str("[[event]] has to stand up to 256 times\n"),
+        DescFault::Events => text.push_str("expected at most 256 [[event]] tables\n"),
         DescFault::Event(key, item) => {
             write_key(lines, KeyTable::Event(item), event_words(key), text)
         }
-        DescFault::Tables => text.push_str("[[table]] has to stand up to 16 times\n"),
+        DescFault::Tables => text.push_str("expected at most 16 [[table]] tables\n"),
         DescFault::Table(key, item) => {
             write_key(lines, KeyTable::Private(item), table_words(key), text)
         }

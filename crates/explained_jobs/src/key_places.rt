@@ -1,4 +1,4 @@
-//! Where a key of a description stands in its text.
+//! The place of a description's key in its text.
 
 ghost use Rattle.std.specs.Prelude.{◌≡◌, ◌++◌, IfOk, OnOk, map, nat_eq, option_map, string_bytes};
 ghost use Rattle.std.specs.List.{starts_with};
@@ -7,21 +7,21 @@ ghost use Rattle.explained_jobs.specs.KeyPlaces as spec;
 use std::alloc::{AllocError, Global};
 use std::fmt::Write;
 
-/// The lines of a text.
+/// Returns the lines of a text.
 pub fn lines_of<'a>(alloc: Global, text: &'a str) -> Result<Vec<&'a str>, AllocError>
     ensures { IfOk result (λ lines. map (λ s. s.now) lines.items ≡ spec.lines_of text.entry.now) }
 {
     text.split('\n').collect(alloc)
 }
 
-/// A space or a tab.
+/// Returns a space or a tab.
 pub fn is_blank(byte: u8) -> bool
     ensures { result ≡ spec.is_blank byte }
 {
     byte == b' ' || byte == b'\t'
 }
 
-/// A line without the spaces and tabs before it.
+/// Returns a line without the spaces and tabs before it.
 #[tactic(auto, unfolding(crate::specs::KeyPlaces::unindented))]
 pub fn unindented(line: &[u8]) -> &[u8]
     ensures { result.now ≡ spec.unindented line.entry.now }
@@ -43,7 +43,7 @@ fn begins(line: &[u8], word: &[u8]) -> bool
     unindented(line).starts_with(word)
 }
 
-/// Whether a line begins with this key and an equals sign.
+/// Returns whether a line begins with this key and an equals sign.
 pub fn has_key(key: &[u8], line: &[u8]) -> bool
     ensures { result ≡ spec.has_key key.now line.now }
 {
@@ -98,14 +98,14 @@ fn key_row<'a>(
     None
 }
 
-/// The line of a key of the document, which stands before all heads.
+/// Returns the line of a key of the document, which is before all heads.
 pub fn top_row<'a>(key: &str, lines: &[&'a str]) -> Option<(usize, &'a str)>
     ensures { option_map (λ row. (row.0, row.1.now)) result ≡ spec.top_row key.now (map (λ s. s.now) lines.now) }
 {
     key_row(b"", key.as_bytes(), true, 0, lines)
 }
 
-/// The line of a key of the table of that number.
+/// Returns the line of a key of the table of that number.
 pub fn table_row<'a>(
     head: &str,
     item: usize,
@@ -139,7 +139,7 @@ fn column_of(line: &[u8]) -> u128
     line.len().saturating_sub(unindented(line).len()) as u128 + 1
 }
 
-/// Appends where a key stands, if it stands on a line of its own.
+/// Appends the place of a key, if it is on a line of its own.
 #[tactic(auto, unfolding(crate::specs::KeyPlaces::row_words))]
 pub fn write_row(row: Option<(usize, &str)>, text: &mut String) -> Result<(), AllocError>
     ensures { OnOk result (string_bytes text.new

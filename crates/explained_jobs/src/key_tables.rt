@@ -1,4 +1,4 @@
-//! The tables of a description in which keys stand.
+//! The tables of a description that hold keys.
 
 ghost use Rattle.std.specs.Prelude.{◌≡◌, ◌++◌, OnOk, map, option_map, string_bytes};
 ghost use Rattle.explained_jobs.specs.KeyTables as spec;
@@ -7,7 +7,7 @@ use crate::key_places::{table_row, top_row};
 use std::alloc::AllocError;
 use std::fmt::Write;
 
-/// A table of a description: the document itself, that of the network, or the one of a number in its array.
+/// A table of a description: the document itself, the network's table, or the table with a number in its array.
 #[derive(Clone, Copy)]
 pub enum KeyTable {
     Document,
@@ -33,7 +33,7 @@ fn head_of(table: KeyTable) -> &'static str
     }
 }
 
-/// The line of a key of a table.
+/// Returns the line of a key of a table.
 #[tactic(auto, unfolding(crate::specs::KeyTables::row_of))]
 pub fn row_of<'a>(table: KeyTable, key: &str, lines: &[&'a str]) -> Option<(usize, &'a str)>
     ensures { option_map (λ row. (row.0, row.1.now)) result

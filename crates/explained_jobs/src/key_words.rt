@@ -8,7 +8,7 @@ use description::{EventKey, NetworkKey, ProgramKey, StreamKey, TableKey, TopKey}
 /// The name of a key, and the values that it may have.
 pub type KeyWords = (&'static str, &'static str);
 
-/// Those of a key of the document.
+/// Returns the words of a key of the document.
 #[tactic(auto, unfolding(crate::specs::KeyWords::top_words))]
 pub fn top_words(key: TopKey) -> KeyWords
     ensures { (result.0.now, result.1.now) ≡ spec.top_words key }
@@ -27,7 +27,7 @@ pub fn top_words(key: TopKey) -> KeyWords
     }
 }
 
-/// Those of a key of the network.
+/// Returns the words of a key of the network.
 #[tactic(auto, unfolding(crate::specs::KeyWords::network_words))]
 pub fn network_words(key: NetworkKey) -> KeyWords
     ensures { (result.0.now, result.1.now) ≡ spec.network_words key }
@@ -39,7 +39,7 @@ pub fn network_words(key: NetworkKey) -> KeyWords
     }
 }
 
-/// Those of a key of a program.
+/// Returns the words of a key of a program.
 #[tactic(auto, unfolding(crate::specs::KeyWords::program_words))]
 pub fn program_words(key: ProgramKey) -> KeyWords
     ensures { (result.0.now, result.1.now) ≡ spec.program_words key }
@@ -56,7 +56,7 @@ pub fn program_words(key: ProgramKey) -> KeyWords
     }
 }
 
-/// Those of a key of a stream.
+/// Returns the words of a key of a stream.
 #[tactic(auto, unfolding(crate::specs::KeyWords::stream_words))]
 pub fn stream_words(key: StreamKey) -> KeyWords
     ensures { (result.0.now, result.1.now) ≡ spec.stream_words key }
@@ -86,7 +86,7 @@ pub fn stream_words(key: StreamKey) -> KeyWords
         ),
         StreamKey::GroupPackets => (
             "group_packets",
-            "the packets of one greatest unit to group times so many, and not beside burst_packets or pace",
+            "the packets of one greatest unit to group times that number, and not beside burst_packets or pace",
         ),
         StreamKey::BurstPackets => (
             "burst_packets",
@@ -99,10 +99,19 @@ pub fn stream_words(key: StreamKey) -> KeyWords
         ),
         StreamKey::Rbx => ("rbx", "64000 to rx, in bits a second, beside mb"),
         StreamKey::Mb => ("mb", "1 to 10000000 bytes, beside rbx"),
+        StreamKey::Frames => (
+            "frames",
+            "1 to 64 access units, beside frame and frame_size",
+        ),
+        StreamKey::Frame => (
+            "frame",
+            "1 to interval / (frames - 1) units of 90 kHz, beside frames and frame_size",
+        ),
+        StreamKey::FrameSize => ("frame_size", "1 to size bytes, beside frames and frame"),
     }
 }
 
-/// Those of a key of an event.
+/// Returns the words of a key of an event.
 #[tactic(auto, unfolding(crate::specs::KeyWords::event_words))]
 pub fn event_words(key: EventKey) -> KeyWords
     ensures { (result.0.now, result.1.now) ≡ spec.event_words key }
@@ -121,7 +130,7 @@ pub fn event_words(key: EventKey) -> KeyWords
     }
 }
 
-/// Those of a key of a private table.
+/// Returns the words of a key of a private table.
 #[tactic(auto, unfolding(crate::specs::KeyWords::table_words))]
 pub fn table_words(key: TableKey) -> KeyWords
     ensures { (result.0.now, result.1.now) ≡ spec.table_words key }

@@ -1,8 +1,8 @@
-//! What is wrong with a description, or with a plan after it, in words.
+//! The faults of a description, or of a plan after it, in words.
 //!
 //! `explaining` says the first of these (`specs/Explained`): why the description is refused, by `fault_lines`, with the names of
-//! keys and the values that they may have (`key_words`), their tables (`key_tables`), where a key stands in the text (`key_places`)
-//! and on which lines equal values stand (`equal_keys`); the conditions that the plan does not keep; without a plan the numbers of
+//! keys and the values that they may have (`key_words`), their tables (`key_tables`), the place of a key in the text (`key_places`)
+//! and the lines of equal values (`equal_keys`); the conditions that the plan does not keep; without a plan the numbers of
 //! the description that no plan can keep.
 #![tactic(auto)]
 

@@ -7,6 +7,7 @@ use Rattle.std.specs.Ordering.{nat_cmp, is_lt}
 use Rattle.std.specs.Cmp.Lexicographic.{slice_cmp}
 use Rattle.unit_timing.specs.declared.allowance.Allowance.{Allowance}
 use Rattle.unit_timing.specs.declared.allowance.Allowance.TheVariants.{Groups, Pace}
+use Rattle.unit_timing.specs.declared.framing.Framing.{Framing}
 use Rattle.unit_timing.specs.declared.multiplexing_buffer.MultiplexingBuffer.{MultiplexingBuffer}
 use Rattle.hex.specs.Hex.{encode_lower}
 use Rattle.toml_writer.specs.Text.{key_text}
@@ -17,10 +18,10 @@ use Rattle.toml.proofs.Lines.{IsLinesText-append, after}
 use Rattle.toml.proofs.ReadBack.{parse_document-printed}
 use Rattle.job_text.specs.DescriptionParts.{EventPartView, HeadingView, NetworkPartView, ProgramPartView, StreamPartView, TablePartView}
 use Rattle.job_text.specs.KeyLines.{with_numbers, with_hex, with_list, hex_line, list_line, key_line, number_lines}
-use Rattle.job_text.specs.Fields.{program_numbers, burst_numbers, group_numbers, time_numbers, size_numbers, pace_numbers, place_numbers, leak_numbers, drain_numbers, last_numbers}
-use Rattle.job_text.specs.Documents.{document, elements_of, with_table, with_tables, event_table, network_table, program_table, stream_last, stream_place, stream_rest, stream_members, stream_table, table_table}
+use Rattle.job_text.specs.Fields.{program_numbers, burst_numbers, frame_numbers, group_numbers, time_numbers, size_numbers, pace_numbers, place_numbers, leak_numbers, drain_numbers, last_numbers}
+use Rattle.job_text.specs.Documents.{document, elements_of, with_table, with_tables, event_table, network_table, program_table, stream_last, stream_place, stream_middle, stream_rest, stream_members, stream_table, table_table}
 use Rattle.job_text.specs.Texts.{event_text, heading_text, network_text, network_if_any, program_text, stream_text, table_text}
-use Rattle.job_text.specs.Laws.{Fits, FitsEvent, FitsHeading, FitsNetwork, FitsProgram, FitsAllowance, FitsMultiplexing, FitsStream, FitsTable, TextsAreRead}
+use Rattle.job_text.specs.Laws.{Fits, FitsEvent, FitsHeading, FitsNetwork, FitsProgram, FitsAllowance, FitsMultiplexing, FitsFraming, FitsStream, FitsTable, TextsAreRead}
 use Rattle.job_text.proofs.FlatArrays.{list_none, list_some, numbers_are, numbers_sorted, digits_are, digits_sorted}
 use Rattle.job_text.proofs.Scalars.{AreScalars, IsScalar, scalar_lines, lines_are_text}
 use Rattle.job_text.proofs.TableArrays.{AreTables, element_lines, elements_are_text, pairs_past, sections_with, shallow, dated_past, sorted_past, before_tables}
@@ -170,55 +171,90 @@ unfolding key_text
 size_scalars a None s f g h = pace_scalars a None s f g h
 size_scalars a (Some m) s f g h = (refl, small m.size g.1, pace_scalars a (Some m) s f g h)
 
-scalars_with : (a : Allowance) (m : Option MultiplexingBuffer) (s : StreamPartView) → FitsAllowance a → FitsMultiplexing m → FitsStream s
-    → AreScalars (stream_members a m s)
+middle_scalars : (a : Allowance) (m : Option MultiplexingBuffer) (s : StreamPartView) → FitsAllowance a → FitsMultiplexing m → FitsStream s
+    → AreScalars (stream_middle a m s)
 unfolding key_text
-scalars_with (Groups units packets) m s f g h =
+middle_scalars (Groups units packets) m s f g h =
     let rest = size_scalars (Groups units packets) m s f g h in
-    hex_scalars s.descriptors (stream_rest (Groups units packets) m s)
     (refl, small units f.0, (refl, small packets f.1, (refl, small s.stream_id h.stream_id, (refl, small s.interval h.interval, (refl, small s.lead h.lead, (refl, small s.main h.main, rest))))))
-scalars_with (Pace burst pace) m s f g h =
-    let rest = size_scalars (Pace burst pace) m s f g h in (
-      refl,
-      small burst f.0,
-      hex_scalars s.descriptors (stream_rest (Pace burst pace) m s)
-          (refl, small s.stream_id h.stream_id, (refl, small s.interval h.interval, (refl, small s.lead h.lead, (refl, small s.main h.main, rest)))),
-    )
+middle_scalars (Pace burst pace) m s f g h =
+    let rest = size_scalars (Pace burst pace) m s f g h in
+    (refl, small s.stream_id h.stream_id, (refl, small s.interval h.interval, (refl, small s.lead h.lead, (refl, small s.main h.main, rest))))
 
-rest_sorted : (a : Allowance) (m : Option MultiplexingBuffer) (s : StreamPartView) → members_are_sorted (stream_rest a m s) ≡ true
-rest_sorted (Groups units packets) None s =
+rest_scalars : (a : Allowance) (m : Option MultiplexingBuffer) (p : Option Framing) (s : StreamPartView) → FitsAllowance a → FitsMultiplexing m
+    → FitsFraming p → FitsStream s → AreScalars (stream_rest a m p s)
+unfolding key_text
+rest_scalars a m None s f g e h = middle_scalars a m s f g h
+rest_scalars a m (Some p) s f g e h =
+    (refl, small p.frame e.frame, (refl, small p.frame_size e.frame_size, (refl, small p.frames e.frames, middle_scalars a m s f g h)))
+
+scalars_with : (a : Allowance) (m : Option MultiplexingBuffer) (p : Option Framing) (s : StreamPartView) → FitsAllowance a → FitsMultiplexing m
+    → FitsFraming p → FitsStream s → AreScalars (stream_members a m p s)
+unfolding key_text
+scalars_with (Groups units packets) m p s f g e h =
+    hex_scalars s.descriptors (stream_rest (Groups units packets) m p s) (rest_scalars (Groups units packets) m p s f g e h)
+scalars_with (Pace burst pace) m p s f g e h =
+    (refl, small burst f.0, hex_scalars s.descriptors (stream_rest (Pace burst pace) m p s) (rest_scalars (Pace burst pace) m p s f g e h))
+
+middle_sorted : (a : Allowance) (m : Option MultiplexingBuffer) (s : StreamPartView) → members_are_sorted (stream_middle a m s) ≡ true
+middle_sorted (Groups units packets) None s =
     rw (list_after (codes "rx") s.shared_with (stream_last s) refl refl, list_sorted s.shared_with (stream_last s) refl refl)
-rest_sorted (Groups units packets) (Some m) s =
+middle_sorted (Groups units packets) (Some m) s =
     rw (list_after (codes "rx") s.shared_with (stream_last s) refl refl, list_sorted s.shared_with (stream_last s) refl refl)
-rest_sorted (Pace burst pace) None s =
+middle_sorted (Pace burst pace) None s =
     rw (list_after (codes "rx") s.shared_with (stream_last s) refl refl, list_sorted s.shared_with (stream_last s) refl refl)
-rest_sorted (Pace burst pace) (Some m) s =
+middle_sorted (Pace burst pace) (Some m) s =
     rw (list_after (codes "rx") s.shared_with (stream_last s) refl refl, list_sorted s.shared_with (stream_last s) refl refl)
 
-sorted_with : (a : Allowance) (m : Option MultiplexingBuffer) (s : StreamPartView) → members_are_sorted (stream_members a m s) ≡ true
-sorted_with (Groups units packets) m s = hex_sorted s.descriptors (stream_rest (Groups units packets) m s) refl (rest_sorted (Groups units packets) m s)
-sorted_with (Pace burst pace) m s =
+rest_sorted : (a : Allowance) (m : Option MultiplexingBuffer) (p : Option Framing) (s : StreamPartView) → members_are_sorted (stream_rest a m p s) ≡ true
+rest_sorted a m None s = middle_sorted a m s
+rest_sorted (Groups units packets) m (Some p) s = middle_sorted (Groups units packets) m s
+rest_sorted (Pace burst pace) m (Some p) s = middle_sorted (Pace burst pace) m s
+
+after_descriptors : (a : Allowance) (m : Option MultiplexingBuffer) (p : Option Framing) (s : StreamPartView) → is_before (codes "descriptors") (stream_rest a m p s) ≡ true
+after_descriptors a m (Some p) s = refl
+after_descriptors (Groups units packets) m None s = refl
+after_descriptors (Pace burst pace) m None s = refl
+
+after_burst : (a : Allowance) (m : Option MultiplexingBuffer) (p : Option Framing) (s : StreamPartView) → is_before (codes "burst_packets") (stream_rest a m p s) ≡ true
+after_burst a m (Some p) s = refl
+after_burst (Groups units packets) m None s = refl
+after_burst (Pace burst pace) m None s = refl
+
+sorted_with : (a : Allowance) (m : Option MultiplexingBuffer) (p : Option Framing) (s : StreamPartView) → members_are_sorted (stream_members a m p s) ≡ true
+sorted_with (Groups units packets) m p s =
+    hex_sorted s.descriptors (stream_rest (Groups units packets) m p s) (after_descriptors (Groups units packets) m p s) (rest_sorted (Groups units packets) m p s)
+sorted_with (Pace burst pace) m p s =
     rw (
-      hex_after (codes "burst_packets") s.descriptors (stream_rest (Pace burst pace) m s) refl refl,
-      hex_sorted s.descriptors (stream_rest (Pace burst pace) m s) refl (rest_sorted (Pace burst pace) m s),
+      hex_after (codes "burst_packets") s.descriptors (stream_rest (Pace burst pace) m p s) refl (after_burst (Pace burst pace) m p s),
+      hex_sorted s.descriptors (stream_rest (Pace burst pace) m p s) (after_descriptors (Pace burst pace) m p s) (rest_sorted (Pace burst pace) m p s),
     )
 
-lines_with : (a : Allowance) (m : Option MultiplexingBuffer) (s : StreamPartView) → scalar_lines (stream_members a m s)
-    ≡ number_lines (burst_numbers a) ++ (hex_line (codes "descriptors") s.descriptors
-    ++ (number_lines (group_numbers a) ++ (number_lines (time_numbers s) ++ (number_lines (size_numbers m) ++ (number_lines (pace_numbers a)
+-- the lines after its access units, and all
+middle_lines : (a : Allowance) (m : Option MultiplexingBuffer) (s : StreamPartView) → scalar_lines (stream_middle a m s)
+    ≡ number_lines (group_numbers a) ++ (number_lines (time_numbers s) ++ (number_lines (size_numbers m) ++ (number_lines (pace_numbers a)
     ++ (number_lines (place_numbers s) ++ (number_lines (leak_numbers m) ++ (number_lines (drain_numbers s)
-    ++ (list_line (codes "shared_with") s.shared_with ++ number_lines (last_numbers s))))))))))
-lines_with (Groups units packets) None s =
-    rw (hex_lines s.descriptors (stream_rest (Groups units packets) None s), list_lines s.shared_with (stream_last s)) (simp (append_assoc, append-nil))
-lines_with (Groups units packets) (Some m) s =
-    rw (hex_lines s.descriptors (stream_rest (Groups units packets) (Some m) s), list_lines s.shared_with (stream_last s)) (simp (append_assoc, append-nil))
-lines_with (Pace burst pace) None s =
-    rw (hex_lines s.descriptors (stream_rest (Pace burst pace) None s), list_lines s.shared_with (stream_last s)) (simp (append_assoc, append-nil))
-lines_with (Pace burst pace) (Some m) s =
-    rw (hex_lines s.descriptors (stream_rest (Pace burst pace) (Some m) s), list_lines s.shared_with (stream_last s)) (simp (append_assoc, append-nil))
+    ++ (list_line (codes "shared_with") s.shared_with ++ number_lines (last_numbers s))))))))
+middle_lines (Groups units packets) None s = rw (list_lines s.shared_with (stream_last s)) (simp (append_assoc, append-nil))
+middle_lines (Groups units packets) (Some m) s = rw (list_lines s.shared_with (stream_last s)) (simp (append_assoc, append-nil))
+middle_lines (Pace burst pace) None s = rw (list_lines s.shared_with (stream_last s)) (simp (append_assoc, append-nil))
+middle_lines (Pace burst pace) (Some m) s = rw (list_lines s.shared_with (stream_last s)) (simp (append_assoc, append-nil))
+
+rest_lines : (a : Allowance) (m : Option MultiplexingBuffer) (p : Option Framing) (s : StreamPartView)
+    → scalar_lines (stream_rest a m p s) ≡ number_lines (frame_numbers p) ++ scalar_lines (stream_middle a m s)
+rest_lines a m None s = refl
+rest_lines a m (Some p) s = simp (append_assoc, append-nil)
+
+lines_with : (a : Allowance) (m : Option MultiplexingBuffer) (p : Option Framing) (s : StreamPartView) → scalar_lines (stream_members a m p s)
+    ≡ number_lines (burst_numbers a) ++ (hex_line (codes "descriptors") s.descriptors
+    ++ (number_lines (frame_numbers p) ++ scalar_lines (stream_middle a m s)))
+lines_with (Groups units packets) m p s =
+    rw (hex_lines s.descriptors (stream_rest (Groups units packets) m p s), rest_lines (Groups units packets) m p s) refl
+lines_with (Pace burst pace) m p s =
+    rw (hex_lines s.descriptors (stream_rest (Pace burst pace) m p s), rest_lines (Pace burst pace) m p s) (simp (append_assoc, append-nil))
 
 stream_lines : (s : StreamPartView) → element_lines (codes "stream") (stream_table s) ≡ stream_text s
-stream_lines s = rw (lines_with s.allowance s.multiplexing s) (simp append_assoc)
+stream_lines s = rw (lines_with s.allowance s.multiplexing s.framing s, middle_lines s.allowance s.multiplexing s) (simp append_assoc)
 
 -- a private table
 table_scalars : (t : TablePartView) → FitsTable t → AreScalars (table_table t)
@@ -248,8 +284,8 @@ stream_tables : (ss : List StreamPartView) → All FitsStream ss → AreTables (
 stream_tables [] h = tt
 stream_tables (s ∷ ss) h =
     let e = each FitsStream s ss h in
-    let scalars = scalars_with s.allowance s.multiplexing s e.0.allowance e.0.multiplexing e.0 in
-    (scalars, sorted_with s.allowance s.multiplexing s, stream_tables ss e.1)
+    let scalars = scalars_with s.allowance s.multiplexing s.framing s e.0.allowance e.0.multiplexing e.0.framing e.0 in
+    (scalars, sorted_with s.allowance s.multiplexing s.framing s, stream_tables ss e.1)
 
 events_lines : (es : List EventPartView) → flat_map (element_lines (codes "event")) (map event_table es) ≡ flat_map event_text es
 events_lines [] = refl

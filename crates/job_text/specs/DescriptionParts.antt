@@ -1,6 +1,7 @@
 -- The parts of a service description: numbers, and texts and descriptors as lists.
 use Rattle.std.specs.Prelude.{ℕ, Bool, List, Option, map}
 use Rattle.unit_timing.specs.declared.allowance.Allowance.{Allowance}
+use Rattle.unit_timing.specs.declared.framing.Framing.{Framing}
 use Rattle.unit_timing.specs.declared.multiplexing_buffer.MultiplexingBuffer.{MultiplexingBuffer}
 use Rattle.job_text.specs.declared.event_part.EventPart.{EventPart}
 use Rattle.job_text.specs.declared.heading.Heading.{Heading}
@@ -56,6 +57,7 @@ pub record StreamPartView : Type 0 where
   pub allowance : Allowance
   pub shared_with : List ℕ
   pub multiplexing : Option MultiplexingBuffer
+  pub framing : Option Framing
 
 pub record TablePartView : Type 0 where
   pub pid : ℕ
@@ -118,6 +120,7 @@ stream_view s = record {
   allowance = s.allowance;
   shared_with = s.shared_with.now;
   multiplexing = s.multiplexing;
+  framing = s.framing;
 }
 
 abbrev pub table_view : TablePart → TablePartView

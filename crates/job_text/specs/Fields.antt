@@ -2,6 +2,7 @@
 use Rattle.std.specs.Prelude.{ℕ, List, [], ◌∷◌, Option, None, Some, codes}
 use Rattle.unit_timing.specs.declared.allowance.Allowance.{Allowance}
 use Rattle.unit_timing.specs.declared.allowance.Allowance.TheVariants.{Groups, Pace}
+use Rattle.unit_timing.specs.declared.framing.Framing.{Framing}
 use Rattle.unit_timing.specs.declared.multiplexing_buffer.MultiplexingBuffer.{MultiplexingBuffer}
 use Rattle.job_text.specs.DescriptionParts.{HeadingView, ProgramPartView, StreamPartView, TablePartView}
 
@@ -22,7 +23,12 @@ abbrev pub burst_numbers : Allowance → List (List ℕ × ℕ)
 burst_numbers (Groups units packets) = []
 burst_numbers (Pace burst pace) = (codes "burst_packets", burst) ∷ []
 
--- after them: those of groups
+-- after them: its access units
+abbrev pub frame_numbers : Option Framing → List (List ℕ × ℕ)
+frame_numbers None = []
+frame_numbers (Some f) = (codes "frame", f.frame) ∷ (codes "frame_size", f.frame_size) ∷ (codes "frames", f.frames) ∷ []
+
+-- those of groups
 abbrev pub group_numbers : Allowance → List (List ℕ × ℕ)
 group_numbers (Groups units packets) = (codes "group", units) ∷ (codes "group_packets", packets) ∷ []
 group_numbers (Pace burst pace) = []

@@ -4,6 +4,7 @@ use Rattle.std.specs.List.{flat_map}
 use Rattle.toml.specs.Parse.{parse_document}
 use Rattle.unit_timing.specs.declared.allowance.Allowance.{Allowance}
 use Rattle.unit_timing.specs.declared.allowance.Allowance.TheVariants.{Groups, Pace}
+use Rattle.unit_timing.specs.declared.framing.Framing.{Framing}
 use Rattle.unit_timing.specs.declared.multiplexing_buffer.MultiplexingBuffer.{MultiplexingBuffer}
 use Rattle.job_text.specs.DescriptionParts.{EventPartView, HeadingView, NetworkPartView, ProgramPartView, StreamPartView, TablePartView}
 use Rattle.job_text.specs.Documents.{document, event_table, network_table, program_table, stream_table, table_table}
@@ -47,10 +48,20 @@ FitsAllowance (Pace burst pace) = Fits burst × Fits pace
 abbrev pub FitsMultiplexing : Option MultiplexingBuffer → Type 0
 FitsMultiplexing m = IfSome m (λ m. Fits m.rbx × Fits m.size)
 
+-- of its access units
+pub record FitsFrames (f : Framing) : Type 0 where
+  pub frames : Fits f.frames
+  pub frame : Fits f.frame
+  pub frame_size : Fits f.frame_size
+
+abbrev pub FitsFraming : Option Framing → Type 0
+FitsFraming f = IfSome f FitsFrames
+
 pub record FitsStream (s : StreamPartView) : Type 0 where
   pub allowance : FitsAllowance s.allowance
   pub shared_with : All Fits s.shared_with
   pub multiplexing : FitsMultiplexing s.multiplexing
+  pub framing : FitsFraming s.framing
   pub stream_id : Fits s.stream_id
   pub interval : Fits s.interval
   pub lead : Fits s.lead

@@ -2,7 +2,7 @@
 //!
 //! `Heading`, `EventPart`, `NetworkPart`, `ProgramPart`, `StreamPart` and `TablePart` are the parts of a description; each appends its
 //! lines. The heading comes first, then the events, the network if there is one, the programs, the streams and the private tables.
-//! `specs/Documents` says which keys with which values a part has, `specs/Texts` how they are written, and the law
+//! `specs/Documents` says which keys and values a part has, `specs/Texts` how they are written, and the law
 //! `texts_are_read` that TOML's grammar reads the whole as that document.
 #![tactic(auto)]
 

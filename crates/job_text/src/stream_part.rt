@@ -1,14 +1,16 @@
 //! An elementary stream of a service description.
 
-ghost use Rattle.std.specs.Prelude.{◌≡◌, ◌++◌, OnOk, string_bytes};
+ghost use Rattle.std.specs.Prelude.{◌≡◌, ◌++◌, OnOk, codes, string_bytes};
 ghost use Rattle.job_text.specs.DescriptionParts.{stream_view};
-ghost use Rattle.job_text.specs.Fields.{burst_numbers, group_numbers, size_numbers, pace_numbers, leak_numbers};
-ghost use Rattle.job_text.specs.KeyLines.{number_lines};
+ghost use Rattle.job_text.specs.Fields.{burst_numbers, frame_numbers, group_numbers};
+ghost use Rattle.job_text.specs.Fields.{size_numbers, pace_numbers, leak_numbers};
+ghost use Rattle.job_text.specs.KeyLines.{hex_line, number_lines};
 ghost use Rattle.job_text.specs.Texts.{stream_text, stream_front, stream_times, stream_place, stream_end};
 
 use crate::key_line::{write_header, write_hex, write_list, write_number, write_numbers};
 use std::alloc::{AllocError, Allocator};
 use unit_timing::allowance::Allowance;
+use unit_timing::framing::Framing;
 use unit_timing::multiplexing_buffer::MultiplexingBuffer;
 
 /// What a description says of an elementary stream and its units (ISO/IEC 13818-1, 2.4.2 and 2.4.4.8). It has no
@@ -39,12 +41,14 @@ pub struct StreamPart<'a> {
     pub shared_with: &'a [u16],
     /// Its multiplexing buffer, if it has one.
     pub multiplexing: Option<MultiplexingBuffer>,
+    /// The access units of its units, if these are PES packets that hold several.
+    pub framing: Option<Framing>,
 }
 
 impl StreamPart<'_> {
     /// Appends an empty line, `[[stream]]`, and its lines: every key, but `descriptors` and `shared_with` only if there
-    /// are any, `rbx` and `mb` only if it has a multiplexing buffer, and of the keys of its packets those by groups or
-    /// those by pace.
+    /// are any, `rbx` and `mb` only if it has a multiplexing buffer, `frames`, `frame` and `frame_size` only if it has a
+    /// framing, and the keys of its packets by groups or by pace.
     pub fn write_text<A: Allocator + Clone>(&self, text: &mut String<A>) -> Result<(), AllocError>
         ensures { OnOk result (string_bytes text.new ≡ string_bytes text.old ++ stream_text (stream_view self.now)) }
     {
@@ -68,6 +72,24 @@ impl StreamPart<'_> {
         }
     }
 
+    // The lines of its access units, if it has a framing.
+    fn write_frames<A: Allocator>(&self, text: &mut String<A>) -> Result<(), AllocError>
+        ensures { OnOk result (string_bytes text.new ≡ string_bytes text.old
+            ++ number_lines (frame_numbers self.now.framing)) }
+    {
+        match self.framing {
+            None => Ok(()),
+            Some(framing) => {
+                let numbers = [
+                    ("frame", framing.frame as u64),
+                    ("frame_size", framing.frame_size as u64),
+                    ("frames", framing.frames as u64),
+                ];
+                write_numbers(text, &numbers)
+            }
+        }
+    }
+
     // The lines of its groups, if it is declared by groups.
     fn write_groups<A: Allocator>(&self, text: &mut String<A>) -> Result<(), AllocError>
         ensures { OnOk result (string_bytes text.new ≡ string_bytes text.old
@@ -82,14 +104,24 @@ impl StreamPart<'_> {
         }
     }
 
-    // The lines up to its group, or up to its descriptors.
+    // Writes the lines of its descriptors, its access units and its groups, those that it has.
+    fn write_units<A: Allocator + Clone>(&self, text: &mut String<A>) -> Result<(), AllocError>
+        ensures { OnOk result (string_bytes text.new ≡ string_bytes text.old
+            ++ (hex_line (codes "descriptors") self.now.descriptors.now
+            ++ (number_lines (frame_numbers self.now.framing) ++ number_lines (group_numbers self.now.allowance)))) }
+    {
+        write_hex(text, "descriptors", self.descriptors)?;
+        self.write_frames(text)?;
+        self.write_groups(text)
+    }
+
+    // Writes the lines up to its group, or up to its access units.
     fn write_front<A: Allocator + Clone>(&self, text: &mut String<A>) -> Result<(), AllocError>
         ensures { OnOk result (string_bytes text.new ≡ string_bytes text.old ++ stream_front (stream_view self.now)) }
     {
         write_header(text, "stream")?;
         self.write_burst(text)?;
-        write_hex(text, "descriptors", self.descriptors)?;
-        self.write_groups(text)
+        self.write_units(text)
     }
 
     // The line of its pace, if it is declared by pace.

@@ -2,8 +2,8 @@
 //! tables of a program.
 //!
 //! A plan is a period of slots, repeated for all time; for one item it is a list of marks, or any function
-//! `own : ℕ → Bool` of the slot number. The definitions stand in `specs/`. Each function here is a law: it does
-//! nothing, and its contract says what holds of the definitions. A crate above calls it where it needs the fact.
+//! `own : ℕ → Bool` of the slot number. The definitions are in `specs/`. Each function here is a law: it does
+//! nothing, and its contract states a fact about the definitions. A crate above calls it where it needs the fact.
 //!
 //! - [`positions`]: the slot of each own slot number.
 //! - [`parts`]: a part of an item's own slots.

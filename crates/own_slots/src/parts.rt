@@ -2,7 +2,7 @@
 
 ghost use Rattle.own_slots.specs.Parts.{PartLaw};
 
-/// Where each slot of a part is one of the item's own, the slots of the part rise through the item's own slots.
+/// States that the slots of a part rise through the item's own slots, if each of them is the item's own.
 pub fn part_rises()
     ensures { PartLaw }
 {}

@@ -1,5 +1,6 @@
 pub mod Refusals
 pub mod Served
 pub mod SwitchShares
+pub mod SentBytes
 pub mod Followed
 pub mod Failing

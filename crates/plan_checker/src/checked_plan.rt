@@ -7,7 +7,7 @@ use slot_plan::{Description, Plan};
 use std::alloc::{Allocator, Global};
 use std::marker::Model;
 
-/// A description and a plan that serves it: every condition holds of the two.
+/// A description and a plan that serves it: the two keep every condition.
 #[derive(Drop)]
 pub struct CheckedPlan<A: Allocator = Global> {
     pub(crate) description: Description,
@@ -26,7 +26,7 @@ impl<A: Allocator> Model for CheckedPlan<A> {
 }
 
 impl<A: Allocator> CheckedPlan<A> {
-    /// What the plan serves.
+    /// Returns what the plan serves.
     pub fn description(&self) -> &Description
         ensures description { result.now ≡ self.now.description }
         ensures serving { IsServing self.now.description self.now.plan }
@@ -34,7 +34,7 @@ impl<A: Allocator> CheckedPlan<A> {
         &self.description
     }
 
-    /// The plan that serves it.
+    /// Returns the plan that serves it.
     pub fn plan(&self) -> &Plan<A>
         ensures plan { result.now ≡ self.now.plan }
         ensures serving { IsServing self.now.description self.now.plan }

@@ -1,4 +1,4 @@
-//! Two plans, the second of which may follow the first.
+//! Two plans. The second may follow the first.
 
 ghost use Rattle.std.specs.Prelude.{◌≡◌};
 ghost use Rattle.slot_plan.specs.SwitchConditions.{IsSwitchable};
@@ -28,7 +28,7 @@ impl<A: Allocator> Model for CheckedSwitch<A> {
 }
 
 impl<A: Allocator> CheckedSwitch<A> {
-    /// The first plan, with the description that both serve.
+    /// Returns the first plan, with the description that both serve.
     pub fn first(&self) -> &CheckedPlan<A>
         ensures first { result.now ≡ self.now.first }
         ensures switchable { IsSwitchable self.now.first.description self.now.first.plan self.now.second }
@@ -36,7 +36,7 @@ impl<A: Allocator> CheckedSwitch<A> {
         &self.first
     }
 
-    /// The plan that may follow it.
+    /// Returns the plan that may follow it.
     pub fn second(&self) -> &Plan<A>
         ensures second { result.now ≡ self.now.second }
         ensures switchable { IsSwitchable self.now.first.description self.now.first.plan self.now.second }

@@ -30,7 +30,7 @@ fn search_conditions<A: Allocator>(
     }
 }
 
-/// The condition of a number, from 0, among those that a plan for a description does not keep.
+/// Returns the condition of a number, from 0, among those that a plan for a description does not keep.
 fn failing_condition<A: Allocator>(
     description: &Description,
     plan: &Plan<A>,
@@ -43,15 +43,15 @@ fn failing_condition<A: Allocator>(
     search.found
 }
 
-/// The first condition that a plan for a description does not keep.
+/// Returns the first condition that a plan for a description does not keep.
 pub fn first_failing<A: Allocator>(description: &Description, plan: &Plan<A>) -> Option<Refusal>
     ensures { option_map entry_of result ≡ first_failing (entries description.now plan.now) }
 {
     failing_condition(description, plan, 0)
 }
 
-/// Each condition that a plan for a description does not keep, in their order: the first is that by which [`check`]
-/// refuses it. Each is found by a walk of its own over the plan.
+/// Returns each condition that a plan for a description does not keep, in their order: [`check`] refuses the plan with
+/// the first. Each has a walk of its own over the plan.
 pub fn failing<A: Allocator>(
     alloc: A,
     description: &Description,
@@ -68,9 +68,9 @@ pub fn failing<A: Allocator>(
     Ok(found)
 }
 
-/// The plan as one that serves the description, where it keeps every condition. Else the first that it does not keep,
-/// by its number, then its item and part (of the shape: by part, then item), with its two numbers; and both are handed
-/// back.
+/// Returns the plan as a checked plan, if it keeps every condition. Otherwise returns the first condition that it does
+/// not keep, by its number, then its item and part (of the shape: by part, then item), with its two numbers, and hands
+/// both back.
 pub fn check<A: Allocator>(
     description: Description,
     plan: Plan<A>,

@@ -7,7 +7,7 @@ ghost use Rattle.slot_plan.specs.Planned.{is_small_multiplexing};
 use slot_plan::{MultiplexingEntry, Plan, ProgramEntry, StreamEntry};
 use std::alloc::Allocator;
 
-/// The claim of stream number `i`.
+/// Returns the claim of stream number `i`.
 pub fn claim_of_stream<A: Allocator>(plan: &Plan<A>, i: usize) -> StreamEntry
     requires { i < length plan.now.certificate.streams }
     ensures claim { result ≡ stream_claim plan.now i }
@@ -19,7 +19,7 @@ pub fn claim_of_stream<A: Allocator>(plan: &Plan<A>, i: usize) -> StreamEntry
     plan.certificate().streams[i]
 }
 
-/// The claim of program number `i`.
+/// Returns the claim of program number `i`.
 pub fn claim_of_program<A: Allocator>(plan: &Plan<A>, i: usize) -> ProgramEntry
     requires { i < length plan.now.certificate.programs }
     ensures claim { result ≡ program_claim plan.now i }
@@ -29,7 +29,7 @@ pub fn claim_of_program<A: Allocator>(plan: &Plan<A>, i: usize) -> ProgramEntry
     plan.certificate().programs[i]
 }
 
-/// A claim on a multiplexing buffer; no claim is one of no work.
+/// Returns a claim on a multiplexing buffer; no claim is one of no work.
 fn claimed_multiplexing(claim: Option<MultiplexingEntry>) -> MultiplexingEntry
     requires { is_small_multiplexing claim ≡ true }
     ensures claim { result ≡ claimed_multiplexing claim }
@@ -42,7 +42,7 @@ fn claimed_multiplexing(claim: Option<MultiplexingEntry>) -> MultiplexingEntry
     }
 }
 
-/// The claim on the multiplexing buffer of stream number `i`.
+/// Returns the claim on the multiplexing buffer of stream number `i`.
 pub fn claim_of_multiplexing<A: Allocator>(plan: &Plan<A>, i: usize) -> MultiplexingEntry
     requires { i < length plan.now.certificate.streams }
     ensures claim { result ≡ multiplexing_claim plan.now i }

@@ -8,7 +8,7 @@ use crate::failure_search::FailureSearch;
 use crate::refusal::Refusal;
 use slot_plan::{Condition, Relation};
 
-/// A condition that holds where `left` is at most `right`.
+/// Returns a condition that holds if `left` is at most `right`.
 pub fn at_most(
     condition: Condition,
     part: u8,
@@ -31,7 +31,7 @@ pub fn at_most(
     }
 }
 
-/// A condition that holds where the two numbers are equal.
+/// Returns a condition that holds if the two numbers are equal.
 pub fn equal_counts(
     condition: Condition,
     part: u8,

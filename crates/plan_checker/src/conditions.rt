@@ -15,7 +15,7 @@ pub trait ItemCondition<P> {
 
     ghost entries: { P → ℕ → Self.Item → List Entry };
 
-    /// The number of items.
+    /// Returns the number of items.
     fn count(plans: &P) -> usize
         ensures { result ≡ length (items plans.now) };
 

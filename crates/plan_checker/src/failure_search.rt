@@ -6,7 +6,7 @@ ghost use Rattle.plan_checker.specs.Refusals.{entry_of};
 
 use crate::refusal::Refusal;
 
-/// A search for the condition of a number, from 0, among those that fail.
+/// A search for the condition of a number, from 0, among the failing conditions.
 #[derive(Drop)]
 pub struct FailureSearch {
     /// How many have still to fail before it.
@@ -15,7 +15,7 @@ pub struct FailureSearch {
 }
 
 impl FailureSearch {
-    /// The search for the one of that number.
+    /// Returns the search for the failing condition of that number.
     pub fn new(number: usize) -> FailureSearch
         ensures { search_of result ≡ start number }
     {
@@ -25,14 +25,14 @@ impl FailureSearch {
         }
     }
 
-    /// Whether it is found.
+    /// Returns whether it is found.
     pub fn is_done(&self) -> bool
         ensures { result ≡ is_some self.now.found }
     {
         self.found.is_some()
     }
 
-    /// One more that fails.
+    /// Passes one more failing condition.
     pub fn pass(&mut self, refusal: Refusal)
         ensures { search_of self.new ≡ after_failure (search_of self.old) (entry_of refusal) }
     {

@@ -24,7 +24,7 @@ use slot_plan::{Condition, Item, StreamDescription};
 use std::alloc::Allocator;
 use unit_timing::allowance::Allowance;
 
-/// The packets of a stream's greatest unit, with the longest PES header of 19 bytes (ISO/IEC 13818-1, 2.4.3.7).
+/// Returns the packets of a stream's greatest unit, with the longest PES header of 19 bytes (ISO/IEC 13818-1, 2.4.3.7).
 pub fn packets_of_unit(stream: &StreamDescription) -> u64
     ensures packets { result ≡ greatest_unit_packets stream.now }
     ensures bound { result < 2 ^ 32 }
@@ -32,7 +32,7 @@ pub fn packets_of_unit(stream: &StreamDescription) -> u64
     (19 + stream.size as u64).div_ceil(184)
 }
 
-/// The most packets of `units` units in a row: at most those of a group. By pace it is the burst.
+/// Returns the most packets of `units` units in a row: at most the packets of a group. By pace it is the burst.
 #[tactic(auto, using(description::proofs::Allowed::at_once_few))]
 pub fn packets_in_row(stream: &StreamDescription, units: u8) -> u64
     ensures packets { result ≡ packets_in_row (declaration stream.now) units }
@@ -46,7 +46,7 @@ pub fn packets_in_row(stream: &StreamDescription, units: u8) -> u64
     }
 }
 
-/// The part of a condition on `units` units in a row: 0 where the stream has no groups.
+/// Returns the part of a condition on `units` units in a row: 0 where the stream has no groups.
 pub fn group_part(stream: &StreamDescription, units: u8) -> u8
     ensures { result ≡ group_part stream.now units }
 {
@@ -57,8 +57,8 @@ pub fn group_part(stream: &StreamDescription, units: u8) -> u8
     }
 }
 
-/// The way of a stream's packets to the buffer in which they wait for their decoding time: the rate in bits a second at
-/// which they leave the buffer before it, and the most work of that one after an own slot.
+/// The way of a stream's packets to the buffer where they wait for their decoding time: the rate in bits a second of the
+/// buffer before it, and the most work of this earlier buffer after an own slot.
 #[derive(Clone, Copy)]
 pub struct Way {
     pub drain: u64,

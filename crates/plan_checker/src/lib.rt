@@ -6,8 +6,8 @@
 //! - [`check_switch`]: a second plan after a checked one, to a [`CheckedSwitch`] or a [`Refusal`].
 //! - [`own_count`], [`greatest_gap`], [`spread_of`], [`work_of`]: the numbers of an item's own slots that the conditions compare, each in
 //!   one walk over a period.
-//! - [`steady_packets`], [`steady_time`], [`packets_in_row`], [`waiting_slots`], [`bytes_by_units`]: those of what a
-//!   stream declares.
+//! - [`steady_packets`], [`steady_time`], [`packets_in_row`], [`waiting_slots`], [`bytes_by_units`], [`ahead_of`],
+//!   [`left_of_unit`]: the numbers of a stream's declaration.
 #![tactic(auto)]
 
 mod buffers;
@@ -19,6 +19,7 @@ mod comparison;
 mod condition_terms;
 mod conditions;
 mod failure_search;
+mod frames;
 mod gap;
 mod leads;
 mod main_buffers;
@@ -32,11 +33,13 @@ mod spread;
 mod stream_slots;
 mod switch;
 mod timing;
+mod waiting_units;
 mod work;
 
 pub use checked_plan::CheckedPlan;
 pub use checked_switch::CheckedSwitch;
 pub use checking::{check, failing};
+pub use frames::{ahead_of, left_of_unit};
 pub use gap::greatest_gap;
 pub use leads::packets_in_row;
 pub use main_buffers::{bytes_by_units, waiting_slots};

@@ -2,91 +2,84 @@
 
 ghost use Rattle.std.specs.Prelude.{◌≡◌, ◌^◌, ◌<◌, ◌≤◌, ◌∷◌, [], length};
 ghost use Rattle.description.specs.Ranges.{IsStream};
-ghost use Rattle.unit_timing.specs.Conditions.{waiting_units, waiting_packets, waiting_slots};
-ghost use Rattle.unit_timing.specs.Conditions.{bytes_by_units, bytes_by_slots};
-ghost use Rattle.slot_plan.specs.Claims.{declaration, stream_share};
-ghost use Rattle.slot_plan.specs.Conditions.{main_buffer_entry};
+ghost use Rattle.unit_timing.specs.Conditions.{waiting_slots, bytes_by_units, bytes_waiting};
+ghost use Rattle.slot_plan.specs.Claims.{declaration, led_declaration, stream_share};
+ghost use Rattle.slot_plan.specs.Conditions.{main_buffer_entry, frame_entries};
 ghost use Rattle.slot_plan.specs.Shape.{IsShaped};
+ghost use Rattle.plan_checker.specs.Failing.{after, search_of};
+ghost use Rattle.plan_checker.specs.SentBytes.{sent_within};
 
 use crate::claims::claim_of_stream;
 use crate::comparison::at_most;
-use crate::condition_terms::slots_within;
+use crate::condition_terms::{slots_of_time, slots_within};
 use crate::conditions::ItemCondition;
 use crate::failure_search::FailureSearch;
-use crate::leads::packets_of_unit;
+use crate::frames::frame_rooms;
 use crate::own_counts::own_count;
 use crate::plans::ShapedPlan;
-use clock27::SLOT_UNITS_AT_1BPS;
+use crate::waiting_units::bytes_led;
 use slot_plan::{Condition, Description, Item, Plan, StreamDescription};
 use std::alloc::Allocator;
-use unit_timing::allowance::Allowance;
 
-/// The units that can wait for their decoding time at once, rounded up.
-pub fn waiting_units(stream: &StreamDescription) -> u64
-    requires { IsStream stream.now }
-    ensures units { result ≡ waiting_units (declaration stream.now) }
-    ensures bound { result ≤ 90000 }
-{
-    (stream.lead as u64).div_ceil(stream.interval as u64)
-}
-
-/// The most packets of these units: whole groups, and a rest. By pace it is the burst, and what comes within the lead.
-#[tactic(auto, using(description::proofs::Allowed::within_few))]
-fn waiting_packets(stream: &StreamDescription) -> u64
-    requires ranges { IsStream stream.now }
-    ensures packets { result ≡ waiting_packets (declaration stream.now) }
-    ensures bound { result < 2 ^ 40 }
-{
-    match stream.allowance {
-        Allowance::Groups { units, packets } => {
-            let (group, most) = (units as u64, packets as u64);
-            let waiting = waiting_units(stream);
-            waiting / group * most + (waiting % group * packets_of_unit(stream)).min(most)
-        }
-        Allowance::Pace { burst, pace } => {
-            burst as u64 + pace as u64 * stream.lead as u64 / SLOT_UNITS_AT_1BPS as u64
-        }
-    }
-}
-
-/// The slots in which the packets of these units come.
+/// Returns the slots that carry the packets of units that can wait at once.
 pub fn waiting_slots(description: &Description, stream: &StreamDescription) -> u64
     requires ranges { IsStream stream.now }
     ensures slots { result ≡ waiting_slots description.now.rate (declaration stream.now) }
     ensures positive { 0 < result }
     ensures bound { result ≤ 2 ^ 32 }
 {
-    (stream.lead as u64 * description.rate().bits_per_second()).div_ceil(SLOT_UNITS_AT_1BPS as u64)
+    slots_of_time(stream.lead as u64, description.rate().bits_per_second())
 }
 
-/// The bytes that can wait at once: the smaller of those by the sizes of the units and those by their packets.
+/// Returns the bytes of units that can wait at once: by the sizes of the units or by their packets, the smaller.
 pub fn bytes_by_units(stream: &StreamDescription) -> u64
     requires ranges { IsStream stream.now }
     ensures bytes { result ≡ bytes_by_units (declaration stream.now) }
 {
-    let sizes = waiting_units(stream) * (19 + stream.size as u64);
-    sizes.min(184 * waiting_packets(stream))
+    bytes_led(stream, stream.lead as u64)
 }
 
-/// The bytes that can wait at once, by the slots in which they come.
-pub fn bytes_by_slots<A: Allocator>(
+/// Returns the most bytes that the own slots of stream number `i` carry in `time` units of 90 kHz.
+pub fn sent_within<A: Allocator>(
     description: &Description,
     plan: &Plan<A>,
     i: usize,
-    stream: &StreamDescription,
+    time: u64,
 ) -> u128
     requires shaped { IsShaped description.now plan.now }
     requires stream { i < length description.now.streams }
     requires small { i < 256 }
-    requires ranges { IsStream stream.now }
-    ensures bytes { result ≡ bytes_by_slots description.now.rate (declaration stream.now) (stream_share plan.now i) }
-    ensures bound { result < 2 ^ 70 }
+    requires positive { 0 < time }
+    requires time { time ≤ 90000 }
+    ensures bytes { result ≡ sent_within description.now plan.now i time }
+    ensures bound { result < 2 ^ 72 }
 {
     let slots = plan.slots();
     let count = own_count(slots, Item::Stream(i as u8));
     let spread = claim_of_stream(plan, i).spread;
-    let window = waiting_slots(description, stream);
+    let window = slots_of_time(time, description.rate().bits_per_second());
     184 * slots_within(count, slots.len() as u64, spread, window)
+}
+
+/// Returns the bytes that can wait at once where units are sent at most `lead` units of 90 kHz before their
+/// decoding times.
+pub fn bytes_waiting<A: Allocator>(
+    plans: &ShapedPlan<'_, A>,
+    i: usize,
+    stream: &StreamDescription,
+    lead: u64,
+) -> u128
+    requires stream { i < length plans.now.description.now.streams }
+    requires small { i < 256 }
+    requires ranges { IsStream stream.now }
+    requires positive { 0 < lead }
+    requires lead { lead ≤ 90000 }
+    ensures bytes { result ≡ bytes_waiting plans.now.description.now.rate (led_declaration stream.now lead)
+        (stream_share plans.now.plan.now i) }
+    ensures bound { result < 2 ^ 72 }
+{
+    let by_units = bytes_led(stream, lead) as u128;
+    by_units.min(sent_within(plans.description, plans.plan, i, lead))
 }
 
 /// The main buffer of each stream.
@@ -97,23 +90,57 @@ impl<A: Allocator> ItemCondition<ShapedPlan<'_, A>> for MainBuffers {
 
     ghost items = { λ s. s.description.now.streams };
 
-    ghost entries = { λ s i stream. main_buffer_entry s.description.now s.plan.now i stream ∷ [] };
+    ghost entries = { λ s i stream.
+        main_buffer_entry s.description.now s.plan.now i stream
+        ∷ frame_entries s.description.now s.plan.now i stream stream.framing };
 
     fn count(plans: &ShapedPlan<'_, A>) -> usize {
         plans.description.streams().len()
     }
 
     fn check_item(plans: &ShapedPlan<'_, A>, i: usize, search: &mut FailureSearch) {
-        let stream = &plans.description.streams()[i];
-        let by_units = bytes_by_units(stream) as u128;
-        let by_slots = bytes_by_slots(plans.description, plans.plan, i, stream);
-        at_most(
-            Condition::MainBuffer,
-            0,
-            i as u32,
-            by_units.min(by_slots),
-            stream.main as u128,
-            search,
-        );
+        main_rooms(plans, i, &plans.description.streams()[i], search);
     }
+}
+
+/// The main buffer of one stream, for whole units and for their access units one by one.
+fn main_rooms<A: Allocator>(
+    plans: &ShapedPlan<'_, A>,
+    i: usize,
+    stream: &StreamDescription,
+    search: &mut FailureSearch,
+)
+    requires stream { i < length plans.now.description.now.streams }
+    requires small { i < 256 }
+    requires ranges { IsStream stream.now }
+    ensures { search_of search.new ≡ after (search_of search.old) (
+        main_buffer_entry plans.now.description.now plans.now.plan.now i stream.now
+        ∷ frame_entries plans.now.description.now plans.now.plan.now i stream.now stream.now.framing) }
+{
+    main_room(plans, i, stream, search);
+    frame_rooms(plans, i, stream, search);
+}
+
+/// The main buffer of one stream, for whole units.
+fn main_room<A: Allocator>(
+    plans: &ShapedPlan<'_, A>,
+    i: usize,
+    stream: &StreamDescription,
+    search: &mut FailureSearch,
+)
+    requires stream { i < length plans.now.description.now.streams }
+    requires small { i < 256 }
+    requires ranges { IsStream stream.now }
+    ensures { search_of search.new ≡ after (search_of search.old)
+        (main_buffer_entry plans.now.description.now plans.now.plan.now i stream.now ∷ []) }
+{
+    let bytes = bytes_waiting(plans, i, stream, stream.lead as u64);
+    at_most(
+        Condition::MainBuffer,
+        0,
+        i as u32,
+        bytes,
+        stream.main as u128,
+        search,
+    );
 }

@@ -6,7 +6,7 @@ ghost use Rattle.slot_plan.specs.Items.{marks};
 
 use slot_plan::{Item, Slot};
 
-/// The number of the item's own slots in a period.
+/// Returns the number of the item's own slots in a period.
 pub fn own_count(slots: &[Slot], item: Item) -> u64
     ensures count { result ≡ per_period (marks item slots.now) }
     ensures bound { result ≤ length slots.now }
@@ -20,7 +20,7 @@ pub fn own_count(slots: &[Slot], item: Item) -> u64
     count
 }
 
-/// The slot of the item's own slot number `number`, from 0, in a period.
+/// Returns the slot of the item's own slot number `number`, from 0, in a period.
 pub fn own_slot(slots: &[Slot], item: Item, number: u64) -> u64
     requires { number < per_period (marks item slots.now) }
     ensures slot { result ≡ position (marks item slots.now) number }

@@ -8,7 +8,7 @@ ghost use Rattle.slot_plan.specs.Items.{marks};
 use crate::own_counts::{own_count, own_slot};
 use slot_plan::{Item, Slot};
 
-/// The slot of own slot number `number`, from 0.
+/// Returns the slot of own slot number `number`, from 0.
 pub fn position(slots: &[Slot], item: Item, number: u64) -> u64
     requires owned { 0 < per_period (marks item slots.now) }
     requires short { length slots.now ≤ 65536 }
@@ -19,7 +19,7 @@ pub fn position(slots: &[Slot], item: Item, number: u64) -> u64
     own_slot(slots, item, number % count) + number / count * slots.len() as u64
 }
 
-/// The next own slot after an own slot.
+/// Returns the next own slot after an own slot.
 pub fn next_own_slot(slots: &[Slot], item: Item, from: u64) -> u64
     requires own { own (marks item slots.now) from ≡ true }
     requires owned { 0 < per_period (marks item slots.now) }

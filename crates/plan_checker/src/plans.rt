@@ -23,7 +23,7 @@ pub struct ShapedPlan<'a, A: Allocator> {
     pub ghost shaped: { IsShaped description.now plan.now },
 }
 
-/// Two plans of good shape, each of which keeps the deadlines of its streams.
+/// Two plans of good shape that both keep the deadlines of their streams.
 #[derive(Drop)]
 pub struct PlanPair<'a, A: Allocator> {
     pub description: &'a Description,

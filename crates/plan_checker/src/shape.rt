@@ -22,7 +22,7 @@ use std::alloc::Allocator;
 /// The most slots of a period.
 const MAX_PERIOD: u128 = 65_536;
 
-/// The conditions of code 1.
+/// Looks at the conditions of code 1.
 pub fn shape<A: Allocator>(description: &Description, plan: &Plan<A>, search: &mut FailureSearch)
     ensures { search_of search.new ≡ after (search_of search.old) (shape_entries description.now plan.now) }
 {
@@ -35,7 +35,7 @@ pub fn shape<A: Allocator>(description: &Description, plan: &Plan<A>, search: &m
     claims(description, plan, search);
 }
 
-/// Whether a plan keeps the conditions of code 1.
+/// Returns whether a plan keeps the conditions of code 1.
 pub fn is_shaped<A: Allocator>(description: &Description, plan: &Plan<A>) -> bool
     ensures { result ≡ is_none (first_failing (shape_entries description.now plan.now)) }
 {

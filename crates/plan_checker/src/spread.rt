@@ -7,8 +7,8 @@ ghost use Rattle.slot_plan.specs.Items.{marks};
 use crate::own_counts::own_count;
 use slot_plan::{Item, Slot};
 
-/// How far the own slots stray from even spacing, in slots times own slots a period: the greatest difference of two
-/// own slots, found in one walk as that of the two extremes; 0 where there is none.
+/// Returns how far the own slots stray from even spacing, in slots times own slots a period: the greatest difference of
+/// two own slots, found in one walk as the difference of the two extremes; 0 if the item has no own slot.
 pub fn spread_of(slots: &[Slot], item: Item) -> u64
     requires short { length slots.now ≤ 65536 }
     ensures spread { result ≡ spread (marks item slots.now) }

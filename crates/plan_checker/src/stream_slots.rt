@@ -47,8 +47,8 @@ impl<A: Allocator> ItemCondition<ShapedPlan<'_, A>> for Spreads {
     }
 }
 
-/// The packets of a stream that come in the time of [`steady_time`] in the long run, each counted as 135,360,000: those
-/// of a group of units. By pace it is the pace, in bits a second.
+/// Returns the packets of a stream in the time of [`steady_time`] in the long run, each counted as 135,360,000: the
+/// packets of a group of units. By pace it is the pace, in bits a second.
 #[tactic(auto, using(description::proofs::Allowed::steady_some, description::proofs::Allowed::steady_few))]
 pub fn steady_packets(stream: &StreamDescription) -> u64
     ensures packets { result ≡ steady_packets stream.now.allowance }
@@ -61,7 +61,7 @@ pub fn steady_packets(stream: &StreamDescription) -> u64
     }
 }
 
-/// The time in which they come, in units of 90 kHz: that of a group of units. By pace it is 1.
+/// Returns the time of [`steady_packets`], in units of 90 kHz: the time of a group of units. By pace it is 1.
 #[tactic(auto, using(description::proofs::Allowed::time_some, description::proofs::Allowed::time_few))]
 pub fn steady_time(stream: &StreamDescription) -> u64
     ensures time { result ≡ steady_time stream.now.allowance stream.now.interval }

@@ -17,8 +17,8 @@ pub struct Work {
     pub left: u64,
 }
 
-/// The work over one period that begins with `start`, of an output of `rate` bits/s and a buffer that drains `drain`
-/// bits/s: each slot drains the time of 188 bytes, an own slot adds 188 bytes.
+/// Returns the work over one period that begins with `start`, of an output of `rate` bits/s and a buffer that drains
+/// `drain` bits/s: each slot drains the time of 188 bytes, an own slot adds 188 bytes.
 pub fn work_of(slots: &[Slot], item: Item, rate: u64, drain: u64, start: u64) -> Work
     requires short { length slots.now ≤ 65536 }
     requires rate { rate ≤ 100000000 }

@@ -1,5 +1,5 @@
-//! Plans made for a service description: [`make`] gives one that the plan checker accepts, or says that it found none.
-//! What it looks through is in `plan_search`.
+//! Plans made for a service description: [`make`] gives a plan that the plan checker accepts, or says that it found none.
+//! The plans that it tries are in `plan_search`.
 #![tactic(auto)]
 
 mod making;

@@ -24,7 +24,8 @@ struct BufferClaim {
     peak: u64,
 }
 
-/// The claim on a buffer that the item's slots fill: a period begins with what one leaves that began with nothing.
+/// Returns the claim on a buffer that the item's slots fill: a period begins with what one leaves that began with
+/// nothing.
 fn claim(slots: &[Slot], item: Item, rate: u64, drain: u64) -> BufferClaim
     requires short { length slots.now ≤ 65536 }
     requires rate { rate ≤ 100000000 }
@@ -39,7 +40,7 @@ fn claim(slots: &[Slot], item: Item, rate: u64, drain: u64) -> BufferClaim
     BufferClaim { start, peak }
 }
 
-/// The claim on the multiplexing buffer of stream number `i`, if it has one.
+/// Returns the claim on the multiplexing buffer of stream number `i`, if it has one.
 #[tactic(auto, using(plan_checker::proofs::Leaks::leak_most))]
 fn multiplexing_entry(
     description: &Description,
@@ -60,7 +61,7 @@ fn multiplexing_entry(
     Some(MultiplexingEntry { start, peak })
 }
 
-/// The claim of stream number `i`.
+/// Returns the claim of stream number `i`.
 fn stream_entry(
     description: &Description,
     slots: &[Slot],
@@ -85,7 +86,7 @@ fn stream_entry(
     }
 }
 
-/// The claim of program number `i`.
+/// Returns the claim of program number `i`.
 fn program_entry(description: &Description, slots: &[Slot], i: usize) -> ProgramEntry
     requires short { length slots.now ≤ 65536 }
     requires small { i < 256 }
@@ -105,7 +106,7 @@ fn program_entry(description: &Description, slots: &[Slot], i: usize) -> Program
     }
 }
 
-/// The claims of all streams.
+/// Returns the claims of all streams.
 fn stream_entries<A: Allocator>(
     alloc: A,
     description: &Description,
@@ -122,7 +123,7 @@ fn stream_entries<A: Allocator>(
     Ok(entries)
 }
 
-/// The claims of all programs.
+/// Returns the claims of all programs.
 fn program_entries<A: Allocator>(
     alloc: A,
     description: &Description,
@@ -139,7 +140,7 @@ fn program_entries<A: Allocator>(
     Ok(entries)
 }
 
-/// The certificate of these slots, at most 65,536 of them.
+/// Returns the certificate of these slots, at most 65,536 of them.
 pub fn certificate_of<A: Allocator + Clone>(
     alloc: A,
     description: &Description,

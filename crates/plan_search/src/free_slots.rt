@@ -7,7 +7,7 @@ ghost use Rattle.plan_search.specs.PlainPlan.{is_null, is_free, with_item, place
 use crate::spacing::Spaced;
 use slot_plan::Slot;
 
-/// Whether a slot is not given yet.
+/// Returns whether a slot is not given yet.
 fn is_null(slot: Slot) -> bool
     ensures { result ≡ is_null slot }
 {
@@ -17,7 +17,7 @@ fn is_null(slot: Slot) -> bool
     }
 }
 
-/// Whether the slots `first`, `first + spacing`, .. are free.
+/// Returns whether the slots `first`, `first + spacing`, .. are free.
 fn is_free(slots: &[Slot], spacing: u64, first: u64) -> bool
     requires positive { 0 < spacing }
     requires within { first < spacing }
@@ -32,7 +32,7 @@ fn is_free(slots: &[Slot], spacing: u64, first: u64) -> bool
     true
 }
 
-/// The least slot from which on all at distances of `spacing` are free.
+/// Returns the least slot from which on all at distances of `spacing` are free.
 fn first_free(slots: &[Slot], spacing: u64) -> Option<u64>
     requires short { length slots.now ≤ 65536 }
     ensures { result ≡ first_of spacing (is_free slots.now spacing) }

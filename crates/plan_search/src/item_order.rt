@@ -8,7 +8,7 @@ use crate::free_slots::place_spacing;
 use crate::spacing::Spaced;
 use slot_plan::Slot;
 
-/// The greatest spacing.
+/// Returns the greatest spacing.
 pub fn longest(items: &[Spaced]) -> u64
     ensures { result ≡ longest items.now }
 {
@@ -19,7 +19,7 @@ pub fn longest(items: &[Spaced]) -> u64
     longest
 }
 
-/// Whether each item has a spacing.
+/// Returns whether each item has a spacing.
 pub fn are_spaced(items: &[Spaced]) -> bool
     ensures { result ≡ list_all is_spaced items.now }
 {

@@ -10,7 +10,7 @@ use crate::spacing::{Spaced, spaced_items};
 use slot_plan::{Description, Plan, Slot};
 use std::alloc::{AllocError, Allocator};
 
-/// A number of null slots.
+/// Returns a number of null slots.
 fn null_slots<A: Allocator>(alloc: A, length: u64) -> Result<Vec<Slot, A>, AllocError>
     ensures { IfOk result (λ slots. slots.items ≡ replicate length Null) }
 {
@@ -21,7 +21,7 @@ fn null_slots<A: Allocator>(alloc: A, length: u64) -> Result<Vec<Slot, A>, Alloc
     Ok(slots)
 }
 
-/// The slots of the items, None where an item has no spacing or finds no free slots.
+/// Returns the slots of the items, None where an item has no spacing or finds no free slots.
 fn plain_slots<A: Allocator>(alloc: A, items: &[Spaced]) -> Result<Option<Vec<Slot, A>>, AllocError>
     requires { longest items.now ≤ 65536 }
     ensures slots { IfOk result (λ slots. option_map (λ s. s.items) slots ≡ slots_of items.now) }
@@ -38,7 +38,7 @@ fn plain_slots<A: Allocator>(alloc: A, items: &[Spaced]) -> Result<Option<Vec<Sl
     }
 }
 
-/// The plain plan of a description, where there is one.
+/// Returns the plain plan of a description, if it has a plain plan.
 pub fn plain_plan<A: Allocator + Clone>(
     alloc: A,
     description: &Description,

@@ -16,8 +16,8 @@ use slot_plan::{Description, StreamDescription};
 use std::alloc::{AllocError, Allocator};
 use streams::{drain_reason, lead_reason, leak_reason, main_reason};
 
-/// A number of the description that no plan can keep, with the least one that is no reason any more. There may be other
-/// reasons beside it, and a plan may want a greater number.
+/// A number of the description that no plan can keep, with the least number that is no longer a reason. There may be
+/// more reasons, and a plan may need a greater number.
 #[derive(Clone, Copy, Debug, PartialEq, Eq)]
 pub enum Reason {
     /// The PCR limit of a program is shorter than a slot: the least limit in ms.
@@ -38,13 +38,13 @@ pub enum Reason {
     Overload(Option<u64>),
 }
 
-/// Where a description has one of these reasons, no plan serves it.
+/// States that no plan serves a description that has any of these reasons.
 pub fn no_plan_serves()
     ensures { ReasonLaw }
 {}
 
-/// Each reason of these kinds why no plan serves the description: programs, tables, streams, each by number, and then
-/// the items together. None does not say that there is a plan.
+/// Returns each reason of these kinds why no plan serves the description: programs, tables, streams, each by number,
+/// and then the items together. None does not say that there is a plan.
 pub fn reasons<A: Allocator>(
     alloc: A,
     description: &Description,

@@ -18,7 +18,7 @@ use std::alloc::{AllocError, Allocator};
 /// The number of times that own slots are added in one period before a longer one is tried.
 const TRIES: usize = 12;
 
-/// The placement tasks of all items, or the number of the first whose windows are too narrow.
+/// Returns the placement tasks of all items, or the number of the first whose windows are too narrow.
 fn tasks_of<A: Allocator>(
     alloc: A,
     demands: &[Demand<'_>],
@@ -34,7 +34,8 @@ fn tasks_of<A: Allocator>(
     Ok(Ok(tasks))
 }
 
-/// One try at the slots of the period: None where all items have theirs, else the number of an item that misses one.
+/// Returns one try at the slots of the period: None where all items have theirs, else the number of an item that
+/// misses one.
 fn attempt<A: Allocator + Clone>(
     alloc: A,
     slots: &mut Vec<Slot, A>,
@@ -68,7 +69,7 @@ fn add_slots(demands: &mut [Demand<'_>], missed: usize, period: u64) -> bool {
     true
 }
 
-/// The slots of a period of that length, where they are found.
+/// Returns the slots of a period of that length, where they are found.
 fn period_slots<A: Allocator + Clone>(
     alloc: A,
     description: &Description,
@@ -97,8 +98,8 @@ fn period_slots<A: Allocator + Clone>(
     Ok(None)
 }
 
-/// A plan of a period of `period` slots, where one is found. Whether it serves the description is for the plan checker
-/// to say.
+/// Returns a plan of a period of `period` slots, where one is found. Whether it serves the description is for the plan
+/// checker to say.
 pub fn period_plan<A: Allocator + Clone>(
     alloc: &A,
     description: &Description,

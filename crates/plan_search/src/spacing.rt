@@ -18,7 +18,7 @@ pub struct Spaced {
     pub spacing: u64,
 }
 
-/// A number of slots where there is room for it, else 0.
+/// Returns a number of slots where there is room for it, else 0.
 fn within(room: u64, slots: u64) -> u64
     ensures within { result ≡ within room slots }
     ensures bound { result ≤ slots }
@@ -26,7 +26,7 @@ fn within(room: u64, slots: u64) -> u64
     if slots <= room { slots } else { 0 }
 }
 
-/// The greatest power of two that is at most 65,536 and at most `room`; 0 where there is none.
+/// Returns the greatest power of two that is at most 65,536 and at most `room`; 0 if there is no such power.
 pub fn spacing_of(room: u64) -> u64
     ensures spacing { result ≡ spacing room }
     ensures bound { result ≤ 65536 }
@@ -40,7 +40,7 @@ pub fn spacing_of(room: u64) -> u64
     spacing
 }
 
-/// The slots in which a stream needs a packet in the long run.
+/// Returns the slots in which a stream needs a packet in the long run.
 fn stream_room(description: &Description, stream: &StreamDescription) -> u64
     requires { IsStream stream.now }
     ensures { result ≡ stream_room description.now stream.now }
@@ -48,14 +48,14 @@ fn stream_room(description: &Description, stream: &StreamDescription) -> u64
     steady_time(stream) * description.rate().bits_per_second() / steady_packets(stream)
 }
 
-/// The slots within which a program needs a PCR.
+/// Returns the slots within which a program needs a PCR.
 fn pcr_room(description: &Description, program: &ProgramDescription) -> u64
     ensures { result ≡ pcr_room description.now program.now }
 {
     program.pcr_limit() as u64 * description.rate().bits_per_second() / SLOT_MS_AT_1BPS as u64
 }
 
-/// The slots within which a table needs a packet.
+/// Returns the slots within which a table needs a packet.
 fn table_room(description: &Description, t: usize) -> u64
     requires { t < table_count description.now }
     ensures { result ≡ table_room description.now t }
@@ -66,7 +66,7 @@ fn table_room(description: &Description, t: usize) -> u64
     if round == 0 { 0 } else { limit / round }
 }
 
-/// The items of a description with their spacings: streams, PCRs, tables, each by number.
+/// Returns the items of a description with their spacings: streams, PCRs, tables, each by number.
 pub fn spaced_items<A: Allocator>(
     alloc: A,
     description: &Description,

@@ -15,16 +15,19 @@ use Rattle.own_slots.specs.Spread.{spread}
 use Rattle.own_slots.specs.Rounds.{starts}
 use Rattle.own_slots.proofs.Gaps.{gap_law}
 use Rattle.own_slots.proofs.Recurrence.{pcr_law, table_law}
+use Rattle.unit_timing.specs.declared.framing.Framing.{Framing}
 use Rattle.unit_timing.specs.declared.multiplexing_buffer.MultiplexingBuffer.{MultiplexingBuffer as LeakingBuffer}
 use Rattle.unit_timing.specs.Buffers.{tb_size, system_tb_drain, bsys_size, bsys_drain}
 use Rattle.unit_timing.specs.Allowances.{allowance_rows}
 use Rattle.unit_timing.specs.Plans.{StreamServed, ProgramServed}
-use Rattle.unit_timing.specs.Conditions.{IsProper, StreamClaim, ProgramClaim, rate_needed, rate_given, lead_needed, time_given, bytes_waiting, StreamConditions, ProgramConditions}
+use Rattle.unit_timing.specs.Conditions.{IsProper, StreamClaim, ProgramClaim, rate_needed, rate_given, lead_needed, time_given, bytes_waiting, share_of, StreamConditions, ProgramConditions}
+use Rattle.unit_timing.specs.AccessUnits.{FramedConditions, framed_waiting}
 use Rattle.unit_timing.specs.VideoPlans.{LeakClaim, IsProperLeak, VideoConditions, VideoServed}
 use Rattle.unit_timing.proofs.PlanLemmas.{stream_law, program_law}
+use Rattle.unit_timing.proofs.AccessUnitLemmas.{framed_law}
 use Rattle.unit_timing.proofs.VideoLemmas.{video_law}
 use Rattle.description.specs.Described.{Described, DescribedProgram, DescribedStream}
-use Rattle.description.specs.Ranges.{IsInRange, IsMultiplexingBuffer, IsStream}
+use Rattle.description.specs.Ranges.{IsInRange, IsMultiplexingBuffer, IsFraming, IsStream}
 use Rattle.description.specs.Tables.{table_kinds, table_count, table_limit, round_packets, section_count, section_lengths, packets_of_section}
 use Rattle.description.proofs.Allowed.{rows_some}
 use Rattle.slot_plan.specs.declared.slot.Slot.{Slot}
@@ -34,13 +37,14 @@ use Rattle.slot_plan.specs.Planned.{Planned}
 use Rattle.slot_plan.specs.Items.{is_own, marks}
 use Rattle.slot_plan.specs.declared.condition.Condition.TheVariants.{PcrGap, TableGap, Spread, StreamRate, TransportBuffer, StreamLead, MainBuffer, SystemBuffer, MultiplexingBuffer, ElementaryLead}
 use Rattle.slot_plan.specs.Claims.{declaration, stream_claim, program_claim, stream_share, multiplexing_claim, elementary_declaration, elementary_share}
-use Rattle.slot_plan.specs.Conditions.{entries_from, group_part, pcr_gap_entry, table_gap_entry, spread_entry, stream_rate_entry, stream_buffer_entries, transport_buffer_entries, stream_lead_entry, main_buffer_entry, system_buffer_entries, multiplexing_buffer_entries, elementary_lead_entry, elementary_lead_entries}
+use Rattle.slot_plan.specs.Conditions.{entries_from, group_part, pcr_gap_entry, table_gap_entry, spread_entry, stream_rate_entry, stream_buffer_entries, transport_buffer_entries, stream_lead_entry, main_buffer_entry, frame_entry, frame_entries, system_buffer_entries, multiplexing_buffer_entries, elementary_lead_entry, elementary_lead_entries}
 use Rattle.slot_plan.specs.Schedule.{OwnedLaw}
 use Rattle.slot_plan.specs.TableRounds.{first_packet}
-use Rattle.slot_plan.proofs.HeldConditions.{holds_item, at_most_holds}
+use Rattle.slot_plan.proofs.HeldConditions.{holds_both, holds_item, at_most_holds}
 use Rattle.slot_plan.proofs.ConditionLists.{Hold, ServingConditions, serves}
 use Rattle.slot_plan.proofs.ItemConditions.{holds_element, holds_count, holds_work}
 use Rattle.plan_timing.specs.Promised.{leak_of, PlanLaw}
+use Rattle.plan_timing.specs.FramesServed.{FramesServed}
 
 pub length_marks : (item : Item) (slots : List Slot) → length (marks item slots) ≡ length slots
 length_marks item slots = length-map slots (is_own item)
@@ -84,6 +88,12 @@ lead_holds d p i s hold m some below =
     at_most_holds StreamLead (group_part s m) i (lead_needed (declaration s) (stream_share p i) m) (time_given d.rate (declaration s) (stream_share p i).count m)
     (rw e at (holds_count (stream_lead_entry d p i s) 1 (allowance_rows s.allowance) (m - 1) (omega arith) hold))
 
+-- the conditions of its main buffer: of whole units, and of access units that are removed one by one
+mains_hold : (d : Described) (p : Planned) (i : ℕ) (s : DescribedStream) → ServingConditions d p → slice_get d.streams i ≡ Some s →
+    Hold (main_buffer_entry d p i s ∷ []) × Hold (frame_entries d p i s s.framing)
+mains_hold d p i s serves is = holds_both (main_buffer_entry d p i s ∷ []) (frame_entries d p i s s.framing)
+    (holds_element (λ j t. main_buffer_entry d p j t ∷ frame_entries d p j t t.framing) d.streams i s serves.main_buffers is)
+
 pub stream_holds : (d : Described) (p : Planned) (i : ℕ) (s : DescribedStream) → ServingConditions d p → slice_get d.streams i ≡ Some s →
     StreamConditions d.rate (declaration s) (claim_of p i) (marks (Stream i) p.slots)
 stream_holds d p i s serves is =
@@ -92,7 +102,7 @@ stream_holds d p i s serves is =
     let rate = at_most_holds StreamRate 0 i (rate_needed (declaration s) own) (rate_given d.rate (declaration s) own)
     (holds_element (λ j t. stream_rate_entry d p j t ∷ []) d.streams i s serves.rates is) in
     let main = at_most_holds MainBuffer 0 i (bytes_waiting d.rate (declaration s) own) s.main
-    (holds_element (λ j t. main_buffer_entry d p j t ∷ []) d.streams i s serves.main_buffers is) in
+    (mains_hold d p i s serves is).0 in
     let lead = lead_holds d p i s (holds_element (λ k t. entries_from (stream_lead_entry d p k t) 1 (allowance_rows t.allowance)) d.streams i s serves.leads is) in
     record {
       owned = serves.shape.streams_own i lt;
@@ -103,6 +113,27 @@ stream_holds d p i s serves is =
       lead_serves = λ m some below. rw (length_marks (Stream i) p.slots) (lead m some below);
       main_fits = rw (length_marks (Stream i) p.slots) main;
     }
+
+-- the numbers of its framing are in their ranges
+pub framing_ranges : (d : Described) (i : ℕ) (s : DescribedStream) (f : Framing) → IsInRange d → slice_get d.streams i ≡ Some s → s.framing ≡ Some f →
+    IsFraming s.interval s.size f
+framing_ranges d i s f ranges is some = All-head (IsFraming s.interval s.size) f [] (rw some at (stream_ranges d i s ranges is).framing)
+
+-- those of its access units, if they are removed one by one
+frame_holds : (d : Described) (p : Planned) (i : ℕ) (s : DescribedStream) (f : Framing) → ServingConditions d p → slice_get d.streams i ≡ Some s → s.framing ≡ Some f →
+    (k : ℕ) → 0 < k → k < f.frames → framed_waiting d.rate (declaration s) f (stream_share p i) k ≤ s.main
+frame_holds d p i s f serves is some k one below =
+    let e : 1 + (k - 1) ≡ k = omega arith in
+    let all : Hold (entries_from (frame_entry d p i s f) 1 (f.frames - 1)) = rw some at (mains_hold d p i s serves is).1 in
+    at_most_holds MainBuffer k i (framed_waiting d.rate (declaration s) f (stream_share p i) k) s.main
+    (rw e at (holds_count (frame_entry d p i s f) 1 (f.frames - 1) (k - 1) (omega arith) all))
+
+pub frames_hold : (d : Described) (p : Planned) (i : ℕ) (s : DescribedStream) (f : Framing) → IsInRange d → ServingConditions d p → slice_get d.streams i ≡ Some s →
+    s.framing ≡ Some f → FramedConditions d.rate (declaration s) f (share_of (claim_of p i) (marks (Stream i) p.slots))
+frames_hold d p i s f ranges serves is some = record {
+  in_turn = (framing_ranges d i s f ranges is some).in_turn;
+  fits = λ k one below. rw (length_marks (Stream i) p.slots) (frame_holds d p i s f serves is some k one below);
+}
 
 -- those of its multiplexing buffer, if it has one
 pub leak_holds : (d : Described) (p : Planned) (i : ℕ) (s : DescribedStream) (b : LeakingBuffer) → ServingConditions d p → slice_get d.streams i ≡ Some s →
@@ -187,6 +218,10 @@ plan_law law d p ranges serving =
           subst (λ (o : ℕ → Bool). VideoServed o d.rate (declaration s) (leak_of b) units) (sym (law.alone p.slots (Stream i)))
           (video_law d.rate (declaration s) (leak_of b) (claim_of p i) (leak_claim_of p i) (marks (Stream i) p.slots) units
           (proper d i s ranges is) (proper_leak d i s b ranges is some) (video_holds d p i s b k is some) keeps);
+      frames = λ i s f packets is some cut keeps.
+          subst (λ (o : ℕ → Bool). FramesServed o d.rate (declaration s) f packets) (sym (law.alone p.slots (Stream i)))
+          (λ n x left late. framed_law.one_plan d.rate (declaration s) f (claim_of p i) (marks (Stream i) p.slots) packets n x left
+          (proper d i s ranges is) (stream_holds d p i s k is) (frames_hold d p i s f ranges k is some) cut keeps late);
       programs = λ i lt. subst (λ (o : ℕ → Bool). ProgramServed o d.rate) (sym (law.alone p.slots (System i)))
           (program_law d.rate (program_claim_of p i) (marks (System i) p.slots)
           (omega (arith, ranges.least_rate)) (some_slots (System i)) (program_holds d p i k lt));

@@ -13,15 +13,19 @@ use Rattle.own_slots.specs.Switch.{joined, shift}
 use Rattle.own_slots.proofs.Extremes.{at_most_greatest}
 use Rattle.own_slots.proofs.SwitchLemmas.{switch_gap_law}
 use Rattle.own_slots.proofs.Recurrence.{pcr_law, table_law}
+use Rattle.unit_timing.specs.declared.framing.Framing.{Framing}
 use Rattle.unit_timing.specs.declared.multiplexing_buffer.MultiplexingBuffer.{MultiplexingBuffer as LeakingBuffer}
 use Rattle.unit_timing.specs.Buffers.{system_tb_drain, bsys_drain}
 use Rattle.unit_timing.specs.Allowances.{allowance_rows}
 use Rattle.unit_timing.specs.Plans.{StreamServed, ProgramServed}
-use Rattle.unit_timing.specs.Conditions.{lead_across, time_given, bytes_across, StreamSwitchConditions, ProgramSwitchConditions}
+use Rattle.unit_timing.specs.Conditions.{lead_across, time_given, bytes_across, share_of, StreamSwitchConditions, ProgramSwitchConditions}
 use Rattle.unit_timing.specs.VideoPlans.{VideoSwitchConditions, VideoServed}
+use Rattle.unit_timing.specs.AccessUnits.{FramedSwitchConditions, framed_across}
+use Rattle.unit_timing.proofs.AccessUnitLemmas.{framed_law}
 use Rattle.unit_timing.proofs.PlanLemmas.{stream_switch_law, program_switch_law}
 use Rattle.unit_timing.proofs.VideoLemmas.{video_switch_law}
 use Rattle.description.specs.Described.{Described, DescribedStream}
+use Rattle.description.specs.Ranges.{IsInRange}
 use Rattle.description.specs.Tables.{table_kinds, table_limit, round_packets}
 use Rattle.slot_plan.specs.declared.slot.Item.{Item}
 use Rattle.slot_plan.specs.declared.slot.Item.TheVariants.{Stream, Pcr, Table, System}
@@ -30,14 +34,15 @@ use Rattle.slot_plan.specs.Items.{marks}
 use Rattle.slot_plan.specs.declared.condition.Condition.TheVariants.{PcrSwitch, TableSwitch, WorkSwitch, LeadSwitch, MainSwitch, ElementarySwitch}
 use Rattle.slot_plan.specs.Claims.{declaration, stream_claim, program_claim, stream_share, multiplexing_claim, elementary_declaration, elementary_share}
 use Rattle.slot_plan.specs.Conditions.{entries_from, group_part}
-use Rattle.slot_plan.specs.SwitchConditions.{gap_across, pcr_switch_entry, table_switch_entry, stream_work_entry, transport_work_entry, system_work_entry, multiplexing_work_entries, lead_switch_entry, main_switch_entry, elementary_switch_entry, elementary_switch_entries}
+use Rattle.slot_plan.specs.SwitchConditions.{gap_across, pcr_switch_entry, table_switch_entry, stream_work_entry, transport_work_entry, system_work_entry, multiplexing_work_entries, lead_switch_entry, main_switch_entry, frame_switch_entry, frame_switch_entries, elementary_switch_entry, elementary_switch_entries}
 use Rattle.slot_plan.specs.Schedule.{OwnedLaw, switched, owned}
 use Rattle.slot_plan.specs.TableRounds.{first_packet}
-use Rattle.slot_plan.proofs.HeldConditions.{holds_item, at_most_holds}
+use Rattle.slot_plan.proofs.HeldConditions.{holds_both, holds_item, at_most_holds}
 use Rattle.slot_plan.proofs.ConditionLists.{Hold, serves, FollowingConditions, follows}
 use Rattle.slot_plan.proofs.ItemConditions.{holds_element, holds_count}
 use Rattle.plan_timing.specs.Promised.{leak_of, SwitchLaw}
-use Rattle.plan_timing.proofs.OnePlan.{length_marks, proper, proper_leak, claim_of, leak_claim_of, program_claim_of, stream_holds, video_holds, program_holds, pcr_gap_holds, table_gap_holds, first_packet_below}
+use Rattle.plan_timing.specs.FramesServed.{FramesServed}
+use Rattle.plan_timing.proofs.OnePlan.{length_marks, proper, proper_leak, claim_of, leak_claim_of, program_claim_of, stream_holds, framing_ranges, video_holds, program_holds, pcr_gap_holds, table_gap_holds, first_packet_below}
 
 lead_joins : (d : Described) (first second : Planned) (i : ℕ) (s : DescribedStream) → Hold (entries_from (lead_switch_entry d first second i s) 1 (allowance_rows s.allowance)) →
     (m : ℕ) → 0 < m → m ≤ allowance_rows s.allowance →
@@ -50,12 +55,18 @@ lead_joins d first second i s hold m some below =
     (time_given d.rate (declaration s) ((stream_share first i).count * (stream_share second i).count) m)
     (rw e at (holds_count (lead_switch_entry d first second i s) 1 (allowance_rows s.allowance) (m - 1) (omega arith) hold))
 
+-- the conditions of its main buffer: of whole units, and of access units that are removed one by one
+mains_join : (d : Described) (first second : Planned) (i : ℕ) (s : DescribedStream) → FollowingConditions d first second → slice_get d.streams i ≡ Some s →
+    Hold (main_switch_entry d first second i s ∷ []) × Hold (frame_switch_entries d first second i s s.framing)
+mains_join d first second i s follows is = holds_both (main_switch_entry d first second i s ∷ []) (frame_switch_entries d first second i s s.framing)
+    (holds_element (λ j t. main_switch_entry d first second j t ∷ frame_switch_entries d first second j t t.framing) d.streams i s follows.main_buffers is)
+
 stream_joins : (d : Described) (first second : Planned) (i : ℕ) (s : DescribedStream) → FollowingConditions d first second → slice_get d.streams i ≡ Some s →
     StreamSwitchConditions d.rate (declaration s) (claim_of first i) (marks (Stream i) first.slots) (claim_of second i) (marks (Stream i) second.slots)
 stream_joins d first second i s follows is =
     let lead = lead_joins d first second i s (holds_element (λ k t. entries_from (lead_switch_entry d first second k t) 1 (allowance_rows t.allowance)) d.streams i s follows.leads is) in
     let main = at_most_holds MainSwitch 0 i (bytes_across d.rate (declaration s) (stream_share first i) (stream_share second i)) s.main
-    (holds_element (λ j t. main_switch_entry d first second j t ∷ []) d.streams i s follows.main_buffers is) in
+    (mains_join d first second i s follows is).0 in
     record {
       work = at_most_holds WorkSwitch 0 i (work_left d.rate s.rx (stream_claim first i).start (marks (Stream i) first.slots)) (stream_claim second i).start
           (holds_element (λ j t. stream_work_entry d first second j t ∷ []) d.streams i s follows.stream_works is);
@@ -64,6 +75,24 @@ stream_joins d first second i s follows is =
           rw (length_marks (Stream i) first.slots, length_marks (Stream i) second.slots) shorter;
       main_fits = rw (length_marks (Stream i) first.slots, length_marks (Stream i) second.slots) main;
     }
+
+frame_joins : (d : Described) (first second : Planned) (i : ℕ) (s : DescribedStream) (f : Framing) → FollowingConditions d first second →
+    slice_get d.streams i ≡ Some s → s.framing ≡ Some f → (k : ℕ) → 0 < k → k < f.frames →
+    framed_across d.rate (declaration s) f (stream_share first i) (stream_share second i) k ≤ s.main
+frame_joins d first second i s f follows is some k one below =
+    let e : 1 + (k - 1) ≡ k = omega arith in
+    let all : Hold (entries_from (frame_switch_entry d first second i s f) 1 (f.frames - 1)) = rw some at (mains_join d first second i s follows is).1 in
+    at_most_holds MainSwitch k i (framed_across d.rate (declaration s) f (stream_share first i) (stream_share second i) k) s.main
+    (rw e at (holds_count (frame_switch_entry d first second i s f) 1 (f.frames - 1) (k - 1) (omega arith) all))
+
+frames_join : (d : Described) (first second : Planned) (i : ℕ) (s : DescribedStream) (f : Framing) → IsInRange d → FollowingConditions d first second →
+    slice_get d.streams i ≡ Some s → s.framing ≡ Some f →
+    FramedSwitchConditions d.rate (declaration s) f (share_of (claim_of first i) (marks (Stream i) first.slots)) (share_of (claim_of second i) (marks (Stream i) second.slots))
+frames_join d first second i s f ranges follows is some = record {
+  in_turn = (framing_ranges d i s f ranges is some).in_turn;
+  fits = λ k one below.
+      rw (length_marks (Stream i) first.slots, length_marks (Stream i) second.slots) (frame_joins d first second i s f follows is some k one below);
+}
 
 elementary_joins : (d : Described) (first second : Planned) (i : ℕ) (s : DescribedStream) (b : LeakingBuffer) → FollowingConditions d first second →
     slice_get d.streams i ≡ Some s → s.multiplexing ≡ Some b → (m : ℕ) → 0 < m → m ≤ allowance_rows s.allowance →
@@ -141,6 +170,12 @@ switch_law law d first second periods ranges serving switchable =
           (claim_of second i) (leak_claim_of second i) (marks (Stream i) second.slots) periods units
           (proper d i s ranges is) (proper_leak d i s b ranges is some) (video_holds d first i s b k is some) (video_holds d second i s b f.serves is some)
           (video_joins d first second i s b f is some) keeps);
+      frames = λ i s g packets is some cut keeps.
+          subst (λ (o : ℕ → Bool). FramesServed o d.rate (declaration s) g packets) (owned_over law first second periods (Stream i))
+          (λ n x left late. framed_law.two_plans d.rate (declaration s) g (claim_of first i) (marks (Stream i) first.slots)
+          (claim_of second i) (marks (Stream i) second.slots) periods packets n x left
+          (proper d i s ranges is) (stream_holds d first i s k is) (stream_holds d second i s f.serves is) (stream_joins d first second i s f is)
+          (frames_join d first second i s g ranges f is some) cut keeps late);
       programs = λ i lt. subst (λ (o : ℕ → Bool). ProgramServed o d.rate) (owned_over law first second periods (System i))
           (program_switch_law d.rate (program_claim_of first i) (marks (System i) first.slots) (program_claim_of second i) (marks (System i) second.slots) periods
           (omega (arith, ranges.least_rate)) (omega (arith, length_marks (System i) first.slots, k.shape.some_slots))

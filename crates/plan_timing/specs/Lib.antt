@@ -1,1 +1,2 @@
+pub mod FramesServed
 pub mod Promised

@@ -2,14 +2,14 @@
 
 ghost use Rattle.plan_timing.specs.Promised.{PlanLaw, SwitchLaw};
 
-/// A plan whose conditions hold, repeated for all time, keeps every promise of its description.
+/// States that a plan whose conditions hold, repeated for all time, keeps every promise of its description.
 pub fn accepted_plan()
     ensures { PlanLaw }
 {
     slot_plan::laws::own_slots();
 }
 
-/// So do two plans whose conditions hold by themselves and together, the first for any number of its periods, then the
+/// States the same for two plans whose conditions hold by themselves and together, the first for any number of its periods, then the
 /// second for all time.
 pub fn accepted_switch()
     ensures { SwitchLaw }

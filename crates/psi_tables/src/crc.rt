@@ -8,7 +8,7 @@ ghost use Rattle.psi_tables.specs.CheckWord.{after_byte, check_word};
 
 use crc_table::CRC_TABLE;
 
-/// The check word of a message. Over a section with its CRC_32 it is 0.
+/// Returns the check word of a message. Over a section with its CRC_32 it is 0.
 ///
 /// One look-up a byte; the definition takes the message bit by bit.
 #[tactic(auto, unfolding(crate::specs::CheckWord::check_word, crate::specs::CheckWord::after_bytes))]
@@ -22,7 +22,7 @@ pub fn check_word(bytes: &[u8]) -> u32
     register
 }
 
-/// The register after one byte more.
+/// Returns the register after one byte more.
 fn step(register: u32, byte: u8) -> u32
     ensures { result ≡ after_byte register byte }
 {
@@ -30,7 +30,7 @@ fn step(register: u32, byte: u8) -> u32
     register << 8 ^ crc_table_entry(high ^ byte)
 }
 
-/// The entry of the table for a byte.
+/// Returns the entry of the table for a byte.
 fn crc_table_entry(byte: u8) -> u32
     ensures { result ≡ after_byte 0 byte }
 {

@@ -1,5 +1,5 @@
-//! Loops of entries with descriptors: those of PMT, NIT, SDT and EIT. Each entry is a head of a fixed
-//! number of bytes, the last 12 bits of which are the number of descriptor bytes, and those bytes.
+//! Loops of entries with descriptors, as PMT, NIT, SDT and EIT have them. Each entry is a head of a fixed
+//! number of bytes, whose last 12 bits are the number of descriptor bytes, and the descriptor bytes.
 
 ghost use Rattle.std.specs.Prelude.{◌≡◌, ◌<◌, ◌≤◌, ◌+◌, [], ◌∷◌, length, option_map, is_some, true, false, IfSome};
 ghost use Rattle.std.specs.Prelude.{IfNone};
@@ -13,7 +13,7 @@ pub struct Entry<'a> {
     pub descriptors: &'a [u8],
 }
 
-/// The entry at the front of `bytes`, with a head of `head_length` bytes, and what follows it;
+/// Returns the entry at the front of `bytes`, with a head of `head_length` bytes, and what follows it;
 /// `None` where it does not fit.
 pub fn entry_at(head_length: usize, bytes: &[u8]) -> Option<(Entry<'_>, &[u8])>
     requires { 2 ≤ head_length }
@@ -72,7 +72,7 @@ fn descriptors_length(head: &[u8]) -> usize
     u16::from_be_bytes([high & 0x0f, low]) as usize
 }
 
-/// Whether bytes are whole entries to their end.
+/// Returns whether bytes are whole entries to their end.
 #[tactic(auto, using(crate::proofs::LoopParts::whole_none))]
 pub fn is_whole_loop(head_length: usize, bytes: &[u8]) -> bool
     requires { 2 ≤ head_length }

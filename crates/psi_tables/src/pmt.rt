@@ -119,7 +119,7 @@ impl Pmt<'_> {
         }
     }
 
-    /// The bytes of the section in a vector of their own.
+    /// Returns the bytes of the section in a vector of their own.
     pub fn write<A: Allocator>(&self, alloc: A) -> Result<Vec<u8, A>, WriteError>
         requires version { self.now.header.version_number < 32 }
         requires pcr_pid { self.now.pcr_pid < 8192 }
@@ -134,7 +134,7 @@ impl Pmt<'_> {
         to_vec(alloc, bytes.as_slice())
     }
 
-    /// The number of bytes of the body, where it has room under a section_length of 1,021.
+    /// Returns the number of bytes of the body, where it has room under a section_length of 1,021.
     #[tactic(auto, using(crate::proofs::StreamEncodings::length_pmt_body))]
     fn body_length(&self) -> Option<usize>
         ensures { MatchOption result (1012 < length (pmt_body (pmt_view self.now)))

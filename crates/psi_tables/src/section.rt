@@ -1,4 +1,4 @@
-//! The section: the unit in which a table is carried (ISO/IEC 13818-1, 2.4.4).
+//! The section: the unit that carries a table (ISO/IEC 13818-1, 2.4.4).
 
 ghost use Rattle.std.specs.Prelude.{◌≡◌, ◌+◌, ◌<◌, ◌≤◌, length, true, false, IfOk};
 ghost use Rattle.bit_fields.specs.Reading.{Gives};
@@ -17,7 +17,7 @@ use std::alloc::Allocator;
 /// The fields of the long form, section_syntax_indicator 1, after section_length.
 #[derive(Clone, Copy, PartialEq, Eq)]
 pub struct LongHeader {
-    /// What tells tables of one table_id apart: transport_stream_id, program_number, service_id ..
+    /// Distinguishes tables of one table_id: transport_stream_id, program_number, service_id ..
     pub table_id_extension: u16,
     /// 5 bits.
     pub version_number: u8,
@@ -28,7 +28,7 @@ pub struct LongHeader {
 }
 
 impl LongHeader {
-    /// The header of a table that is one section and in force now.
+    /// Returns the header of a table that is one section and in force now.
     pub fn single(table_id_extension: u16, version_number: u8) -> LongHeader
         ensures extension { result.table_id_extension ≡ table_id_extension }
         ensures version { result.version_number ≡ version_number }
@@ -46,7 +46,7 @@ impl LongHeader {
     }
 }
 
-/// The fields of a section but its length, which is that of the body.
+/// The fields of a section except its length, which is the body's length.
 #[derive(Clone, Copy, PartialEq, Eq)]
 pub struct SectionHeader {
     pub table_id: u8,
@@ -56,8 +56,8 @@ pub struct SectionHeader {
     pub long: Option<LongHeader>,
 }
 
-/// A section. Its body is a slice of the bytes that it was read from, or of those to be written:
-/// what follows the header and, in the long form, before CRC_32.
+/// A section. Its body is a slice of the bytes that were read, or of the bytes to write: all bytes
+/// after the header and, in the long form, before CRC_32.
 #[derive(Clone, Copy)]
 pub struct Section<'a> {
     pub header: SectionHeader,
@@ -127,7 +127,7 @@ impl<'a> Section<'a> {
         Ok(())
     }
 
-    /// The bytes of the section in a vector of their own.
+    /// Returns the bytes of the section in a vector of their own.
     pub fn write<A: Allocator>(&self, alloc: A) -> Result<Vec<u8, A>, WriteError>
         requires { HeaderFits self.now.header }
         ensures ok { IfOk result (λ bytes. bytes.items ≡ section_bytes (section_view self.now)) }

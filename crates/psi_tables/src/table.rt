@@ -7,7 +7,7 @@ ghost use Rattle.psi_tables.specs.Tables.{table_header_at};
 use crate::error::SectionError;
 use crate::section::{LongHeader, Section};
 
-/// The fields of the long form of a section with this table_id.
+/// Returns the fields of the long form of a section with this table_id.
 ///
 /// Refusals: `Syntax` for another table_id or the short form, then `Length` for a section_length over
 /// the greatest of the table.

@@ -14,7 +14,7 @@ use arrayvec::ArrayVec;
 use bit_fields::append;
 use std::alloc::{AllocError, Allocator};
 
-/// A vector of these bytes.
+/// Returns a vector of these bytes.
 pub fn to_vec<A: Allocator>(alloc: A, bytes: &[u8]) -> Result<Vec<u8, A>, WriteError>
     ensures ok { IfOk result (λ made. made.items ≡ bytes.now) }
     ensures memory { IfErr result (λ e. e ≡ WriteError.Memory) }
@@ -66,7 +66,7 @@ pub fn begin_section(out: &mut ArrayVec<u8, 4096>, header: SectionHeader, body_l
 }
 
 /// Ends a section: appends what follows the body, in the long form the check word over all
-/// that stands in `out`.
+/// bytes in `out`.
 #[tactic(auto, unfolding(crate::specs::Encoding::with_crc))]
 pub fn end_section(out: &mut ArrayVec<u8, 4096>, header: SectionHeader)
     requires { array_vec_len out.old + crc_length header.long ≤ 4096 }

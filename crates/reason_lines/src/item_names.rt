@@ -7,7 +7,7 @@ use description::{Description, ProgramDescription, StreamDescription, TableKind}
 use std::alloc::AllocError;
 use std::fmt::Write;
 
-/// Appends the name of a stream; a number that names nothing stands for itself.
+/// Appends the name of a stream; a number that names no stream is written as a number.
 #[tactic(auto, unfolding(crate::specs::ItemNames::name_of_stream))]
 pub fn write_name_of_stream(
     number: usize,
@@ -26,7 +26,7 @@ pub fn write_name_of_stream(
     }
 }
 
-/// Appends the name of a program; a place that has none stands for itself.
+/// Appends the name of a program; a place that names no program is written as a number.
 #[tactic(auto, unfolding(crate::specs::ItemNames::name_of_program))]
 pub fn write_name_of_program(
     place: usize,

@@ -1,4 +1,4 @@
-//! What is wrong with a description or with a plan for it, in words.
+//! The faults of a description or of a plan for it, in words.
 //!
 //! `item_names` names streams, programs and tables. `reasons` has a line for each number of a description that no plan can
 //! keep, with the least that would do (`specs/ReasonLines`); `conditions` a line for each condition that a plan does

@@ -11,7 +11,7 @@ use std::alloc::AllocError;
 /// The greatest value of `pcr_limit`, in ms.
 const GREATEST_PCR_LIMIT: u128 = 100;
 
-/// Appends what is said of a limit that is too small, with the least that would do and what asks for it.
+/// Appends the line of a limit that is too small, with the least limit that would do and what asks for it.
 pub fn write_pcr_limit(
     place: usize,
     program: &ProgramDescription,

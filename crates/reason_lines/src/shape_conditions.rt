@@ -1,4 +1,4 @@
-//! The lines for what is wrong with a plan's shape.
+//! The lines for the faults of a plan's shape.
 
 ghost use Rattle.std.specs.Prelude.{◌≡◌, ◌++◌, OnOk, string_bytes};
 ghost use Rattle.plan_checker.specs.Refusals.{entry_of};
@@ -88,7 +88,7 @@ fn write_program_claims(refusal: Refusal, text: &mut String) -> Result<(), Alloc
     )
 }
 
-/// Appends the line of what is wrong with a shape.
+/// Appends the line of a shape's fault.
 #[tactic(auto, unfolding(crate::specs::ConditionLines::shape_line))]
 pub fn write_shape(
     description: &Description,

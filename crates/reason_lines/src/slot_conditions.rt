@@ -13,7 +13,7 @@ use plan_checker::{Refusal, steady_time};
 use std::alloc::AllocError;
 use std::fmt::Write;
 
-/// Appends a claim that is less than what is counted.
+/// Appends a claim that is less than the counted number.
 pub fn write_claim(
     key: &str,
     claimed: u128,

@@ -26,7 +26,7 @@ pub enum StreamNumber {
     Main,
 }
 
-/// The key of a number.
+/// Returns the key of a number.
 #[tactic(auto, unfolding(crate::specs::ReasonLines::key_of))]
 pub fn key_of(number: StreamNumber) -> &'static str
     ensures { result.now ≡ spec.key_of number }
@@ -72,7 +72,7 @@ fn greatest_of(number: StreamNumber) -> u128
     }
 }
 
-/// By what units ask for slots and for a drain in the long run.
+/// Returns what makes units ask for slots and for a drain in the long run.
 #[tactic(auto, unfolding(crate::specs::ReasonLines::steady_cause))]
 pub fn steady_cause(allowance: Allowance) -> &'static str
     ensures { result.now ≡ spec.steady_cause allowance }

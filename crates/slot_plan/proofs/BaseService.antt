@@ -24,6 +24,7 @@ base_stream = record {
   allowance = Groups 1 4;
   shared_with = [];
   multiplexing = None;
+  framing = None;
 }
 
 abbrev pub base : Described

@@ -5,7 +5,7 @@ use Rattle.own_slots.specs.Extremes.{greatest}
 use Rattle.own_slots.specs.Work.{work_at}
 use Rattle.slot_plan.specs.declared.slot.Slot.{Slot}
 use Rattle.slot_plan.specs.declared.slot.Slot.TheVariants.{Stream, Pcr, Table, Null}
-use Rattle.slot_plan.specs.declared.condition.Condition.TheVariants.{Shape, PcrGap, Spread, StreamRate, TransportBuffer, StreamLead, MainBuffer, SystemBuffer, MultiplexingBuffer, ElementaryLead, LeadSwitch, ElementarySwitch}
+use Rattle.slot_plan.specs.declared.condition.Condition.TheVariants.{Shape, PcrGap, Spread, StreamRate, TransportBuffer, StreamLead, MainBuffer, SystemBuffer, MultiplexingBuffer, ElementaryLead, LeadSwitch, MainSwitch, ElementarySwitch}
 use Rattle.slot_plan.specs.Planned.{Planned, Certified}
 use Rattle.slot_plan.specs.Entries.{Entry, at_most, equal_counts, first_failing}
 use Rattle.slot_plan.specs.Conditions.{entries}
@@ -171,6 +171,28 @@ leak_not_claimed = refl
 late_by_the_leak : answer (leaking 1666 188) (claiming 0 282752000 base_slots) ≡ Some (at_most ElementaryLead 0 0 75173529600000000 75169920000000000)
 unfolding answer leaking with_stream claiming
 late_by_the_leak = refl
+
+-- two access units a unit, 1,080 units of 90 kHz after one another: when the first has been removed the other's 288 bytes are there, and
+-- two packets of the next unit, which may come 1,600 before it is due
+framed : ℕ → Described
+framed main = with_stream (record base_stream { main = main; framing = Some (record { frames = 2; frame = 1080; frame_size = 288 }) })
+
+removed_in_turn : answer (framed 656) base_plan ≡ None
+unfolding answer framed with_stream
+removed_in_turn = refl
+
+no_room_in_turn : answer (framed 655) base_plan ≡ Some (at_most MainBuffer 1 0 656 655)
+unfolding answer framed with_stream
+no_room_in_turn = refl
+
+-- across a switch the whole next unit may have come
+removed_across : switch_answer (framed 883) base_plan base_plan ≡ None
+unfolding switch_answer framed with_stream
+removed_across = refl
+
+no_room_across : switch_answer (framed 882) base_plan base_plan ≡ Some (at_most MainSwitch 1 0 883 882)
+unfolding switch_answer framed with_stream
+no_room_across = refl
 
 -- each slot one place later, the last one first
 turned : Planned

@@ -30,6 +30,13 @@ drained_declaration s drain = record {
 abbrev pub declaration : DescribedStream → Declaration
 declaration s = drained_declaration s s.rx
 
+-- the same where a unit may be sent so long before its decoding time
+abbrev pub with_lead : Declaration → ℕ → Declaration
+with_lead s lead = record s { lead = lead }
+
+abbrev pub led_declaration : DescribedStream → ℕ → Declaration
+led_declaration s lead = with_lead (declaration s) lead
+
 -- what a plan claims of stream number i, of program number i
 abbrev pub stream_claim : Planned → ℕ → StreamEntry
 stream_claim p i = slice_index_or p.certificate.streams i (record { spread = 0; start = 0; peak = 0; multiplexing = None })

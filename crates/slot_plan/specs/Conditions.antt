@@ -1,15 +1,17 @@
 -- The conditions under which a plan serves a service description: each compares two whole numbers. The first, code 1, is
 -- the shape of the plan; the others are asked only where it holds. Rates are in bits a second, a slot is 188 bytes.
-use Rattle.std.specs.Prelude.{◌≡◌, ℕ, zero, suc, ◌+◌, ◌*◌, ◌==◌, Bool, None, List, [], ◌∷◌, ◌++◌, Option, Some, length, is_none, if◌then◌else◌}
+use Rattle.std.specs.Prelude.{◌≡◌, ℕ, zero, suc, ◌+◌, ◌-◌, ◌*◌, ◌==◌, Bool, None, List, [], ◌∷◌, ◌++◌, Option, Some, length, is_none, if◌then◌else◌}
 use Rattle.clock27.specs.Units.{slot_ms_at_1bps}
 use Rattle.own_slots.specs.Period.{per_period}
 use Rattle.own_slots.specs.Gaps.{gap}
 use Rattle.own_slots.specs.Spread.{spread}
 use Rattle.own_slots.specs.Work.{most_before, most_after, work_left}
 use Rattle.unit_timing.specs.Buffers.{tb_size, system_tb_drain, bsys_size, bsys_drain}
+use Rattle.unit_timing.specs.declared.framing.Framing.{Framing}
 use Rattle.unit_timing.specs.declared.multiplexing_buffer.MultiplexingBuffer.{MultiplexingBuffer as LeakingBuffer}
 use Rattle.unit_timing.specs.Allowances.{allowance_rows}
 use Rattle.unit_timing.specs.Conditions.{Share, rate_needed, rate_given, lead_needed, time_given, bytes_waiting}
+use Rattle.unit_timing.specs.AccessUnits.{framed_waiting}
 use Rattle.description.specs.Described.{Described, DescribedProgram, DescribedStream}
 use Rattle.description.specs.Tables.{table_kinds, table_count, table_limit, round_packets}
 use Rattle.slot_plan.specs.declared.slot.Slot.{Slot}
@@ -124,6 +126,16 @@ entries_from f m (suc n) = f m ∷ entries_from f (suc m) n
 abbrev pub main_buffer_entry : Described → Planned → ℕ → DescribedStream → Entry
 main_buffer_entry d p i s = at_most MainBuffer 0 i (bytes_waiting d.rate (declaration s) (stream_share p i)) s.main
 
+-- code 8, part i of a stream whose units are PES packets of several access units (ISO/IEC 13818-1, 2.4.2.3): when i of a unit
+-- have been removed, the others and what can have come of later units find room in the main buffer. i is 1 to frames - 1; a
+-- stream without these keys is asked part 0 alone
+abbrev pub frame_entry : Described → Planned → ℕ → DescribedStream → Framing → ℕ → Entry
+frame_entry d p number s f i = at_most MainBuffer i number (framed_waiting d.rate (declaration s) f (stream_share p number) i) s.main
+
+abbrev pub frame_entries : Described → Planned → ℕ → DescribedStream → Option Framing → List Entry
+frame_entries d p number s None = []
+frame_entries d p number s (Some f) = entries_from (frame_entry d p number s f) 1 (f.frames - 1)
+
 -- code 9: a program's system buffer, of 1,536 bytes and drained at 80,000 bits a second
 abbrev pub system_buffer_entries : Described → Planned → ℕ → List Entry
 system_buffer_entries d p i = let claim = program_claim p i in
@@ -167,7 +179,7 @@ abbrev pub stream_leads : Described → Planned → List Entry
 stream_leads d p = numbered (λ i s. entries_from (stream_lead_entry d p i s) 1 (allowance_rows s.allowance)) 0 d.streams
 
 abbrev pub main_buffers : Described → Planned → List Entry
-main_buffers d p = numbered (λ i s. main_buffer_entry d p i s ∷ []) 0 d.streams
+main_buffers d p = numbered (λ i s. main_buffer_entry d p i s ∷ frame_entries d p i s s.framing) 0 d.streams
 
 abbrev pub system_buffers : Described → Planned → List Entry
 system_buffers d p = numbered (λ i _. system_buffer_entries d p i) 0 d.programs

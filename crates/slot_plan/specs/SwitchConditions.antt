@@ -7,9 +7,11 @@ use Rattle.own_slots.specs.Extremes.{greatest}
 use Rattle.own_slots.specs.Work.{work_left}
 use Rattle.own_slots.specs.Switch.{shift}
 use Rattle.unit_timing.specs.Buffers.{system_tb_drain, bsys_drain}
+use Rattle.unit_timing.specs.declared.framing.Framing.{Framing}
 use Rattle.unit_timing.specs.declared.multiplexing_buffer.MultiplexingBuffer.{MultiplexingBuffer as LeakingBuffer}
 use Rattle.unit_timing.specs.Allowances.{allowance_rows}
 use Rattle.unit_timing.specs.Conditions.{Share, lead_across, time_given, bytes_across}
+use Rattle.unit_timing.specs.AccessUnits.{framed_across}
 use Rattle.description.specs.Described.{Described, DescribedProgram, DescribedStream}
 use Rattle.description.specs.Tables.{table_kinds, table_limit, round_packets}
 use Rattle.slot_plan.specs.declared.slot.Item.TheVariants.{Stream as StreamItem, Pcr as PcrItem, Table as TableItem, System}
@@ -78,6 +80,15 @@ abbrev pub main_switch_entry : Described → Planned → Planned → ℕ → Des
 main_switch_entry d first second i s =
     at_most MainSwitch 0 i (bytes_across d.rate (declaration s) (stream_share first i) (stream_share second i)) s.main
 
+-- code 16, part i: it does when i access units of a unit have been removed, for i from 1 to frames - 1
+abbrev pub frame_switch_entry : Described → Planned → Planned → ℕ → DescribedStream → Framing → ℕ → Entry
+frame_switch_entry d first second number s f i =
+    at_most MainSwitch i number (framed_across d.rate (declaration s) f (stream_share first number) (stream_share second number) i) s.main
+
+abbrev pub frame_switch_entries : Described → Planned → Planned → ℕ → DescribedStream → Option Framing → List Entry
+frame_switch_entries d first second number s None = []
+frame_switch_entries d first second number s (Some f) = entries_from (frame_switch_entry d first second number s f) 1 (f.frames - 1)
+
 -- code 17: the last of m units in a row, sent across the switch, has left the multiplexing buffer by its decoding time
 abbrev pub elementary_switch_entry : Described → Planned → Planned → ℕ → DescribedStream → LeakingBuffer → ℕ → Entry
 elementary_switch_entry d first second i s b =
@@ -110,7 +121,7 @@ abbrev pub lead_switches : Described → Planned → Planned → List Entry
 lead_switches d first second = numbered (λ i s. entries_from (lead_switch_entry d first second i s) 1 (allowance_rows s.allowance)) 0 d.streams
 
 abbrev pub main_switches : Described → Planned → Planned → List Entry
-main_switches d first second = numbered (λ i s. main_switch_entry d first second i s ∷ []) 0 d.streams
+main_switches d first second = numbered (λ i s. main_switch_entry d first second i s ∷ frame_switch_entries d first second i s s.framing) 0 d.streams
 
 abbrev pub elementary_switches : Described → Planned → Planned → List Entry
 elementary_switches d first second = numbered (λ i s. elementary_switch_entries d first second i s s.multiplexing) 0 d.streams

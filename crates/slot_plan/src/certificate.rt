@@ -10,7 +10,7 @@ pub const MAX_ENTRIES: u32 = 256;
 /// buffer: in units of 8 / (rate * rate of the leak) seconds.
 #[derive(Clone, Copy, PartialEq, Eq)]
 pub struct MultiplexingEntry {
-    /// The most work with which a period begins.
+    /// The most work at the begin of a period.
     pub start: u64,
     /// The most work right after an own slot.
     pub peak: u64,
@@ -22,11 +22,11 @@ pub struct MultiplexingEntry {
 pub struct StreamEntry {
     /// The most that the own slots stray from even spacing.
     pub spread: u64,
-    /// The most work with which a period begins.
+    /// The most work at the begin of a period.
     pub start: u64,
     /// The most work right after an own slot.
     pub peak: u64,
-    /// What is claimed of its multiplexing buffer, if anything is; no claim counts as one of no work.
+    /// The claims about its multiplexing buffer, if there are any; no claim means no work.
     pub multiplexing: Option<MultiplexingEntry>,
 }
 
@@ -34,11 +34,11 @@ pub struct StreamEntry {
 /// in work as for a stream.
 #[derive(Clone, Copy, PartialEq, Eq)]
 pub struct ProgramEntry {
-    /// The most work of the transport buffer with which a period begins.
+    /// The most work of the transport buffer at the begin of a period.
     pub transport_start: u64,
     /// The most work of the transport buffer right after an own slot.
     pub transport_peak: u64,
-    /// The most work of the system buffer with which a period begins.
+    /// The most work of the system buffer at the begin of a period.
     pub system_start: u64,
     /// The most work of the system buffer right after an own slot.
     pub system_peak: u64,

@@ -3,7 +3,7 @@
 ghost use Rattle.std.specs.Prelude.{◌≡◌};
 ghost use Rattle.slot_plan.specs.Entries.{code_of};
 
-/// What a plan has to keep. The last six are those of a second plan after a first one.
+/// What a plan has to keep. The last six are conditions of a second plan after a first plan.
 #[derive(Clone, Copy, Debug, PartialEq, Eq)]
 pub enum Condition {
     /// The period's length, the items that its slots name, the items that have slots, the entries of the certificate.
@@ -43,7 +43,7 @@ pub enum Condition {
 }
 
 impl Condition {
-    /// The number of the condition, 1 to 17.
+    /// Returns the number of the condition, 1 to 17.
     pub fn code(self) -> u8
         ensures { result ≡ code_of self }
     {

@@ -8,7 +8,7 @@ use crate::certificate::{MultiplexingEntry, ProgramEntry, StreamEntry};
 use crate::slot::Slot;
 use text_words::{after_number, after_word, field_at, number_before};
 
-/// A slot, and the text after the byte that ends it.
+/// Returns a slot, and the text after the byte that ends it.
 pub fn slot_at(ending: u8, text: &[u8]) -> Option<(Slot, &[u8])>
     ensures { option_map (λ read. (read.0, read.1.now)) result ≡ slot_at ending text.now }
 {
@@ -22,7 +22,7 @@ pub fn slot_at(ending: u8, text: &[u8]) -> Option<(Slot, &[u8])>
     Some((slot, rest))
 }
 
-/// The slot of that letter and number.
+/// Returns the slot of that letter and number.
 fn slot_of_letter(letter: u8, number: u8) -> Option<Slot>
     ensures { result ≡ slot_of_letter letter number }
 {
@@ -34,7 +34,7 @@ fn slot_of_letter(letter: u8, number: u8) -> Option<Slot>
     }
 }
 
-/// The claim on a multiplexing buffer that ends a line, and the text after it.
+/// Returns the claim on a multiplexing buffer that ends a line, and the text after it.
 fn multiplexing_at(text: &[u8]) -> Option<(MultiplexingEntry, &[u8])>
     ensures { option_map (λ read. (read.0, read.1.now)) result ≡ multiplexing_at text.now }
 {
@@ -43,8 +43,8 @@ fn multiplexing_at(text: &[u8]) -> Option<(MultiplexingEntry, &[u8])>
     Some((MultiplexingEntry { start, peak }, rest))
 }
 
-/// The peak of a transport buffer and the claim on a multiplexing buffer, if there is one, that end a line, and the text
-/// after it.
+/// Returns the peak of a transport buffer and the claim on a multiplexing buffer, if there is one, that end a line, and
+/// the text after it.
 fn peaks_at(text: &[u8]) -> Option<((u64, Option<MultiplexingEntry>), &[u8])>
     ensures { option_map (λ read. (read.0, read.1.now)) result ≡ peaks_at text.now }
 {
@@ -56,7 +56,7 @@ fn peaks_at(text: &[u8]) -> Option<((u64, Option<MultiplexingEntry>), &[u8])>
     Some(((peak, Some(multiplexing)), rest))
 }
 
-/// The line of a stream's entry, and the text after it.
+/// Returns the line of a stream's entry, and the text after it.
 pub fn stream_at(number: u64, text: &[u8]) -> Option<(StreamEntry, &[u8])>
     ensures { option_map (λ read. (read.0, read.1.now)) result ≡ stream_at number text.now }
 {
@@ -75,7 +75,7 @@ pub fn stream_at(number: u64, text: &[u8]) -> Option<(StreamEntry, &[u8])>
     ))
 }
 
-/// The line of a program's entry, and the text after it.
+/// Returns the line of a program's entry, and the text after it.
 pub fn program_at(number: u64, text: &[u8]) -> Option<(ProgramEntry, &[u8])>
     ensures { option_map (λ read. (read.0, read.1.now)) result ≡ program_at number text.now }
 {

@@ -6,7 +6,7 @@
 //! - [`Plan`]: slots and certificate; their text, written and read.
 //! - [`Condition`]: what a plan has to keep; `specs/Conditions` and `specs/SwitchConditions` say it in numbers.
 //! - [`laws`]: the plan's text is its only one; the own slots over a run.
-//! - [`serving_plans`]: what is known of a plan that serves a description.
+//! - [`serving_plans`]: facts about a plan that serves a description.
 #![tactic(auto)]
 
 mod certificate;

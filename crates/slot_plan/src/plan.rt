@@ -48,7 +48,7 @@ impl<A: Allocator> Model for Plan<A> {
 }
 
 impl<A: Allocator> Plan<A> {
-    /// A plan of these slots with this certificate, or the reason against it.
+    /// Returns a plan of these slots with this certificate, or the reason against it.
     pub fn new(
         slots: Vec<Slot, A>,
         certificate: Certificate<A>,
@@ -63,7 +63,7 @@ impl<A: Allocator> Plan<A> {
         }
     }
 
-    /// The slots of the period, in order.
+    /// Returns the slots of the period, in order.
     pub fn slots(&self) -> &[Slot]
         ensures slots { result.now ≡ self.now.slots }
         ensures within { plan_error self.now.slots self.now.certificate ≡ None }
@@ -71,7 +71,7 @@ impl<A: Allocator> Plan<A> {
         self.slots.as_slice()
     }
 
-    /// What the plan claims of its buffers.
+    /// Returns what the plan claims of its buffers.
     pub fn certificate(&self) -> &Certificate<A>
         ensures certificate { result.now ≡ self.now.certificate }
         ensures within { plan_error self.now.slots self.now.certificate ≡ None }
@@ -79,7 +79,7 @@ impl<A: Allocator> Plan<A> {
         &self.certificate
     }
 
-    /// The plan's one text.
+    /// Returns the plan's one text.
     pub fn write_text<B: Allocator>(&self, alloc: B) -> Result<String<B>, AllocError>
         ensures { IfOk result (λ text. string_bytes text ≡ plan_text self.now) }
     {
@@ -94,8 +94,8 @@ impl<A: Allocator> Plan<A> {
 }
 
 impl<A: Allocator + Clone> Plan<A> {
-    /// The plan whose text is at the front, and the number of bytes of its text; what comes after it is not looked at.
-    /// Else the number of the first line that is not as it must be, from 1; where the text ends too soon, of the line
+    /// Returns the plan whose text is at the front, and the number of bytes of its text; later bytes are ignored.
+    /// Otherwise returns the number of the first wrong line, from 1; if the text ends too soon, the number of the line
     /// that is missing or cut.
     pub fn read_text(alloc: A, text: &[u8]) -> Result<(Plan<A>, usize), PlanTextError>
         ensures read { IfOk result (λ read. BeginsWithPlan text.now read.0 read.1) }
@@ -123,7 +123,7 @@ fn error_of<A: Allocator>(slots: &Vec<Slot, A>, certificate: &Certificate<A>) ->
     }
 }
 
-/// Whether each number of the certificate is below 10^18.
+/// Returns whether each number of the certificate is below 10^18.
 fn has_small_numbers<A: Allocator>(certificate: &Certificate<A>) -> bool
     ensures { result ≡ has_small_numbers certificate.now }
 {

@@ -24,7 +24,7 @@ pub enum PlanTextError {
     Memory,
 }
 
-/// What ends slot number `index` of a period.
+/// Returns what ends slot number `index` of a period.
 fn slot_ending(period: u32, index: u32) -> u8
     requires { index < period }
     ensures { result ≡ slot_ending period index }
@@ -36,7 +36,7 @@ fn slot_ending(period: u32, index: u32) -> u8
     }
 }
 
-/// The slots of a period, and the text after them.
+/// Returns the slots of a period, and the text after them.
 pub fn slots_at<A: Allocator>(
     alloc: A,
     period: u32,
@@ -59,7 +59,7 @@ pub fn slots_at<A: Allocator>(
     Ok((slots, rest))
 }
 
-/// Whether a text begins with that letter.
+/// Returns whether a text begins with that letter.
 fn begins_with(letter: u8, text: &[u8]) -> bool
     ensures { result ≡ begins_with letter text.now }
 {
@@ -69,7 +69,7 @@ fn begins_with(letter: u8, text: &[u8]) -> bool
     }
 }
 
-/// The entries of streams, the first of them on that line, and the text after them.
+/// Returns the entries of streams, the first of them on that line, and the text after them.
 pub fn streams_at<A: Allocator>(
     alloc: A,
     line: u32,
@@ -96,7 +96,7 @@ pub fn streams_at<A: Allocator>(
     Ok((entries, rest))
 }
 
-/// The entries of programs, in the same way.
+/// Returns the entries of programs, in the same way.
 pub fn programs_at<A: Allocator>(
     alloc: A,
     line: u32,
@@ -123,7 +123,7 @@ pub fn programs_at<A: Allocator>(
     Ok((entries, rest))
 }
 
-/// The entries after the slots, the first of them on that line, and the text after them.
+/// Returns the entries after the slots, the first of them on that line, and the text after them.
 fn certificate_at<A: Allocator + Clone>(
     alloc: A,
     line: u32,
@@ -145,7 +145,7 @@ fn certificate_at<A: Allocator + Clone>(
     Ok((Certificate { streams, programs }, rest))
 }
 
-/// `period N`, and the text after its line.
+/// Returns `period N`, and the text after its line.
 fn period_at(text: &[u8]) -> Option<(u32, &[u8])>
     ensures read { option_map (λ read. (read.0, read.1.now)) result ≡ period_at text.now }
     ensures bound { IfSome result (λ read. read.0 ≤ 99999) }
@@ -158,7 +158,7 @@ fn period_at(text: &[u8]) -> Option<(u32, &[u8])>
     }
 }
 
-/// The slots and the certificate of the plan whose text is at the front, and the text after it.
+/// Returns the slots and the certificate of the plan whose text is at the front, and the text after it.
 pub fn plan_at<A: Allocator + Clone>(
     alloc: A,
     text: &[u8],

@@ -28,7 +28,7 @@ pub enum Item {
 }
 
 impl Item {
-    /// Whether the slot is one of the item's own.
+    /// Returns whether the slot is the item's own.
     pub fn owns(self, slot: Slot) -> bool
         ensures { result ≡ is_own self slot }
     {

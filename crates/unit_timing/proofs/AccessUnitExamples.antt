@@ -3,7 +3,8 @@ use Rattle.std.proofs.Common.{◌≡◌, List, [], ◌∷◌, replicate, refl}
 use Rattle.unit_timing.specs.declared.allowance.Allowance.TheVariants.{Pace}
 use Rattle.unit_timing.specs.Plans.{Declaration}
 use Rattle.unit_timing.specs.Conditions.{Share, bytes_waiting}
-use Rattle.unit_timing.specs.AccessUnits.{FramedPacket, Framing, access_units_held, framed_fullness, framed_waiting}
+use Rattle.unit_timing.specs.declared.framing.Framing.{Framing}
+use Rattle.unit_timing.specs.AccessUnits.{FramedPacket, access_units_held, framed_fullness, framed_waiting}
 
 -- ---- a packet of three access units, 100 units of 90 kHz after one another, of which the first is due at 1,600. All its bytes
 -- are there at 1,599; at 1,600 the first is removed, at 1,700 the second, at 1,800 the last
@@ -36,7 +37,7 @@ sound : Declaration
 sound = record { interval = 10800; lead = 10800; drain = 2000000; main = 3584; largest = 2894; unit_packets = 16; allowance = Pace 16 1500000 }
 
 five : Framing
-five = record { most = 5; largest = 576; apart = 2160 }
+five = record { frames = 5; frame = 2160; frame_size = 576 }
 
 most_slots : Share
 most_slots = record { count = 109; period = 120; spread = 0; peak = 0 }

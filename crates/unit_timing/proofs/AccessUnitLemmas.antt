@@ -17,7 +17,8 @@ use Rattle.unit_timing.specs.MainBuffer.{is_in_main_buffer, mb_fullness}
 use Rattle.unit_timing.specs.Plans.{Declaration, KeepsDeclaration, run_packets}
 use Rattle.unit_timing.specs.Conditions.{share_of, waiting_slots, bytes_waiting, bytes_across}
 use Rattle.unit_timing.specs.PlanLaws.{in_turn}
-use Rattle.unit_timing.specs.AccessUnits.{FramedPacket, Framing, KeepsFraming, access_units_held, framed_fullness, packets_of, ahead_of, led, FramedLaw}
+use Rattle.unit_timing.specs.declared.framing.Framing.{Framing}
+use Rattle.unit_timing.specs.AccessUnits.{FramedPacket, KeepsFraming, access_units_held, framed_fullness, packets_of, ahead_of, led, FramedLaw}
 use Rattle.unit_timing.proofs.MainBufferBytes.{kept, kept-append, kept_le, kept_after}
 use Rattle.unit_timing.proofs.MainBufferBySlots.{by_slots}
 use Rattle.unit_timing.proofs.EarlierStamps.{advanced, advanced_none, advanced_slots, shorter, keeps_shorter, proper_shorter}
@@ -137,7 +138,7 @@ none_due rate r x apart interval from less (p ∷ packets) left spaced lt =
 -- what bounds the bytes that wait while i access units of a packet have been removed
 record Waiting (rate r x interval main : ℕ) (f : Framing) (ahead : ℕ → ℕ) (packets : List FramedPacket) (left : List ℕ) : Type 0 where
   none : mb_fullness rate r x (advanced 0 (packets_of packets)) left ≤ main
-  some : (i : ℕ) → 0 < i → i < f.most → (f.most - i) * f.largest + mb_fullness rate r x (advanced (ahead i) (packets_of packets)) left ≤ main
+  some : (i : ℕ) → 0 < i → i < f.frames → (f.frames - i) * f.frame_size + mb_fullness rate r x (advanced (ahead i) (packets_of packets)) left ≤ main
 
 waiting_rest : (rate r x interval main : ℕ) (f : Framing) (ahead : ℕ → ℕ) (p : FramedPacket) (packets : List FramedPacket) (left : List ℕ) →
     Waiting rate r x interval main f ahead (p ∷ packets) left → Waiting rate r x interval main f ahead packets (drop p.packet.size left)
@@ -178,61 +179,61 @@ none_left : (held most i largest : ℕ) → held ≤ (most - i) * largest → i 
 none_left held most i largest le e = let z : most - i ≡ 0 = omega (arith, e) in omega (arith, rw z at le)
 
 -- a packet that is due, and the packets after it; where the next one is due too, these alone count
-one_due : (rate r x interval main held : ℕ) (f : Framing) (ahead : ℕ → ℕ) → (f.most - 1) * f.apart ≤ interval → ((i : ℕ) → ahead i ≤ interval - i * f.apart) →
+one_due : (rate r x interval main held : ℕ) (f : Framing) (ahead : ℕ → ℕ) → (f.frames - 1) * f.frame ≤ interval → ((i : ℕ) → ahead i ≤ interval - i * f.frame) →
     (p : FramedPacket) (packets : List FramedPacket) (left : List ℕ) → Spaced interval (p.packet.dts + interval) (packets_of packets) →
     Waiting rate r x interval main f ahead (p ∷ packets) left → p.packet.dts * rate * r ≤ x * 720000 →
-    Removed rate r x f.apart p.packet.dts f.most held f.largest → framed_fullness rate r x f.apart packets (drop p.packet.size left) ≤ main →
-    held + framed_fullness rate r x f.apart packets (drop p.packet.size left) ≤ main
+    Removed rate r x f.frame p.packet.dts f.frames held f.frame_size → framed_fullness rate r x f.frame packets (drop p.packet.size left) ≤ main →
+    held + framed_fullness rate r x f.frame packets (drop p.packet.size left) ≤ main
 unfolding framed_fullness Spaced
 one_due rate r x interval main held f ahead short near p [] left spaced w due gone fits = elim gone.before [
-  | inl all ↦ omega (arith, none_left held f.most gone.i f.largest gone.others all)
-  | inr lt ↦ elim (cases_lt gone.i f.most) [
-    | inl some ↦ omega (arith, gone.others, w.some gone.i (pos_removed x p.packet.dts gone.i f.apart rate r due lt) some)
-    | inr over ↦ omega (arith, none_left held f.most gone.i f.largest gone.others (omega (arith, over, gone.within)))
+  | inl all ↦ omega (arith, none_left held f.frames gone.i f.frame_size gone.others all)
+  | inr lt ↦ elim (cases_lt gone.i f.frames) [
+    | inl some ↦ omega (arith, gone.others, w.some gone.i (pos_removed x p.packet.dts gone.i f.frame rate r due lt) some)
+    | inr over ↦ omega (arith, none_left held f.frames gone.i f.frame_size gone.others (omega (arith, over, gone.within)))
   ]
 ]
 one_due rate r x interval main held f ahead short near p (q ∷ packets) left spaced w due gone fits =
     elim (cases_lt (x * 720000) (q.packet.dts * rate * r)) [
       | inr next_due ↦
-          let all = all_removed x p.packet.dts q.packet.dts interval f.most gone.i f.apart rate r next_due spaced.0 short gone.within gone.before in
-          omega (arith, none_left held f.most gone.i f.largest gone.others all, fits)
-      | inl next ↦ elim (cases_lt gone.i f.most) [
+          let all = all_removed x p.packet.dts q.packet.dts interval f.frames gone.i f.frame rate r next_due spaced.0 short gone.within gone.before in
+          omega (arith, none_left held f.frames gone.i f.frame_size gone.others all, fits)
+      | inl next ↦ elim (cases_lt gone.i f.frames) [
         | inl some ↦ elim gone.before [
           | inl all ↦ absurd (omega (arith, all, some))
           | inr lt ↦
               let i = gone.i in
-              let before = still_before x p.packet.dts q.packet.dts interval (ahead i) i f.apart rate r lt spaced.0
-              (few_apart i f.most f.apart interval some short) (near i) in
-              let rest = none_due rate r x f.apart interval q.packet.dts (ahead i) (q ∷ packets) (drop p.packet.size left)
+              let before = still_before x p.packet.dts q.packet.dts interval (ahead i) i f.frame rate r lt spaced.0
+              (few_apart i f.frames f.frame interval some short) (near i) in
+              let rest = none_due rate r x f.frame interval q.packet.dts (ahead i) (q ∷ packets) (drop p.packet.size left)
               (unfold Spaced in (omega arith, spaced.1)) before in
               let whole = mb_rest rate r x (record { dts = p.packet.dts - ahead i; size = p.packet.size })
               (advanced (ahead i) (packets_of (q ∷ packets))) left in
-              le_trans (both held (framed_fullness rate r x f.apart (q ∷ packets) (drop p.packet.size left)) _ _ gone.others rest)
-              (omega (arith, whole, w.some i (pos_removed x p.packet.dts i f.apart rate r due lt) some))
+              le_trans (both held (framed_fullness rate r x f.frame (q ∷ packets) (drop p.packet.size left)) _ _ gone.others rest)
+              (omega (arith, whole, w.some i (pos_removed x p.packet.dts i f.frame rate r due lt) some))
         ]
         | inr over ↦
-            let all : gone.i ≡ f.most = omega (arith, over, gone.within) in
-            omega (arith, none_left held f.most gone.i f.largest gone.others all, fits)
+            let all : gone.i ≡ f.frames = omega (arith, over, gone.within) in
+            omega (arith, none_left held f.frames gone.i f.frame_size gone.others all, fits)
       ]
     ]
   where
     both : (a b c d : ℕ) → a ≤ c → b ≤ d → a + b ≤ c + d
     both a b c d le le' = omega (arith, le, le')
 
-fits_all : (rate r x interval main : ℕ) (f : Framing) (ahead : ℕ → ℕ) → (f.most - 1) * f.apart ≤ interval → ((i : ℕ) → ahead i ≤ interval - i * f.apart) →
+fits_all : (rate r x interval main : ℕ) (f : Framing) (ahead : ℕ → ℕ) → (f.frames - 1) * f.frame ≤ interval → ((i : ℕ) → ahead i ≤ interval - i * f.frame) →
     (packets : List FramedPacket) (from : ℕ) (left : List ℕ) → All (KeepsFraming f) packets → Spaced interval from (packets_of packets) →
-    Waiting rate r x interval main f ahead packets left → framed_fullness rate r x f.apart packets left ≤ main
+    Waiting rate r x interval main f ahead packets left → framed_fullness rate r x f.frame packets left ≤ main
 unfolding framed_fullness Spaced
 fits_all rate r x interval main f ahead short near [] from left keeps spaced w = omega arith
 fits_all rate r x interval main f ahead short near (p ∷ packets) from left keeps spaced w = elim (cases_lt (x * 720000) (p.packet.dts * rate * r)) [
   | inl before ↦
       let e : p.packet.dts - 0 ≡ p.packet.dts = omega arith in
-      le_trans (unfold framed_fullness in none_due rate r x f.apart interval p.packet.dts 0 (p ∷ packets) left (omega arith, spaced.1) (rw e before)) w.none
+      le_trans (unfold framed_fullness in none_due rate r x f.frame interval p.packet.dts 0 (p ∷ packets) left (omega arith, spaced.1) (rw e before)) w.none
   | inr due ↦
       let here : KeepsFraming f p = All-head (KeepsFraming f) p packets keeps in
       let taken = take p.packet.size left in
-      one_due rate r x interval main (access_units_held rate r x f.apart p.packet.dts p.access_units taken) f ahead short near p packets left spaced.1 w due
-      (removed_due rate r x f.apart p.packet.dts f.most f.largest p.access_units taken due here.few here.small)
+      one_due rate r x interval main (access_units_held rate r x f.frame p.packet.dts p.access_units taken) f ahead short near p packets left spaced.1 w due
+      (removed_due rate r x f.frame p.packet.dts f.frames f.frame_size p.access_units taken due here.few here.small)
       (fits_all rate r x interval main f ahead short near packets (p.packet.dts + interval) (drop p.packet.size left)
       (All-tail (KeepsFraming f) p packets keeps) spaced.1 (waiting_rest rate r x interval main f ahead p packets left w))
 ]
@@ -240,13 +241,13 @@ fits_all rate r x interval main f ahead short near (p ∷ packets) from left kee
 -- ---- one plan, and two in turn
 
 framed_fits : (own : ℕ → Bool) (rate : ℕ) (s : Declaration) (f : Framing) (packets : List FramedPacket) (n x : ℕ) (left : List ℕ) (most : ℕ → ℕ) →
-    (f.most - 1) * f.apart ≤ s.interval →
-    ((i : ℕ) → 0 < i → i < f.most → (f.most - i) * f.largest + cond (nat_lt (ahead_of s f i) s.lead) (most (ahead_of s f i)) 0 ≤ s.main) →
+    (f.frames - 1) * f.frame ≤ s.interval →
+    ((i : ℕ) → 0 < i → i < f.frames → (f.frames - i) * f.frame_size + cond (nat_lt (ahead_of s f i) s.lead) (most (ahead_of s f i)) 0 ≤ s.main) →
     All (KeepsFraming f) packets → KeepsDeclaration s (packets_of packets) → NoneLeavesEarly s.drain (run_packets own rate s (packets_of packets) n) left →
     mb_fullness rate s.drain x (packets_of packets) left ≤ s.main →
     ((less : ℕ) → less < s.lead → NoneLeavesEarly s.drain (run_packets own rate (led s less) (advanced less (packets_of packets)) n) left →
     mb_fullness rate s.drain x (advanced less (packets_of packets)) left ≤ most less) →
-    framed_fullness rate s.drain x f.apart packets left ≤ s.main
+    framed_fullness rate s.drain x f.frame packets left ≤ s.main
 framed_fits own rate s f packets n x left most short fits framed keeps late plain fewer =
     fits_all rate s.drain x s.interval s.main f (ahead_of s f) short (λ i. omega arith) packets s.lead left framed keeps.spaced
     (record { none = rw (advanced_none (packets_of packets)) plain; some = waits })
@@ -261,7 +262,7 @@ framed_fits own rate s f packets n x left most short fits framed keeps late plai
     none_own : AtMostPerWindow own 0 0
     none_own t = let e : t + 0 ≡ t = omega arith in rw e (omega arith)
 
-    waits : (i : ℕ) → 0 < i → i < f.most → (f.most - i) * f.largest + mb_fullness rate s.drain x (advanced (ahead_of s f i) units) left ≤ s.main
+    waits : (i : ℕ) → 0 < i → i < f.frames → (f.frames - i) * f.frame_size + mb_fullness rate s.drain x (advanced (ahead_of s f i) units) left ≤ s.main
     waits i pos lt =
         let a = ahead_of s f i in
         let within : ahead_of s f i ≤ s.lead = omega arith in

@@ -3,6 +3,7 @@
 -- after the one before (ISO/IEC 13818-1, 2.4.2.3).
 use Rattle.std.specs.Prelude.{ℕ, ◌+◌, ◌-◌, ◌*◌, ◌<◌, ◌≤◌, min, Bool, cond, nat_lt, List, [], ◌∷◌, length, take, drop, map, count_by, All}
 use Rattle.own_slots.specs.Period.{own}
+use Rattle.unit_timing.specs.declared.framing.Framing.{Framing}
 use Rattle.unit_timing.specs.PesPacket.{PesPacket}
 use Rattle.unit_timing.specs.Transport.{NoneLeavesEarly}
 use Rattle.unit_timing.specs.MainBuffer.{is_in_main_buffer}
@@ -32,23 +33,17 @@ framed_fullness rate r x apart (p ∷ packets) left =
 abbrev pub packets_of : List FramedPacket → List PesPacket
 packets_of packets = map (λ p. p.packet) packets
 
--- what is declared of the access units: at most so many in a packet, each but the first, which has the header too, of at most
--- so many bytes, and so many units of 90 kHz from one to the next
-pub record Framing : Type 0 where
-  pub most : ℕ
-  pub largest : ℕ
-  pub apart : ℕ
-
--- a packet within that
+-- a packet within what is declared of its access units: at most so many, and each but the first, which has the header too, of at
+-- most so many bytes
 pub record KeepsFraming (f : Framing) (p : FramedPacket) : Type 0 where
-  pub few : length p.access_units ≤ f.most
-  pub small : All (λ size. size ≤ f.largest) (drop 1 p.access_units)
+  pub few : length p.access_units ≤ f.frames
+  pub small : All (λ size. size ≤ f.frame_size) (drop 1 p.access_units)
 
 -- ---- what waits when i access units of a packet have been removed
 
 -- the next packet is due an interval after the packet, and so at least this long after the moment
 abbrev pub ahead_of : Declaration → Framing → ℕ → ℕ
-ahead_of s f i = min (s.interval - i * f.apart) s.lead
+ahead_of s f i = min (s.interval - i * f.frame) s.lead
 
 -- the declaration with a lead that is so much shorter
 abbrev pub led : Declaration → ℕ → Declaration
@@ -57,23 +52,23 @@ led s less = record s { lead = s.lead - less }
 -- the bytes of the packet's other access units, and those of later packets, where these may have come
 abbrev pub framed_waiting : ℕ → Declaration → Framing → Share → ℕ → ℕ
 framed_waiting rate s f own i =
-    (f.most - i) * f.largest + cond (nat_lt (ahead_of s f i) s.lead) (bytes_waiting rate (led s (ahead_of s f i)) own) 0
+    (f.frames - i) * f.frame_size + cond (nat_lt (ahead_of s f i) s.lead) (bytes_waiting rate (led s (ahead_of s f i)) own) 0
 
 abbrev pub framed_across : ℕ → Declaration → Framing → Share → Share → ℕ → ℕ
 framed_across rate s f first second i =
-    (f.most - i) * f.largest + cond (nat_lt (ahead_of s f i) s.lead) (bytes_across rate (led s (ahead_of s f i)) first second) 0
+    (f.frames - i) * f.frame_size + cond (nat_lt (ahead_of s f i) s.lead) (bytes_across rate (led s (ahead_of s f i)) first second) 0
 
 -- ---- the law
 
 -- of a stream that keeps the conditions of each stream: the last access unit of a packet is removed before the next packet is
 -- due, and what waits finds room in the main buffer whenever i access units of a packet have been removed, and others have not
 pub record FramedConditions (rate : ℕ) (s : Declaration) (f : Framing) (own : Share) : Type 0 where
-  pub in_turn : (f.most - 1) * f.apart ≤ s.interval
-  pub fits : (i : ℕ) → 0 < i → i < f.most → framed_waiting rate s f own i ≤ s.main
+  pub in_turn : (f.frames - 1) * f.frame ≤ s.interval
+  pub fits : (i : ℕ) → 0 < i → i < f.frames → framed_waiting rate s f own i ≤ s.main
 
 pub record FramedSwitchConditions (rate : ℕ) (s : Declaration) (f : Framing) (first second : Share) : Type 0 where
-  pub in_turn : (f.most - 1) * f.apart ≤ s.interval
-  pub fits : (i : ℕ) → 0 < i → i < f.most → framed_across rate s f first second i ≤ s.main
+  pub in_turn : (f.frames - 1) * f.frame ≤ s.interval
+  pub fits : (i : ℕ) → 0 < i → i < f.frames → framed_across rate s f first second i ≤ s.main
 
 -- so the main buffer has room for access units that are removed one by one, at any moment, over one plan and over two in turn,
 -- whenever bytes leave the transport buffer after their packet's slot has begun
@@ -81,10 +76,10 @@ pub record FramedLaw : Type 0 where
   pub one_plan : (rate : ℕ) (s : Declaration) (f : Framing) (claim : StreamClaim) (marks : List Bool) (packets : List FramedPacket)
       (n x : ℕ) (left : List ℕ) → IsProper rate s → StreamConditions rate s claim marks → FramedConditions rate s f (share_of claim marks) →
       All (KeepsFraming f) packets → KeepsDeclaration s (packets_of packets) →
-      NoneLeavesEarly s.drain (run_packets (own marks) rate s (packets_of packets) n) left → framed_fullness rate s.drain x f.apart packets left ≤ s.main
+      NoneLeavesEarly s.drain (run_packets (own marks) rate s (packets_of packets) n) left → framed_fullness rate s.drain x f.frame packets left ≤ s.main
   pub two_plans : (rate : ℕ) (s : Declaration) (f : Framing) (claim : StreamClaim) (first : List Bool) (next : StreamClaim) (second : List Bool)
       (periods : ℕ) (packets : List FramedPacket) (n x : ℕ) (left : List ℕ) → IsProper rate s → StreamConditions rate s claim first →
       StreamConditions rate s next second → StreamSwitchConditions rate s claim first next second →
       FramedSwitchConditions rate s f (share_of claim first) (share_of next second) → All (KeepsFraming f) packets → KeepsDeclaration s (packets_of packets) →
       NoneLeavesEarly s.drain (run_packets (in_turn first periods second) rate s (packets_of packets) n) left →
-      framed_fullness rate s.drain x f.apart packets left ≤ s.main
+      framed_fullness rate s.drain x f.frame packets left ≤ s.main

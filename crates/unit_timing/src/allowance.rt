@@ -15,7 +15,8 @@ pub enum Allowance {
 }
 
 impl Allowance {
-    /// The numbers of units in a row, from one on, for which the lead has to pay: up to a group; by pace one alone.
+    /// Returns the numbers of units in a row, from one on, for which the lead has to pay: up to a group; by pace one
+    /// alone.
     pub fn rows(self) -> u8
         ensures { result ≡ allowance_rows self }
     {

@@ -2,12 +2,13 @@
 ghost use Rattle.unit_timing.specs.Allowances.{AllowanceLaw};
 ghost use Rattle.unit_timing.specs.Levels.{BurstLaw};
 
-/// Units within a declaration keep its function of time, which never falls.
+/// States that units within a declaration keep its function of time, which never falls.
 pub fn curves()
     ensures { AllowanceLaw }
 {}
 
-/// Units keep a pace exactly where its burst covers the greatest level of a bucket that they fill and the pace empties.
+/// States that units keep a pace exactly where its burst covers the greatest level of a bucket that they fill and the
+/// pace empties.
 pub fn bursts()
     ensures { BurstLaw }
 {}

@@ -1,12 +1,12 @@
 //! Deadlines of units.
 ghost use Rattle.unit_timing.specs.Deadline.{StretchLaw, DeadlineLaw, GroupsPaidLaw, PacePaidLaw};
 
-/// Units that are sent on end come in time, so all do.
+/// States that all units arrive in time, if units that are sent without a pause do.
 pub fn stretches()
     ensures { StretchLaw }
 {}
 
-/// A pace of own slots that pays for what is allowed in any time keeps each deadline.
+/// States that own slots keep each deadline, if their pace pays for the allowed packets of any time.
 pub fn paid()
     ensures { DeadlineLaw }
 {}
@@ -16,7 +16,8 @@ pub fn groups_paid()
     ensures { GroupsPaidLaw }
 {}
 
-/// A pace is paid for: the condition on the rate pays for what comes after the burst, that on the lead for the burst.
+/// States that a pace is paid for: the condition on the rate pays for what comes after the burst, that on the lead
+/// for the burst.
 pub fn pace_paid()
     ensures { PacePaidLaw }
 {}

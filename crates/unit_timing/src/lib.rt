@@ -2,10 +2,10 @@
 //! (ISO/IEC 13818-1, 2.4.2), over the definitions alone.
 //!
 //! A stream's own slots are a function `own : ℕ → Bool` of the slot number, for one plan or for two;
-//! its units are a list of PES packets, each with its size and its decoding time stamp. What is declared of
+//! its units are a list of PES packets, each with its size and its decoding time stamp. The declaration of
 //! their packets is an allowance, a function of time. The definitions in `specs/` say which own slot carries
-//! which part of which unit, when its bytes leave the transport buffer, and the fullness of each buffer. Each
-//! function of a module here is a law: it does nothing, and its contract says what holds of the definitions.
+//! which part of a unit, when its bytes leave the transport buffer, and the fullness of each buffer. Each
+//! function of a module here is a law: it does nothing, and its contract states a fact about the definitions.
 //!
 //! - [`allowance`]: what a stream declares of its packets.
 //! - [`allowances`]: that as a function of time, and as the level of a leaky bucket.
@@ -14,6 +14,7 @@
 //! - [`deadlines`]: from the pace of the own slots to the deadline of each unit.
 //! - [`arrived`]: each due unit has left the transport buffer whole by its stamp.
 //! - [`main_buffer`]: the fullness of the main buffer.
+//! - [`framing`]: what a stream declares of the access units of a PES packet.
 //! - [`access_units`]: the main buffer where each access unit of a PES packet is removed at its own time.
 //! - [`moments`]: moments that are not whole.
 //! - [`multiplexing_buffer`]: what a video stream declares of its multiplexing buffer.
@@ -22,7 +23,7 @@
 //! - [`empty_buffers`]: transport and multiplexing buffers that are empty at least once a second.
 //! - [`schedule`]: slot by slot is unit by unit.
 //! - [`units`]: one unit more within the declaration.
-//! - [`shares`]: the parts in which shares of an output are counted.
+//! - [`shares`]: the unit of an output's shares.
 //! - [`plans`]: all of this for one plan and for two, from the conditions on their slots.
 #![tactic(auto)]
 
@@ -33,6 +34,7 @@ pub mod arrived;
 pub mod buffers;
 pub mod deadlines;
 pub mod empty_buffers;
+pub mod framing;
 pub mod main_buffer;
 pub mod moments;
 pub mod multiplexing_buffer;

@@ -1,8 +1,9 @@
 //! The buffers of a program's tables.
 ghost use Rattle.unit_timing.specs.SystemBuffer.{SystemLaw};
 
-/// Neither the transport buffer nor the system buffer after it overflows where the work of each by
-/// itself fits: a byte leaves the second a fixed time later than it would leave it alone.
+/// States that neither the transport buffer nor the system buffer after it overflows where the work
+/// of each by itself fits: a byte leaves the second a fixed time later than it would leave it
+/// alone.
 pub fn pair()
     ensures { SystemLaw }
 {}

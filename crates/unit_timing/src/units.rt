@@ -2,8 +2,8 @@
 ghost use Rattle.unit_timing.specs.PesPacket.{SpacedMoreLaw, SizedMoreLaw, GroupMoreLaw};
 ghost use Rattle.unit_timing.specs.Levels.{AllowanceMoreLaw};
 
-/// A list of units within a declaration stays within it by a further unit exactly where that unit
-/// is late enough after the last, is not too large, and is not over: it fits the group that it ends, or the level.
+/// States that a list of units within a declaration stays within it by a further unit exactly where that unit is
+/// late enough after the last, is not too large, and is not over: it fits the group that it ends, or the level.
 pub fn one_more()
     ensures spaced { SpacedMoreLaw }
     ensures sized { SizedMoreLaw }

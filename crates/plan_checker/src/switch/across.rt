@@ -1,4 +1,4 @@
-//! An item's own slots across a switch: the first plan up to the end of one of its periods, then the second.
+//! An item's own slots across a switch: the first plan up to the end of any of its periods, then the second.
 
 ghost use Rattle.std.specs.Prelude.{◌≡◌, ◌<◌, ◌≤◌, length};
 ghost use Rattle.own_slots.specs.Period.{per_period, back};
@@ -10,8 +10,8 @@ use crate::own_counts::{own_count, own_slot};
 use crate::own_positions::{next_own_slot, position};
 use slot_plan::{Item, Slot};
 
-/// The greatest gap across the switch between `row` own slots in a row: from own slot `-x` of the first plan to own
-/// slot `row - x` of the second, x from 1 to `row`.
+/// Returns the greatest gap across the switch between `row` own slots in a row: from own slot `-x` of the first
+/// plan to own slot `row - x` of the second, x from 1 to `row`.
 pub fn greatest_gap_across(first: &[Slot], second: &[Slot], item: Item, row: u64) -> u64
     requires owned { 0 < per_period (marks item first.now) }
     requires next_owned { 0 < per_period (marks item second.now) }
@@ -32,7 +32,7 @@ pub fn greatest_gap_across(first: &[Slot], second: &[Slot], item: Item, row: u64
     greatest
 }
 
-/// The slots from the item's last own slot to the period's end.
+/// Returns the slots from the item's last own slot to the period's end.
 pub fn last_from_end(slots: &[Slot], item: Item) -> u64
     requires owned { 0 < per_period (marks item slots.now) }
     requires short { length slots.now ≤ 65536 }
@@ -42,7 +42,7 @@ pub fn last_from_end(slots: &[Slot], item: Item) -> u64
     slots.len() as u64 - own_slot(slots, item, own_count(slots, item) - 1)
 }
 
-/// By how many slots the second plan's last own slot is later, counted from its period's end, than the first's.
+/// Returns how many slots later the second plan's last own slot is, counted from its period's end, than the first's.
 pub fn shift_of(first: &[Slot], second: &[Slot], item: Item) -> u64
     requires owned { 0 < per_period (marks item first.now) }
     requires next_owned { 0 < per_period (marks item second.now) }

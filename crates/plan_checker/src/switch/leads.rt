@@ -105,7 +105,7 @@ fn elementary_switch<A: Allocator>(
     );
 }
 
-/// The own slots of stream number `i` in the two plans.
+/// Returns the own slots of stream number `i` in the two plans.
 fn shares_of<A: Allocator>(plans: &PlanPair<'_, A>, i: usize) -> SwitchShares
     requires { i < length plans.now.description.now.streams }
     ensures shares { result ≡ switch_shares plans.now.first.now plans.now.second.now i }
@@ -135,7 +135,7 @@ fn shares_of<A: Allocator>(plans: &PlanPair<'_, A>, i: usize) -> SwitchShares
     }
 }
 
-/// The same with the work that is still before the elementary stream buffer after an own slot.
+/// Returns the same with the work that is still before the elementary stream buffer after an own slot.
 fn elementary_shares_of<A: Allocator>(plans: &PlanPair<'_, A>, i: usize) -> SwitchShares
     requires { i < length plans.now.description.now.streams }
     ensures shares { result

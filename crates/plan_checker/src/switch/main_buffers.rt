@@ -1,15 +1,44 @@
 //! Main buffers over a switch: what waits for its decoding time finds room.
 
-ghost use Rattle.std.specs.Prelude.{◌∷◌, []};
-ghost use Rattle.slot_plan.specs.SwitchConditions.{main_switch_entry};
+ghost use Rattle.std.specs.Prelude.{◌≡◌, ◌^◌, ◌<◌, ◌≤◌, ◌∷◌, [], length};
+ghost use Rattle.description.specs.Ranges.{IsStream};
+ghost use Rattle.unit_timing.specs.Conditions.{bytes_across};
+ghost use Rattle.slot_plan.specs.Claims.{led_declaration, stream_share};
+ghost use Rattle.slot_plan.specs.SwitchConditions.{main_switch_entry, frame_switch_entries};
+ghost use Rattle.plan_checker.specs.Failing.{after, search_of};
 
 use crate::comparison::at_most;
 use crate::conditions::ItemCondition;
 use crate::failure_search::FailureSearch;
-use crate::main_buffers::{bytes_by_slots, bytes_by_units};
+use crate::main_buffers::sent_within;
 use crate::plans::PlanPair;
+use crate::switch::frames::frame_switches;
+use crate::waiting_units::bytes_led;
 use slot_plan::{Condition, StreamDescription};
 use std::alloc::Allocator;
+
+/// Returns the bytes that can wait at once across the switch where units are sent at most `lead` units of 90 kHz
+/// before their decoding times.
+pub fn bytes_across<A: Allocator>(
+    plans: &PlanPair<'_, A>,
+    i: usize,
+    stream: &StreamDescription,
+    lead: u64,
+) -> u128
+    requires stream { i < length plans.now.description.now.streams }
+    requires index { i < 32 }
+    requires ranges { IsStream stream.now }
+    requires positive { 0 < lead }
+    requires lead { lead ≤ 90000 }
+    ensures bytes { result ≡ bytes_across plans.now.description.now.rate (led_declaration stream.now lead)
+        (stream_share plans.now.first.now i) (stream_share plans.now.second.now i) }
+    ensures bound { result < 2 ^ 73 }
+{
+    let by_units = bytes_led(stream, lead) as u128;
+    let first = sent_within(plans.description, plans.first, i, lead);
+    let second = sent_within(plans.description, plans.second, i, lead);
+    by_units.min(first + second)
+}
 
 /// The main buffers of all streams (ISO/IEC 13818-1, 2.4.2.3).
 pub struct MainSwitches;
@@ -19,24 +48,58 @@ impl<A: Allocator> ItemCondition<PlanPair<'_, A>> for MainSwitches {
 
     ghost items = { λ s. s.description.now.streams };
 
-    ghost entries = { λ s i stream. main_switch_entry s.description.now s.first.now s.second.now i stream ∷ [] };
+    ghost entries = { λ s i stream.
+        main_switch_entry s.description.now s.first.now s.second.now i stream
+        ∷ frame_switch_entries s.description.now s.first.now s.second.now i stream stream.framing };
 
     fn count(plans: &PlanPair<'_, A>) -> usize {
         plans.description.streams().len()
     }
 
     fn check_item(plans: &PlanPair<'_, A>, i: usize, search: &mut FailureSearch) {
-        let stream = &plans.description.streams()[i];
-        let by_units = bytes_by_units(stream) as u128;
-        let by_slots = bytes_by_slots(plans.description, plans.first, i, stream)
-            + bytes_by_slots(plans.description, plans.second, i, stream);
-        at_most(
-            Condition::MainSwitch,
-            0,
-            i as u32,
-            by_units.min(by_slots),
-            stream.main as u128,
-            search,
-        );
+        main_switches(plans, i, &plans.description.streams()[i], search);
     }
+}
+
+/// The main buffer of one stream, for whole units and for their access units one by one.
+fn main_switches<A: Allocator>(
+    plans: &PlanPair<'_, A>,
+    i: usize,
+    stream: &StreamDescription,
+    search: &mut FailureSearch,
+)
+    requires stream { i < length plans.now.description.now.streams }
+    requires index { i < 32 }
+    requires ranges { IsStream stream.now }
+    ensures { search_of search.new ≡ after (search_of search.old) (
+        main_switch_entry plans.now.description.now plans.now.first.now plans.now.second.now i stream.now
+        ∷ frame_switch_entries plans.now.description.now plans.now.first.now plans.now.second.now i stream.now
+        stream.now.framing) }
+{
+    main_switch(plans, i, stream, search);
+    frame_switches(plans, i, stream, search);
+}
+
+/// The main buffer of one stream, for whole units.
+fn main_switch<A: Allocator>(
+    plans: &PlanPair<'_, A>,
+    i: usize,
+    stream: &StreamDescription,
+    search: &mut FailureSearch,
+)
+    requires stream { i < length plans.now.description.now.streams }
+    requires index { i < 32 }
+    requires ranges { IsStream stream.now }
+    ensures { search_of search.new ≡ after (search_of search.old)
+        (main_switch_entry plans.now.description.now plans.now.first.now plans.now.second.now i stream.now ∷ []) }
+{
+    let bytes = bytes_across(plans, i, stream, stream.lead as u64);
+    at_most(
+        Condition::MainSwitch,
+        0,
+        i as u32,
+        bytes,
+        stream.main as u128,
+        search,
+    );
 }

@@ -1,4 +1,4 @@
-//! A stream's own slots in two plans, one after the other, and the slots that its packets take over the switch.
+//! A stream's own slots in two plans in turn, and the slots that its packets take over the switch.
 
 ghost use Rattle.std.specs.Prelude.{◌≡◌, ◌+◌, ◌*◌, ◌^◌, ◌<◌, ◌≤◌, max};
 ghost use Rattle.unit_timing.specs.Conditions.{slots_across};
@@ -15,7 +15,7 @@ pub struct PlanShare {
 }
 
 impl PlanShare {
-    /// The same own slots, with that work after one.
+    /// Returns the same own slots, with that work after one.
     pub fn peaked(self, peak: u64) -> PlanShare
         ensures { result ≡ peaked self peak }
     {
@@ -28,7 +28,7 @@ impl PlanShare {
     }
 }
 
-/// A stream's own slots in each of two plans, and by how many slots those of the second come later.
+/// A stream's own slots in each of two plans, and how many slots later the second plan's own slots are.
 #[derive(Clone, Copy)]
 pub struct SwitchShares {
     pub first: PlanShare,
@@ -36,7 +36,7 @@ pub struct SwitchShares {
     pub shift: u64,
 }
 
-/// How far the own slots stray in the two plans, each times the own slots of the other.
+/// Returns how far the own slots stray in the two plans, each times the own slots of the other.
 fn strayed(first: PlanShare, second: PlanShare) -> u64
     requires count { first.count ≤ 65536 }
     requires next_count { second.count ≤ 65536 }
@@ -48,7 +48,7 @@ fn strayed(first: PlanShare, second: PlanShare) -> u64
     first.spread * second.count + second.spread * first.count
 }
 
-/// The slower of the two paces.
+/// Returns the slower of the two paces.
 fn slower(first: PlanShare, second: PlanShare) -> u64
     requires count { first.count ≤ 65536 }
     requires next_count { second.count ≤ 65536 }
@@ -60,7 +60,7 @@ fn slower(first: PlanShare, second: PlanShare) -> u64
     u64::max(first.period * second.count, second.period * first.count)
 }
 
-/// The shift of the second plan's own slots.
+/// Returns the shift of the second plan's own slots.
 fn shifted(first: PlanShare, second: PlanShare, shift: u64) -> u64
     requires count { first.count ≤ 65536 }
     requires next_count { second.count ≤ 65536 }
@@ -71,7 +71,7 @@ fn shifted(first: PlanShare, second: PlanShare, shift: u64) -> u64
     first.count * second.count * (shift + 1)
 }
 
-/// The slots that `packets` packets take over the switch, times the own slots of both periods: the spreads, the
+/// Returns the slots that `packets` packets take over the switch, times the own slots of both periods: the spreads, the
 /// slower of the two paces, the shift of the second plan's own slots.
 pub fn slots_needed(shares: SwitchShares, packets: u64) -> u128
     requires in_range { AreSharesInRange shares }

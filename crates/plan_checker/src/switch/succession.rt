@@ -21,7 +21,7 @@ use crate::switch::work::{MultiplexingWorks, StreamWorks, SystemWorks, Transport
 use slot_plan::{Description, Plan};
 use std::alloc::Allocator;
 
-/// The first of the conditions of two plans together, codes 12 to 17, that they do not keep.
+/// Returns the first of the conditions of two plans together, codes 12 to 17, that they do not keep.
 fn joint<A: Allocator>(
     description: &Description,
     first: &Plan<A>,
@@ -51,7 +51,8 @@ fn joint<A: Allocator>(
     search.found
 }
 
-/// The first condition that a second plan after a first one does not keep: its own, then those of the two together.
+/// Returns the first condition that a second plan after a first one does not keep: its own, then those of the two
+/// together.
 fn switch_conditions<A: Allocator>(
     description: &Description,
     first: &Plan<A>,
@@ -66,10 +67,10 @@ fn switch_conditions<A: Allocator>(
     }
 }
 
-/// The two plans as ones of which the second may follow the first at the end of any of its periods, where the second
-/// serves the first's description and the two keep every condition together. Else the first condition that is not
-/// kept: those of the second plan in the order of [`check`](crate::check), then those of the two by their number, item
-/// and part, with its two numbers; and both plans are handed back.
+/// Returns the two plans as a checked switch, if the second may follow the first at the end of any of its periods: the
+/// second serves the first's description and the two keep every condition together. Otherwise returns the first broken
+/// condition (conditions of the second plan in the order of [`check`](crate::check), then joint conditions by number,
+/// item and part) with its two numbers, and hands both plans back.
 pub fn check_switch<A: Allocator>(
     first: CheckedPlan<A>,
     second: Plan<A>,

@@ -76,7 +76,7 @@ impl<A: Allocator> ItemCondition<PlanPair<'_, A>> for StreamWorks {
     }
 }
 
-/// The transport buffers of the programs' tables; their numbers follow those of the streams.
+/// The transport buffers of the programs' tables; their numbers follow the streams' numbers.
 pub struct TransportWorks;
 
 impl<A: Allocator> ItemCondition<PlanPair<'_, A>> for TransportWorks {
@@ -104,7 +104,7 @@ impl<A: Allocator> ItemCondition<PlanPair<'_, A>> for TransportWorks {
     }
 }
 
-/// The system buffers of the programs; their numbers follow those of the transport buffers.
+/// The system buffers of the programs; their numbers follow the transport buffers' numbers.
 pub struct SystemWorks;
 
 impl<A: Allocator> ItemCondition<PlanPair<'_, A>> for SystemWorks {
@@ -134,7 +134,7 @@ impl<A: Allocator> ItemCondition<PlanPair<'_, A>> for SystemWorks {
     }
 }
 
-/// The multiplexing buffers of the streams that have one; their numbers follow those of the system buffers.
+/// The multiplexing buffers of the streams that have one; their numbers follow the system buffers' numbers.
 pub struct MultiplexingWorks;
 
 impl<A: Allocator> ItemCondition<PlanPair<'_, A>> for MultiplexingWorks {

@@ -9,7 +9,7 @@ use crate::reason::Reason;
 use clock27::SLOT_MS_AT_1BPS;
 use slot_plan::{Description, ProgramDescription};
 
-/// The least limit in ms within which `slots` slots come.
+/// Returns the least limit in ms within which `slots` slots come.
 fn least_limit(description: &Description, slots: u64) -> u64
     requires { slots < 100000 }
     ensures { result ≡ least_limit description.now slots }
@@ -18,7 +18,7 @@ fn least_limit(description: &Description, slots: u64) -> u64
     (SLOT_MS_AT_1BPS as u64 * slots).div_ceil(description.rate().bits_per_second())
 }
 
-/// Of program number `i`: whether its PCR limit is shorter than a slot.
+/// Returns a reason if the PCR limit of program number `i` is shorter than a slot.
 pub fn pcr_reason(
     description: &Description,
     i: usize,
@@ -35,7 +35,7 @@ pub fn pcr_reason(
     }
 }
 
-/// Of table number `t`: whether its limit is shorter than the slots of a round.
+/// Returns a reason if the limit of table number `t` is shorter than the slots of a round.
 pub fn table_reason(description: &Description, t: usize) -> Option<Reason>
     requires { t < table_count description.now }
     ensures { option_to_list result ≡ table_reason description.now t }

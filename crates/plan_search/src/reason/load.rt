@@ -14,7 +14,7 @@ use plan_checker::{steady_packets, steady_time};
 use slot_plan::{Description, StreamDescription};
 use unit_timing::shares::PARTS;
 
-/// The least share of slots of a stream, at that rate.
+/// Returns the least share of slots of a stream, at that rate.
 fn stream_load(stream: &StreamDescription, rate: u64) -> u128
     requires ranges { IsStream stream.now }
     requires positive { 0 < rate }
@@ -26,7 +26,7 @@ fn stream_load(stream: &StreamDescription, rate: u64) -> u128
     u128::from(PARTS) * steady_packets(stream) as u128 / time
 }
 
-/// The same of what comes in rounds of packets, each round within a limit in ms.
+/// Returns the same of what comes in rounds of packets, each round within a limit in ms.
 fn recurring_load(limit: u64, packets: u64, rate: u64) -> u128
     requires limit { limit ≤ 30000 }
     requires packets { packets ≤ 20000 }
@@ -80,7 +80,7 @@ fn tables_load(description: &Description, rate: u64) -> u128
     total
 }
 
-/// Whether an output of that rate has slots enough for the least shares of all items.
+/// Returns whether an output of that rate has slots enough for the least shares of all items.
 fn has_slots(description: &Description, rate: u64) -> bool
     requires positive { 0 < rate }
     requires high { rate ≤ 100000000 }
@@ -106,7 +106,7 @@ impl Load for DescribedLoad<'_> {
     }
 }
 
-/// The least rate above the description's own that has.
+/// Returns the least rate above the description's own that has.
 fn least_rate(description: &Description) -> Option<u64>
     ensures { result ≡ least_rate description.now }
 {
@@ -115,7 +115,7 @@ fn least_rate(description: &Description) -> Option<u64>
     rate_search::least_rate(&DescribedLoad { description }, from)
 }
 
-/// Whether the items ask for more slots than there are.
+/// Returns whether the items ask for more slots than there are.
 pub fn load_reason(description: &Description) -> Option<Reason>
     ensures { option_to_list result ≡ load_reason description.now }
 {

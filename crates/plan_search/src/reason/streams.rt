@@ -13,7 +13,7 @@ use clock27::SLOT_UNITS_AT_1BPS;
 use plan_checker::{bytes_by_units, packets_in_row, steady_packets, steady_time, waiting_slots};
 use slot_plan::{Description, StreamDescription};
 
-/// The least drain of a stream's transport buffer, in bits/s.
+/// Returns the least drain of a stream's transport buffer, in bits/s.
 fn least_drain(stream: &StreamDescription) -> u64
     requires { IsStream stream.now }
     ensures { result ≡ least_drain stream.now }
@@ -21,7 +21,7 @@ fn least_drain(stream: &StreamDescription) -> u64
     steady_packets(stream).div_ceil(steady_time(stream))
 }
 
-/// Of stream number `i`: whether its transport buffer is drained slower than its units come.
+/// Returns a reason if the transport buffer of stream number `i` is drained slower than its units arrive.
 pub fn drain_reason(i: usize, stream: &StreamDescription) -> Option<Reason>
     requires small { i < 256 }
     requires ranges { IsStream stream.now }
@@ -34,7 +34,7 @@ pub fn drain_reason(i: usize, stream: &StreamDescription) -> Option<Reason>
     }
 }
 
-/// Of stream number `i`: whether its multiplexing buffer, if it has one, leaks slower than its units come.
+/// Returns a reason if the multiplexing buffer of stream number `i`, if it has one, leaks slower than its units arrive.
 #[tactic(auto, using(plan_checker::proofs::Leaks::leak_most))]
 pub fn leak_reason(i: usize, stream: &StreamDescription) -> Option<Reason>
     requires small { i < 256 }
@@ -49,7 +49,7 @@ pub fn leak_reason(i: usize, stream: &StreamDescription) -> Option<Reason>
     }
 }
 
-/// The least lead of a stream for `units` units in a row.
+/// Returns the least lead of a stream for `units` units in a row.
 fn units_lead(description: &Description, stream: &StreamDescription, units: u8) -> u64
     requires ranges { IsStream stream.now }
     requires positive { 0 < units }
@@ -64,7 +64,7 @@ fn units_lead(description: &Description, stream: &StreamDescription, units: u8) 
     (time.div_ceil(rate * drain) as u64).saturating_sub(before)
 }
 
-/// The least lead of a stream.
+/// Returns the least lead of a stream.
 fn least_lead(description: &Description, stream: &StreamDescription) -> u64
     requires ranges { IsStream stream.now }
     ensures lead { result ≡ least_lead description.now stream.now }
@@ -76,7 +76,7 @@ fn least_lead(description: &Description, stream: &StreamDescription) -> u64
     least
 }
 
-/// Of stream number `i`: whether its lead is too short for its units.
+/// Returns a reason if the lead of stream number `i` is too short for its units.
 pub fn lead_reason(
     description: &Description,
     i: usize,
@@ -94,7 +94,7 @@ pub fn lead_reason(
     }
 }
 
-/// The least main buffer of a stream, in bytes.
+/// Returns the least main buffer of a stream, in bytes.
 fn least_main(description: &Description, stream: &StreamDescription) -> u64
     requires ranges { IsStream stream.now }
     ensures main { result ≡ least_main description.now stream.now }
@@ -107,7 +107,7 @@ fn least_main(description: &Description, stream: &StreamDescription) -> u64
     (bytes_by_units(stream) as u128).min(by_slots) as u64
 }
 
-/// Of stream number `i`: whether its main buffer is too small for its lead.
+/// Returns a reason if the main buffer of stream number `i` is too small for its lead.
 pub fn main_reason(
     description: &Description,
     i: usize,

@@ -13,7 +13,7 @@ pub enum Need<'a> {
 }
 
 impl Need<'_> {
-    /// The least own slots of a period; None where none are enough.
+    /// Returns the least own slots of a period; None where none are enough.
     pub fn count(self, period: u64) -> Option<u64> {
         match self {
             Need::Stream(stream) => stream.count(period),
@@ -21,7 +21,8 @@ impl Need<'_> {
         }
     }
 
-    /// The most that the own slots may stray from even spacing, in slots times own slots; None where they are too few.
+    /// Returns the most that the own slots may stray from even spacing, in slots times own slots; None where they are
+    /// too few.
     pub fn width(self, period: u64, count: u64) -> Option<u64> {
         match self {
             Need::Stream(stream) => stream.width(period, count),
@@ -29,7 +30,7 @@ impl Need<'_> {
         }
     }
 
-    /// Whether more own slots can't help: the main buffer alone leaves them no slot.
+    /// Returns whether more own slots can't help: the main buffer alone leaves them no slot.
     pub fn is_full(self, period: u64, count: u64) -> bool {
         match self {
             Need::Stream(stream) => match stream.main_width(period, count) {
@@ -52,8 +53,8 @@ pub struct Demand<'a> {
     pub count: u64,
 }
 
-/// Those of a description in a period of `period` slots: streams, PCRs, tables, each by number. None where the period
-/// can't serve one.
+/// Returns the demands of a description in a period of `period` slots: streams, PCRs, tables, each by number. `None` if
+/// the period can't serve them all.
 pub fn demands<'a, A: Allocator>(
     alloc: A,
     description: &'a Description,
@@ -69,7 +70,7 @@ pub fn demands<'a, A: Allocator>(
     Ok(Some(demands))
 }
 
-/// The demand of an item; where no own slots are enough, one slot more than the period has.
+/// Returns the demand of an item; where no own slots are enough, one slot more than the period has.
 fn demand_of<'a>(
     slot: Slot,
     need: Need<'a>,
@@ -137,7 +138,7 @@ fn push_tables<'a, A: Allocator>(
     Ok(())
 }
 
-/// The own slots of all items together.
+/// Returns the own slots of all items together.
 pub fn total(demands: &[Demand<'_>]) -> u64 {
     let mut total: u64 = 0;
     for demand in demands {

@@ -6,7 +6,7 @@ use crate::search::demand::Demand;
 use slot_plan::Slot;
 use std::alloc::{AllocError, Allocator};
 
-/// Own slots of an item to be placed: number `placed` of `count` is next, in one of the slots `release` to `due`.
+/// Own slots of an item to be placed: number `placed` of `count` is next, in a slot from `release` to `due`.
 #[derive(Clone, Copy)]
 pub struct PlacementTask {
     slot: Slot,
@@ -19,8 +19,8 @@ pub struct PlacementTask {
 }
 
 impl PlacementTask {
-    /// The task of a demand in a period; None where a window might hold no slot. No window is wider than two even gaps,
-    /// and the windows of the items of a kind that have less than one are set apart.
+    /// Returns the task of a demand in a period; None where a window might hold no slot. No window is wider than two
+    /// even gaps, and the windows of the items of a kind that have less than one are set apart.
     pub fn new(demand: &Demand<'_>, period: u64) -> Option<PlacementTask> {
         let width = demand.need.width(period, demand.count)?;
         if width.saturating_add(1) < demand.count {
@@ -71,13 +71,13 @@ impl PlacementTask {
         self.open(period);
     }
 
-    /// Whether own slots are left.
+    /// Returns whether own slots are left.
     fn is_open(&self) -> bool {
         self.placed < self.count
     }
 }
 
-/// The task whose window is open at a slot and ends first; of two that end together, the first.
+/// Returns the task whose window is open at a slot and ends first; of two that end together, the first.
 fn most_urgent(tasks: &[PlacementTask], at: u64) -> Option<usize> {
     let mut urgent = None;
     let mut least = u64::MAX;
@@ -90,7 +90,8 @@ fn most_urgent(tasks: &[PlacementTask], at: u64) -> Option<usize> {
     urgent
 }
 
-/// What one slot carries: that of the most urgent task, or null. An error is the task whose window ended before.
+/// Returns what one slot carries: that of the most urgent task, or null. An error is the task whose window ended
+/// before.
 fn next_slot(tasks: &mut [PlacementTask], at: u64, period: u64) -> Result<Slot, usize> {
     let Some(i) = most_urgent(tasks, at) else {
         return Ok(Slot::Null);
@@ -105,8 +106,8 @@ fn next_slot(tasks: &mut [PlacementTask], at: u64, period: u64) -> Result<Slot, 
     Ok(task.slot)
 }
 
-/// Appends the slots of one period: None where every task has its own slots in them, else the number of a task that
-/// misses one.
+/// Appends the slots of one period. Returns `None` if every task has its own slots in them, otherwise the number of a
+/// task that misses a slot.
 pub fn place<A: Allocator>(
     slots: &mut Vec<Slot, A>,
     tasks: &mut [PlacementTask],

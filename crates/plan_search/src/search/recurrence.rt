@@ -3,7 +3,7 @@
 use crate::search::numbers::{narrowed, product, rounded_up};
 use clock27::SLOT_MS_AT_1BPS;
 
-/// An item of which `packets` own slots in a row come within `gap` slots.
+/// An item with `packets` own slots in a row within `gap` slots.
 #[derive(Clone, Copy)]
 pub struct Recurrence {
     pub gap: u128,
@@ -11,7 +11,7 @@ pub struct Recurrence {
 }
 
 impl Recurrence {
-    /// Of `packets` own slots within `limit` ms, at that rate in bits/s.
+    /// Returns the recurrence of `packets` own slots within `limit` ms, at that rate in bits/s.
     pub fn within(limit: u64, rate: u64, packets: u64) -> Recurrence {
         Recurrence {
             gap: product(&[limit as u128, rate as u128]) / SLOT_MS_AT_1BPS,
@@ -19,7 +19,7 @@ impl Recurrence {
         }
     }
 
-    /// The least own slots of a period; None where the packets don't fit into the gap.
+    /// Returns the least own slots of a period; None where the packets don't fit into the gap.
     pub fn count(self, period: u64) -> Option<u64> {
         if self.gap < self.packets {
             return None;
@@ -27,7 +27,8 @@ impl Recurrence {
         rounded_up(product(&[self.packets, period as u128]), self.gap).map(narrowed)
     }
 
-    /// The most that the own slots may stray from even spacing, in slots times own slots; None where they are too few.
+    /// Returns the most that the own slots may stray from even spacing, in slots times own slots; None where they are
+    /// too few.
     pub fn width(self, period: u64, count: u64) -> Option<u64> {
         let most = product(&[count as u128, self.gap.saturating_add(1)]);
         let least = product(&[self.packets, period as u128]).saturating_add(1);

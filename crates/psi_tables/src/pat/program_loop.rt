@@ -20,7 +20,7 @@ impl ProgramLoop {
     ghost use Rattle.arrayvec.specs.ArrayVec.{array_vec_len};
     ghost use Rattle.psi_tables.specs.ProgramAssociation.{program_loop_of, programs_of};
 
-    /// A loop without entries.
+    /// Returns a loop without entries.
     #[tactic(auto, unfolding(crate::specs::ProgramAssociation::program_loop_of, crate::specs::ProgramAssociation::programs_in))]
     pub fn new() -> ProgramLoop
         ensures { program_loop_of result ≡ [] }
@@ -53,7 +53,7 @@ impl ProgramLoop {
         self.bytes.len() / 4
     }
 
-    /// The entries, over the bytes of the loop.
+    /// Returns the entries, over the bytes of the loop.
     #[tactic(auto, unfolding(crate::specs::ProgramAssociation::program_loop_of))]
     pub fn programs(&self) -> Programs<'_>
         ensures { programs_of result ≡ program_loop_of self.now }

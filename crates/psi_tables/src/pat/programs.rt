@@ -20,7 +20,7 @@ pub struct Programs<'a> {
 }
 
 impl Program {
-    /// The entry as it is written, reserved bits 1.
+    /// Returns the entry as it is written, reserved bits 1.
     pub fn to_bytes(self) -> [u8; 4]
         requires { self.pid < 8192 }
         ensures { result ≡ program_bytes self }
@@ -40,8 +40,8 @@ impl Program {
 }
 
 impl<'a> Programs<'a> {
-    /// The entries that bytes hold, four bytes each; what is left after the last whole one is not
-    /// looked at.
+    /// Returns the entries that bytes hold, four bytes each; it ignores bytes after the last whole
+    /// entry.
     #[tactic(auto, unfolding(crate::specs::ProgramAssociation::programs_of))]
     pub fn over(bytes: &'a [u8]) -> Programs<'a>
         ensures { programs_of result ≡ programs_in bytes.now }
@@ -49,14 +49,14 @@ impl<'a> Programs<'a> {
         Programs { bytes }
     }
 
-    /// How many entries are left.
+    /// Returns how many entries are left.
     pub fn len(&self) -> usize
         ensures { result ≡ length (programs_of self.now) }
     {
         self.bytes.len() / 4
     }
 
-    /// Whether no entry is left.
+    /// Returns whether no entry is left.
     pub fn is_empty(&self) -> bool
         ensures { IsTrue result ↔ (programs_of self.now ≡ []) }
     {

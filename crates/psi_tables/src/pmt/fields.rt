@@ -3,7 +3,7 @@
 ghost use Rattle.std.specs.Prelude.{◌≡◌};
 ghost use Rattle.psi_tables.specs.ProgramMap.{pid_bytes, info_length_bytes};
 
-/// A PID after three reserved bits.
+/// Returns a PID after three reserved bits.
 #[tactic(auto, unfolding(crate::specs::ProgramMap::pid_bytes))]
 pub fn pid_bytes(pid: u16) -> [u8; 2]
     ensures { result ≡ pid_bytes pid }
@@ -12,7 +12,7 @@ pub fn pid_bytes(pid: u16) -> [u8; 2]
     [0xe0 + (high & 0x1f), low]
 }
 
-/// A number of descriptor bytes after four reserved bits.
+/// Returns a number of descriptor bytes after four reserved bits.
 #[tactic(auto, unfolding(crate::specs::ProgramMap::info_length_bytes))]
 pub fn info_length_bytes(length: usize) -> [u8; 2]
     ensures { result ≡ info_length_bytes length }

@@ -20,7 +20,7 @@ impl StreamLoop {
     ghost use Rattle.arrayvec.specs.ArrayVec.{array_vec_len};
     ghost use Rattle.psi_tables.specs.ProgramMap.{stream_view, streams_bytes, streams_of, stream_loop_of};
 
-    /// A loop without streams.
+    /// Returns a loop without streams.
     #[tactic(auto, unfolding(crate::specs::ProgramMap::stream_loop_of, crate::specs::ProgramMap::streams_in, crate::specs::Loops::loop_at, crate::specs::Loops::loop_from))]
     pub fn new() -> StreamLoop
         ensures { stream_loop_of result ≡ [] }
@@ -30,8 +30,8 @@ impl StreamLoop {
         }
     }
 
-    /// Adds a stream at the end. `TooLong`, and the loop as it was, where it would have more than
-    /// 1,012 bytes: 5 a stream and those of its descriptors.
+    /// Adds a stream at the end. Answers `TooLong`, and leaves the loop as it was, if the loop would
+    /// have more than 1,012 bytes: 5 a stream and the bytes of its descriptors.
     pub fn push(&mut self, stream: &Stream<'_>) -> Result<(), SectionError>
         requires { stream.now.elementary_pid < 8192 }
         ensures variant { IsOk result ↔ (length (streams_bytes (stream_loop_of self.old)) + 5
@@ -57,7 +57,7 @@ impl StreamLoop {
         self.bytes.len()
     }
 
-    /// The streams, over the bytes of the loop.
+    /// Returns the streams, over the bytes of the loop.
     #[tactic(auto, unfolding(crate::specs::ProgramMap::stream_loop_of, crate::specs::ProgramMap::streams_of))]
     pub fn streams(&self) -> Streams<'_>
         ensures { streams_of result ≡ stream_loop_of self.now }

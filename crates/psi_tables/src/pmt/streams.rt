@@ -30,8 +30,8 @@ impl<'a> Streams<'a> {
     ghost use Rattle.bit_fields.specs.Reading.{Gives};
     ghost use Rattle.psi_tables.specs.ProgramMap.{streams_at, streams_of};
 
-    /// The streams that bytes are; `Body` where an ES_info_length passes their end, or they end within
-    /// an entry.
+    /// Returns the streams that bytes are; `Body` where an ES_info_length passes their end, or they end within an
+    /// entry.
     #[tactic(auto, unfolding(crate::specs::ProgramMap::streams_at, crate::specs::ProgramMap::streams_of))]
     pub fn read(bytes: &'a [u8]) -> Result<Streams<'a>, SectionError>
         ensures { Gives streams_of result (streams_at bytes.now) }
@@ -47,7 +47,7 @@ impl<'a> Streams<'a> {
 impl<'a> Streams<'a> {
     ghost use Rattle.psi_tables.specs.ProgramMap.{streams_bytes, streams_in, streams_of};
 
-    /// The streams that bytes are, which are known to be whole.
+    /// Returns the streams that bytes are, which are known to be whole.
     #[tactic(auto, unfolding(crate::specs::ProgramMap::streams_of))]
     pub fn whole(bytes: &'a [u8]) -> Streams<'a>
         requires { is_some (loop_at 5 bytes.now) ≡ true }
@@ -56,7 +56,7 @@ impl<'a> Streams<'a> {
         Streams { bytes }
     }
 
-    /// The number of bytes that the streams are written as.
+    /// Returns the number of bytes that the streams are written as.
     pub fn byte_length(&self) -> usize
         ensures { result ≡ length (streams_bytes (streams_of self.now)) }
     {

@@ -1,0 +1,126 @@
+//! Access units that are removed from the main buffer one by one (ISO/IEC 13818-1, 2.4.2.3): the access units that are left and the
+//! bytes of later units find room.
+
+ghost use Rattle.std.specs.Prelude.{◌≡◌, ◌-◌, ◌*◌, ◌^◌, ◌<◌, ◌≤◌, ◌∷◌, [], length};
+ghost use Rattle.description.specs.Ranges.{IsStream};
+ghost use Rattle.unit_timing.specs.AccessUnits.{ahead_of, framed_waiting};
+ghost use Rattle.slot_plan.specs.Claims.{declaration, stream_share};
+ghost use Rattle.slot_plan.specs.Conditions.{entries_from, frame_entry, frame_entries};
+ghost use Rattle.plan_checker.specs.Failing.{after, search_of};
+
+use crate::comparison::at_most;
+use crate::failure_search::FailureSearch;
+use crate::main_buffers::bytes_waiting;
+use crate::plans::ShapedPlan;
+use slot_plan::{Condition, StreamDescription};
+use std::alloc::Allocator;
+use unit_timing::framing::Framing;
+
+/// Returns how long after the moment at which access unit number `gone` is removed a later unit is due at the earliest, up to the
+/// lead: units of 90 kHz.
+pub fn ahead_of(stream: &StreamDescription, framing: Framing, gone: u8) -> u64
+    ensures ahead { result ≡ ahead_of (declaration stream.now) framing gone }
+    ensures bound { result ≤ stream.now.lead }
+{
+    let passed = gone as u64 * framing.frame as u64;
+    (stream.interval as u64)
+        .saturating_sub(passed)
+        .min(stream.lead as u64)
+}
+
+/// Returns the bytes that a unit's access units leave after the removal of the first `gone`.
+pub fn left_of_unit(framing: Framing, gone: u8) -> u128
+    ensures left { result ≡ (framing.frames - gone) * framing.frame_size }
+    ensures bound { result < 2 ^ 40 }
+{
+    framing.frames.saturating_sub(gone) as u128 * framing.frame_size as u128
+}
+
+/// Returns what waits when `gone` access units of a unit have been removed.
+fn framed_waiting<A: Allocator>(
+    plans: &ShapedPlan<'_, A>,
+    i: usize,
+    stream: &StreamDescription,
+    framing: Framing,
+    gone: u8,
+) -> u128
+    requires stream { i < length plans.now.description.now.streams }
+    requires small { i < 256 }
+    requires ranges { IsStream stream.now }
+    ensures { result ≡ framed_waiting plans.now.description.now.rate (declaration stream.now) framing
+        (stream_share plans.now.plan.now i) gone }
+{
+    let left = left_of_unit(framing, gone);
+    let ahead = ahead_of(stream, framing, gone);
+    let lead = stream.lead as u64;
+    if ahead < lead {
+        left + bytes_waiting(plans, i, stream, lead - ahead)
+    } else {
+        left
+    }
+}
+
+/// Looks at the access units of one stream, if its units have several.
+pub fn frame_rooms<A: Allocator>(
+    plans: &ShapedPlan<'_, A>,
+    i: usize,
+    stream: &StreamDescription,
+    search: &mut FailureSearch,
+)
+    requires stream { i < length plans.now.description.now.streams }
+    requires small { i < 256 }
+    requires ranges { IsStream stream.now }
+    ensures { search_of search.new ≡ after (search_of search.old) (frame_entries
+        plans.now.description.now plans.now.plan.now i stream.now stream.now.framing) }
+{
+    let Some(framing) = stream.framing else {
+        return;
+    };
+    framed_rooms(plans, i, stream, framing, search);
+}
+
+/// One access unit removed, and up to all but one.
+fn framed_rooms<A: Allocator>(
+    plans: &ShapedPlan<'_, A>,
+    i: usize,
+    stream: &StreamDescription,
+    framing: Framing,
+    search: &mut FailureSearch,
+)
+    requires stream { i < length plans.now.description.now.streams }
+    requires small { i < 256 }
+    requires ranges { IsStream stream.now }
+    ensures { search_of search.new ≡ after (search_of search.old) (entries_from (frame_entry
+        plans.now.description.now plans.now.plan.now i stream.now framing) 1 (framing.frames - 1)) }
+{
+    let others = framing.frames.saturating_sub(1);
+    for before in 0..others {
+        frame_room(plans, i, stream, framing, before + 1, search);
+    }
+}
+
+/// So many access units removed.
+fn frame_room<A: Allocator>(
+    plans: &ShapedPlan<'_, A>,
+    i: usize,
+    stream: &StreamDescription,
+    framing: Framing,
+    gone: u8,
+    search: &mut FailureSearch,
+)
+    requires stream { i < length plans.now.description.now.streams }
+    requires small { i < 256 }
+    requires ranges { IsStream stream.now }
+    ensures { search_of search.new ≡ after (search_of search.old) (frame_entry
+        plans.now.description.now plans.now.plan.now i stream.now framing gone ∷ []) }
+{
+    let bytes = framed_waiting(plans, i, stream, framing, gone);
+    at_most(
+        Condition::MainBuffer,
+        gone,
+        i as u32,
+        bytes,
+        stream.main as u128,
+        search,
+    );
+}
