@@ -1,5 +1,5 @@
 -- What is known of a unit for which no cause of refusal holds.
-use Rattle.std.proofs.Common.{◌≡◌, ℕ, ◌==◌, not, false, None}
+use Rattle.std.proofs.Common.{◌≡◌, ℕ, ◌==◌, not, false, None, arith}
 use Rattle.pes_packet.specs.AccessUnits.{AccessUnit}
 use Rattle.pes_packet.specs.StreamIds.{greatest_size}
 use Rattle.unit_queue.specs.Causes.{or_cause, own_cause, time_cause}
@@ -16,4 +16,4 @@ is_accepted id min_next_dts stream unit h =
     let known = test_none (not (stream == 0)) UnknownStream (or_cause own time) h in
     let both = or_none own time known.1 in
     let facts = own_facts (greatest_size id) min_next_dts unit both.0 in
-    record { some = facts.some; most = facts.most; later = facts.spaced; last = (time_facts false unit.dts both.1).1 }
+    record { some = facts.some; most = omega (arith, facts.most); marked = facts.most; later = facts.spaced; last = (time_facts false unit.dts both.1).1 }

@@ -7,6 +7,7 @@ use Rattle.slot_contents.specs.Contents.{packet_of}
 use Rattle.pes_packet.specs.Payloads.{pieces, piece_count}
 use Rattle.pes_packet.specs.AccessUnits.{AccessUnit}
 use Rattle.pes_packet.specs.Encoding.{pes_header_bytes, pes_packet_bytes, header_size, on_wire}
+use Rattle.pes_packet.specs.declared.marks.Marks.{Marks}
 use Rattle.pes_packet.proofs.Written.{header_sizes}
 use Rattle.pes_packet.proofs.Payloads.{pieces_more, pieces_none}
 use Rattle.unit_queue.specs.QueueSteps.{payload_or_null}
@@ -123,21 +124,22 @@ part_failed pid number hex now_hex pes packet sent counter taken start now later
     (formatted_all hex (payload_packets pid false (w.next + 1) (pieces (drop 184 (drop sent pes))))) took)
 
 -- header and bytes are the PES packet of the unit
-pub pes_is : (id : ℕ) (unit : AccessUnit) (header bytes : List ℕ) (size pts dts : ℕ) → header ≡ pes_header_bytes id size pts dts → bytes ≡ unit.bytes
-    → size ≡ length unit.bytes → pts ≡ unit.pts → dts ≡ unit.dts → header ++ bytes ≡ pes_packet_bytes id 0 unit
+pub pes_is : (id : ℕ) (unit : AccessUnit) (header bytes : List ℕ) (size : ℕ) (marks : Marks) (pts dts : ℕ) → header ≡ pes_header_bytes id size marks pts dts → bytes ≡ unit.bytes
+    → size ≡ length unit.bytes → marks ≡ unit.marks → pts ≡ unit.pts → dts ≡ unit.dts → header ++ bytes ≡ pes_packet_bytes id 0 unit
 unfolding pes_packet_bytes
-pes_is id unit header bytes size pts dts a b s p d =
+pes_is id unit header bytes size marks pts dts a b s m p d =
     let no_pts : unit.pts + 0 ≡ unit.pts = omega arith in
     let no_dts : unit.dts + 0 ≡ unit.dts = omega arith in
-    rw (a, b, s, p, d, no_pts, no_dts) refl
+    rw (a, b, s, m, p, d, no_pts, no_dts) refl
 
-size_some : (b : Bool) → 0 < cond b 14 19
-size_some true = omega arith
-size_some false = omega arith
+size_some : (long b : Bool) → 0 < cond long 45 (cond b 14 19)
+size_some true b = omega arith
+size_some false true = omega arith
+size_some false false = omega arith
 
 -- a PES header is not empty
-pub header_some : (id size pts dts : ℕ) → 0 < length (pes_header_bytes id size pts dts)
-header_some id size pts dts =
-    let long : length (pes_header_bytes id size pts dts) ≡ header_size pts dts = header_sizes id size pts dts in
-    let some : 0 < header_size pts dts = size_some (on_wire pts == on_wire dts) in
+pub header_some : (id size : ℕ) (marks : Marks) (pts dts : ℕ) → 0 < length (pes_header_bytes id size marks pts dts)
+header_some id size marks pts dts =
+    let long : length (pes_header_bytes id size marks pts dts) ≡ header_size marks pts dts = header_sizes id size marks pts dts in
+    let some : 0 < header_size marks pts dts = size_some marks.long (on_wire pts == on_wire dts) in
     omega (arith, long, some)

@@ -2,6 +2,7 @@
 use Rattle.std.specs.Prelude.{◌≡◌, ◌≤◌, ◌^◌, ◌+◌, ℕ, List, [], length, Option, Some, None, Result, Ok, Err}
 use Rattle.counted_io.specs.Device.{Failed}
 use Rattle.pes_packet.specs.AccessUnits.{AccessUnit}
+use Rattle.pes_packet.specs.Marks.{marks_size}
 use Rattle.pes_packet.specs.StreamIds.{greatest_size}
 use Rattle.carry.specs.Refusals.{refusal}
 use Rattle.unit_records.specs.Records.{ReadsRecord, after_record, record_at}
@@ -17,6 +18,7 @@ use Rattle.carry.specs.declared.carrying.Stop.TheVariants.{Refused, Unread, OutO
 pub record IsAccepted (id min_next_dts : ℕ) (unit : AccessUnit) : Type 0 where
   pub some : 1 ≤ length unit.bytes
   pub most : length unit.bytes ≤ greatest_size id
+  pub marked : length unit.bytes + marks_size unit.marks ≤ greatest_size id
   pub later : min_next_dts ≤ unit.dts
   pub last : unit.dts ≤ 2 ^ 52
 

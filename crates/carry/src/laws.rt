@@ -2,12 +2,13 @@
 
 ghost use Rattle.carry.specs.Laws.{RunsAreWhole, PacketsJoin};
 
-/// An input has no more records than bytes, so the run that is defined over that number of records is the whole run.
+/// States that an input has no more records than bytes, so the run that is defined over that number of records is
+/// the whole run.
 pub fn runs_are_whole()
     ensures { RunsAreWhole }
 {}
 
-/// The packets of payloads, listed one by one, are the packets that `ts_packet` defines.
+/// States that the packets of payloads, listed one by one, are the packets that `ts_packet` defines.
 pub fn packets_join()
     ensures { PacketsJoin }
 {}

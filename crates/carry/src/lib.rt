@@ -1,7 +1,7 @@
 //! Records of one stream become the packets of one PID, back to back, without a plan.
 //!
 //! `specs/Refusals` says which unit is refused, `specs/PidPackets` which packets a unit has, and `specs/RecordRuns`
-//! what a whole input of records becomes, what is answered and what is left of the input.
+//! what a whole input of records becomes, the answer and the rest of the input.
 //!
 //! The modules: why a unit is refused, the packets of a unit, the run over records; the laws.
 #![tactic(auto)]

@@ -52,7 +52,7 @@ pub(crate) fn push_unit<A: Allocator, B: Allocator, W: Sink>(
     ensures clean { OnOk result (W.fault_count to.new ≡ W.fault_count to.old) }
     ensures fault { OnErr result (Failed (W.fault_count to.old) (W.fault_count to.new)) }
 {
-    let header = write_header(id, unit.bytes.len(), unit.pts, unit.dts);
+    let header = write_header(id, unit.bytes.len(), unit.marks, unit.pts, unit.dts);
     push_pieces(packets, to, pid, counter, &header, &unit.bytes)
 }
 
@@ -68,7 +68,7 @@ fn push_pieces<A: Allocator, W: Sink>(
     requires pid { pid < 8192 }
     requires counter { counter < 16 }
     requires lower { 0 < length header.now }
-    requires upper { length header.now ≤ 19 }
+    requires upper { length header.now ≤ 45 }
     ensures ok { (start : Option (List ℕ)) (all : List ℕ) (number : ℕ) →
         IsOutput start (W.contents to.old) packets.old all → counter ≡ number % 16 →
         IfOk result (λ next. (next ≡ (number + piece_count (length (header.now ++ bytes.now))) % 16)

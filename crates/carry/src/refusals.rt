@@ -7,8 +7,8 @@ use pes_packet::{Unit, greatest_size};
 use std::alloc::Allocator;
 use unit_queue::{FeedError, own_cause, time_cause};
 
-/// The first cause for which a unit is refused where stream 0 has a PID for itself: its stream_id is `id`, and no DTS
-/// below `min_next_dts` is accepted.
+/// Returns the first cause for which a unit is refused where stream 0 has a PID for itself: its stream_id is `id`,
+/// and no DTS below `min_next_dts` is accepted.
 #[tactic(auto, unfolding(crate::specs::Refusals::refusal, unit_queue::specs::Causes::or_cause))]
 pub(crate) fn refusal<A: Allocator>(
     id: u8,

@@ -1,7 +1,7 @@
 //! A count of failures beside any reader or writer.
 //!
 //! Proved of any device: a call of `read_some` or `write_some` that answers an `Err` counts one failure more, any other
-//! none, and known bytes are those of the inner device. That each call makes one call of the inner device and returns
+//! none, and known bytes are the inner device's bytes. That each call makes one call of the inner device and returns
 //! its answer is tested (`tests/devices` of the crate `wire_tests`): no contract over any device can say it.
 ghost use Rattle.std.specs.Prelude.{◌≡◌};
 ghost use Rattle.counted_io.specs.Device.{CountsOne};
@@ -11,7 +11,7 @@ use crate::reading::Source;
 use crate::writing::Sink;
 use std::io::{self, Error, ErrorKind, Read, Write};
 
-/// A reader or writer with the count of its failed calls. Its bytes are those of the inner one.
+/// A reader or writer with the count of its failed calls. Its bytes are the inner device's bytes.
 #[derive(Drop)]
 pub struct Counted<T> {
     inner: T,
@@ -19,7 +19,7 @@ pub struct Counted<T> {
 }
 
 impl<T> Counted<T> {
-    /// No call has failed yet.
+    /// Returns it with no failed call.
     pub fn new(inner: T) -> Counted<T>
         ensures inner { inner_of result ≡ inner }
         ensures faults { failures_of result ≡ 0 }
@@ -27,7 +27,7 @@ impl<T> Counted<T> {
         Counted { inner, faults: 0 }
     }
 
-    /// The reader or writer again.
+    /// Returns the reader or writer again.
     pub fn into_inner(self) -> T
         ensures { result ≡ inner_of self }
     {

@@ -45,7 +45,7 @@ impl<T> Failing<T> {
         }
     }
 
-    /// The reader or writer again.
+    /// Returns the reader or writer again.
     pub fn into_inner(self) -> T
         ensures { result ≡ wrapped_of self }
     {

@@ -1,4 +1,4 @@
-//! What is left of a part when the device fails.
+//! The rest of a part when the device fails.
 use thiserror::Error;
 
 /// A call of the device failed. `taken` counts the bytes of the part that were read or written before that call.

@@ -11,14 +11,14 @@ use std::io::{self, Read};
 pub trait Source: Read {
     ghost fault_count: { Self → ℕ };
 
-    /// One `read`. A failed one takes no byte and is counted.
+    /// Returns one `read`. A failed one takes no byte and is counted.
     fn read_some(&mut self, part: &mut [u8]) -> io::Result<usize>
         ensures bound { ReadsAtMost result part.new }
         ensures bytes { ReadConsumes (Self.remaining self.old) (Self.remaining self.new)
             result part.new }
         ensures counts { CountsFailure (fault_count self.old) (fault_count self.new) result };
 
-    /// How many calls of `read_some` have failed. The count stops at `u64::MAX`.
+    /// Returns how many calls of `read_some` have failed. The count stops at `u64::MAX`.
     fn faults(&self) -> u64
         ensures { result ≡ fault_count self.now };
 }

@@ -20,7 +20,7 @@ pub trait Sink: Write {
             result part.now }
         ensures counts { CountsFailure (fault_count self.old) (fault_count self.new) result };
 
-    /// How many calls of `write_some` have failed. The count stops at `u64::MAX`.
+    /// Returns how many calls of `write_some` have failed. The count stops at `u64::MAX`.
     fn faults(&self) -> u64
         ensures { result ≡ fault_count self.now };
 }

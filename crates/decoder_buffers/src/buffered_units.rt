@@ -25,7 +25,7 @@ pub fn drop_removed<A: Allocator>(units: &mut Vec<BufferedUnit, A>, moment: u128
     units.retain(|unit| is_buffered(unit, moment));
 }
 
-/// The number of bytes, and a moment until which all stay.
+/// Returns the number of bytes, and a moment until which all stay.
 pub fn tally(units: &[BufferedUnit]) -> (u64, u128)
     requires { all_bytes units.now < 2 ^ 64 }
     ensures bytes { result.0 ≡ all_bytes units.now }

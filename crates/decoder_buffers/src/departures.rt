@@ -15,7 +15,7 @@ pub struct Departures<'a> {
     /// The packets ahead, and the index of the first of them.
     pub packets: &'a [[u8; 188]],
     pub index: u64,
-    /// The next payload byte of the packet under way, by its number in the output, and the number of those left.
+    /// The next payload byte of the current packet, by its number in the output, and the number of bytes left.
     pub byte: u64,
     pub left: u64,
     pub ghost slow: { rx ≤ 40000000000000000 },
@@ -34,7 +34,7 @@ impl<'a> Departures<'a> {
     ghost use Rattle.decoder_buffers.specs.Queues.{greatest_residence};
     ghost use Rattle.decoder_buffers.specs.DepartureWalk.{left_ahead, walk_residence, given};
 
-    /// A walk from the first packet of the output on.
+    /// Begins a walk at the first packet of the output.
     #[tactic(auto, unfolding(crate::specs::DepartureWalk::left_ahead, crate::specs::DepartureWalk::walk_residence, clock27::specs::Arrival::bytes_from, clock27::specs::Departure::departures, clock27::specs::Departure::last_left))]
     pub fn new(pid: u16, rx: u64, rate: u64, packets: &'a [[u8; 188]]) -> Departures<'a>
         requires rx { rx ≤ 40000000000000000 }
@@ -84,7 +84,7 @@ impl<'a> Departures<'a> {
         true
     }
 
-    /// When the next payload byte leaves, if there is one.
+    /// Returns when the next payload byte leaves, if there is one.
     pub fn next(&mut self) -> Option<u128>
         ensures ahead { left_ahead self.old ≡ given result (left_ahead self.new) }
         ensures longest_residence { walk_residence self.new ≡ walk_residence self.old }

@@ -7,9 +7,9 @@ use std::alloc::{AllocError, Allocator};
 /// The bytes of a stream's units that have entered its main buffer. Each stays until the decoding time of its unit.
 #[derive(Drop)]
 pub struct MainBuffer<A: Allocator> {
-    /// The bytes of the units before the one under way.
+    /// The bytes of the units before the current unit.
     pub earlier: Vec<BufferedUnit, A>,
-    /// The bytes of the unit under way.
+    /// The bytes of the current unit.
     pub current: BufferedUnit,
     /// No byte of `earlier` is removed before.
     pub next: u128,
@@ -22,7 +22,7 @@ impl<A: Allocator> MainBuffer<A> {
     ghost use Rattle.decoder_buffers.specs.BufferState.{fullness_at, IsSound};
     ghost use Rattle.decoder_buffers.specs.BufferedUnits.{one_buffered, buffered_bytes};
 
-    /// An empty buffer. No unit is under way: a byte that entered it would come too late.
+    /// Returns an empty buffer without a current unit: a byte that entered it would be too late.
     pub fn new(alloc: A) -> MainBuffer<A>
         ensures sound { IsSound result }
         ensures empty { (x : ℕ) → fullness_at result x ≡ 0 }
@@ -39,7 +39,7 @@ impl<A: Allocator> MainBuffer<A> {
         }
     }
 
-    /// The next unit begins; its bytes stay until `until`. Where memory is wanting the one under way goes on.
+    /// Begins the next unit; its bytes stay until `until`. If memory runs out, the current unit continues.
     pub fn begin(&mut self, until: u128) -> Result<(), AllocError>
         requires sound { IsSound self.old }
         ensures sound { IsSound self.new }
@@ -77,7 +77,7 @@ impl<A: Allocator> MainBuffer<A> {
         }
     }
 
-    /// A byte of the unit under way enters the buffer, or comes too late for it.
+    /// Takes a byte of the current unit: it enters the buffer, or is too late for it.
     pub fn enter(&mut self, moment: u128)
         requires sound { IsSound self.old }
         requires room { self.old.fullness + 1 < 2 ^ 64 }

@@ -5,7 +5,7 @@ ghost use Rattle.decoder_buffers.specs.PidPackets.{size_in};
 
 use ts_packet::read_packet;
 
-/// The size of the payload of a packet, if it is one of this PID.
+/// Returns the size of the payload of a packet, if it is a packet of this PID.
 #[tactic(auto, unfolding(crate::specs::PidPackets::size_in))]
 pub fn size_on(pid: u16, packet: &[u8; 188]) -> Option<u64>
     ensures size { result ≡ size_in pid (packet_at packet.now) }

@@ -1,4 +1,4 @@
-//! When the payload bytes of a PID enter the buffer from which their units are removed.
+//! When the payload bytes of a PID enter the buffer where their units wait for their removal.
 ghost use Rattle.std.specs.Prelude.{◌≡◌, ℕ, ◌+◌, ◌*◌, ◌<◌, ◌≤◌, ◌^◌, List, [], ◌∷◌, length, IfSome, IfNone};
 ghost use Rattle.decoder_buffers.specs.MultiplexingQueue.{IsWithin, last_in, passed, residence_in};
 
@@ -53,7 +53,7 @@ impl<'a> PayloadBytes<'a> {
     ghost use Rattle.decoder_buffers.specs.MultiplexingQueue.{peak_in};
     ghost use Rattle.decoder_buffers.specs.PayloadBytes.{bytes_ahead, residences, last_of};
 
-    /// A walk from the first packet of the output on, into a main buffer.
+    /// Begins a walk at the first packet of the output, into a main buffer.
     #[tactic(auto, unfolding(crate::specs::MultiplexingQueue::last_in, crate::specs::MultiplexingQueue::passed, crate::specs::MultiplexingQueue::residence_in, crate::specs::PayloadBytes::bytes_ahead, crate::specs::PayloadBytes::residences, crate::specs::DepartureWalk::walk_residence))]
     pub fn new(pid: u16, rx: u64, rate: u64, packets: &'a [[u8; 188]]) -> PayloadBytes<'a>
         requires rx { rx ≤ 200000000 }
@@ -77,7 +77,7 @@ impl<'a> PayloadBytes<'a> {
         }
     }
 
-    /// A walk from the first packet of the output on, through a multiplexing buffer that leaks `rbx` bits a second.
+    /// Begins a walk at the first packet of the output, through a multiplexing buffer that leaks `rbx` bits a second.
     #[tactic(auto, unfolding(crate::specs::MultiplexingQueue::last_in, crate::specs::MultiplexingQueue::passed, crate::specs::MultiplexingQueue::residence_in, crate::specs::PayloadBytes::bytes_ahead, crate::specs::PayloadBytes::residences, crate::specs::DepartureWalk::walk_residence))]
     pub fn leaking(
         pid: u16,
@@ -113,7 +113,7 @@ impl<'a> PayloadBytes<'a> {
         }
     }
 
-    /// When the next payload byte enters, if there is one.
+    /// Returns when the next payload byte enters, if there is one.
     pub fn next(&mut self) -> Option<u128>
         ensures ahead { bytes_ahead self.old ≡ given result (bytes_ahead self.new) }
         ensures residences { residences self.new ≡ residences self.old }
@@ -135,7 +135,7 @@ impl<'a> PayloadBytes<'a> {
         Some(time)
     }
 
-    /// When the last byte was given, 0 before the first.
+    /// Returns when the last byte was given, 0 before the first.
     #[tactic(auto, unfolding(crate::specs::MultiplexingQueue::last_in))]
     pub fn last(&self) -> u128
         ensures { result ≡ last_of self.now }
@@ -146,7 +146,7 @@ impl<'a> PayloadBytes<'a> {
         }
     }
 
-    /// The most bytes that were in the multiplexing buffer together, 0 if there is none.
+    /// Returns the most bytes that were in the multiplexing buffer together, 0 if there is none.
     #[tactic(auto, unfolding(crate::specs::MultiplexingQueue::peak_in))]
     pub fn peak(&self) -> u128
         ensures { result ≡ peak_in self.now.multiplexing }

@@ -14,7 +14,7 @@ pub struct Queue {
 }
 
 impl Queue {
-    /// No byte has arrived.
+    /// Returns an empty queue.
     pub fn new(step: u64) -> Queue
         ensures { result ≡ record { step = step; last = 0; longest_residence = 0 } }
     {
@@ -25,7 +25,7 @@ impl Queue {
         }
     }
 
-    /// A byte arrives; the time at which it leaves.
+    /// Takes a byte that arrives, and returns when it leaves.
     pub fn arrive(&mut self, time: u128) -> u128
         requires time { time < 2 ^ 124 }
         requires last { self.old.last < 2 ^ 124 }
@@ -38,7 +38,7 @@ impl Queue {
         left
     }
 
-    /// The most bytes that were in the buffer together.
+    /// Returns the most bytes that were in the buffer together.
     pub fn peak(&self) -> u128
         requires step { 0 < self.now.step }
         requires longest_residence { self.now.longest_residence < 2 ^ 124 }
@@ -48,7 +48,7 @@ impl Queue {
     }
 }
 
-/// `count` bytes arrive, from byte `from` of the output on, each `drain` after the one before.
+/// Takes `count` bytes, from byte `from` of the output on, each `drain` after the one before.
 pub fn arrive_row(queue: &mut Queue, drain: u64, from: u64, count: u64)
     requires drain { drain ≤ 2 ^ 56 }
     requires step { queue.old.step ≤ 2 ^ 56 }

@@ -14,7 +14,7 @@ use arrayvec::ArrayVec;
 use pes_packet::{Stamps, read_header};
 use std::alloc::{AllocError, Allocator};
 
-/// Whether there is a PTS.
+/// Returns whether there is a PTS.
 pub(crate) fn is_stamped(stamps: Stamps) -> bool
     ensures { result ≡ units.is_stamped stamps }
 {
@@ -31,7 +31,7 @@ fn has_pts(bytes: &[u8]) -> bool
     }
 }
 
-/// What begins with these bytes.
+/// Returns what begins with these bytes.
 #[tactic(auto, unfolding(crate::specs::OpenUnits::begun_kind))]
 pub(crate) fn begun_kind(kind: UnitKind, bytes: &[u8]) -> Kind
     ensures { result ≡ units.begun_kind kind bytes.now }
@@ -131,7 +131,7 @@ fn open_pes<A: Allocator + Clone>(
     })
 }
 
-/// A PES packet that begins.
+/// Returns a PES packet that begins.
 #[tactic(auto, unfolding(crate::specs::Findings::undecided, crate::specs::Findings::unless_decided, crate::specs::Findings::found_within))]
 pub(crate) fn begin_pes<'p, 'a: 'p, A: Allocator + Clone>(
     alloc: &A,

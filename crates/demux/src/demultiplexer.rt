@@ -19,7 +19,7 @@ use std::alloc::{AllocError, Allocator, Global};
 use std::marker::Model;
 use ts_packet::{Packet, PacketError, read_packet};
 
-/// What is kept of a transport stream: a state for each PID, and the at most 187 bytes of a packet that is not whole
+/// The state of a transport stream: a state for each PID, and the at most 187 bytes of a packet that is not whole
 /// yet.
 ///
 /// The state of a PID has its last packet and its open unit: at most 8,388,608 bytes of a section or a PES packet.
@@ -71,7 +71,7 @@ fn join(held: &[u8], front: &[u8]) -> [u8; 188]
 }
 
 impl<A: Allocator + Copy> Demux<A> {
-    /// Before the first byte.
+    /// Returns the state before the first byte.
     pub fn new(alloc: A) -> Demux<A>
         ensures { result ≡ stream.start }
     {
@@ -84,14 +84,14 @@ impl<A: Allocator + Copy> Demux<A> {
         }
     }
 
-    /// Whether no part of a packet is held.
+    /// Returns whether no part of a packet is held.
     pub fn aligned(&self) -> bool
         ensures { result ≡ stream.is_aligned self.now }
     {
         self.held.is_empty()
     }
 
-    /// What was found by `push` and `finish` and not forgotten since.
+    /// Returns what was found by `push` and `finish` and not forgotten since.
     pub fn findings(&self) -> &[Finding<'static, A>]
         ensures found { map finding_view result.now ≡ self.now.found }
         ensures joined { list_any is_span result.now ≡ false }
@@ -183,7 +183,7 @@ impl<A: Allocator + Copy> Demux<A> {
         }
     }
 
-    /// Takes a piece of the stream, of any size. What is found is added to the findings.
+    /// Takes a piece of the stream, of any size, and adds what it finds to the findings.
     ///
     /// Out of memory: the bytes before the packet that needed more are taken, and the rest may be given again.
     pub fn push(&mut self, piece: &[u8]) -> Result<(), DemuxError>
@@ -205,9 +205,9 @@ impl<A: Allocator + Copy> Demux<A> {
         Ok(())
     }
 
-    /// Takes a packet in which nothing is found, where no part of one is held, if its first four bytes show that it is
-    /// one: a null packet, or a payload alone that goes on with an open section or PES packet and does not end it.
-    /// Whether it is taken; else nothing changes: it is another packet, there is no memory, or the stream has ended.
+    /// Takes a packet without a finding, between whole packets, if its first four bytes show that it is one:
+    /// a null packet, or a payload alone that continues an open section or PES packet and does not end it. Returns
+    /// whether it took the packet; if not, nothing changes: it is another packet, memory is short, or the stream has ended.
     pub fn go_on(&mut self, bytes: &[u8; 188]) -> bool
         requires { stream.is_aligned self.old ≡ true }
         ensures taken { result ≡ true → self.new ≡ stream.taken self.old bytes.now }
@@ -224,8 +224,8 @@ impl<A: Allocator + Copy> Demux<A> {
         self.take_plain(bytes)
     }
 
-    /// Takes a packet, where no part of one is held. What is found goes to `found`, and points into the packet where it
-    /// lies in it whole.
+    /// Takes a packet, between whole packets. Findings go to `found`; a finding points into the packet if it lies in the
+    /// packet whole.
     pub fn take<'a>(
         &mut self,
         bytes: &'a [u8; 188],
@@ -288,8 +288,8 @@ impl<A: Allocator + Copy> Demux<A> {
         self.packets = self.packets.saturating_add(1);
     }
 
-    /// A packet comes in which nothing is found, such as a null packet: it is counted, and nothing else changes. Whether
-    /// the stream has ended is not looked at.
+    /// Counts a packet without a finding, such as a null packet; nothing else changes. It does not look whether the
+    /// stream has ended.
     #[tactic(auto, using(crate::proofs::NullPackets::null_found))]
     pub fn skip(&mut self)
         requires aligned { stream.is_aligned self.old ≡ true }
@@ -313,7 +313,7 @@ impl<A: Allocator + Copy> Demux<A> {
         Ok(found)
     }
 
-    /// The stream ends: what that decides is added to the findings. A second end adds nothing.
+    /// Ends the stream, and adds what the end decides to the findings. A second end adds nothing.
     pub fn finish(&mut self) -> Result<(), DemuxError>
         ensures ok { OnOk result (self.new ≡ stream.finished self.old) }
         ensures again { self.old.ended ≡ true → result ≡ Ok tt }
@@ -334,7 +334,7 @@ impl<A: Allocator + Copy> Demux<A> {
         Ok(())
     }
 
-    /// What was found by `push` and `finish` and not forgotten since; the rest is dropped.
+    /// Returns what was found by `push` and `finish` and not forgotten since; the rest is dropped.
     pub fn into_findings(self) -> Vec<Finding<'static, A>, A>
         ensures found { map finding_view result.items ≡ self.found }
         ensures joined { list_any is_span result.items ≡ false }
@@ -343,7 +343,7 @@ impl<A: Allocator + Copy> Demux<A> {
     }
 }
 
-/// What is found in a whole stream, with its end. Every part of a finding is joined.
+/// Returns the findings of a whole stream, with its end. Every part of a finding is joined.
 pub fn whole<A: Allocator + Copy>(
     alloc: A,
     bytes: &[u8],

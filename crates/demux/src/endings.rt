@@ -1,4 +1,4 @@
-//! How an open unit ends, or goes on.
+//! How an open unit ends, or continues.
 ghost use Rattle.std.specs.Prelude.{◌≡◌, ◌≤◌, ◌+◌, ◌++◌, ◌∷◌, [], IfOk, OnOk, OnErr, length, take, drop, false, is_some};
 ghost use Rattle.std.specs.Prelude.{vec_capacity, vec_len};
 ghost use Rattle.pes_packet.specs.Reading.{header_at};
@@ -66,7 +66,7 @@ fn end_of<'a, A: Allocator + Clone>(
     }
 }
 
-/// The open unit is cut short.
+/// Cuts the open unit short.
 pub(crate) fn cut_short<'a, A: Allocator + Clone>(
     alloc: &A,
     place: Place,
@@ -84,7 +84,7 @@ pub(crate) fn cut_short<'a, A: Allocator + Clone>(
     note(place, Some((unit.packet, begun)), what, found)
 }
 
-/// The open unit ends: a PES packet without a length is whole.
+/// Ends the open unit: a PES packet without a length is whole.
 #[tactic(auto, unfolding(crate::specs::Findings::ended))]
 pub(crate) fn end_unit<'a, A: Allocator + Clone>(
     alloc: &A,
@@ -148,7 +148,7 @@ fn end_section<'a, A: Allocator + Clone>(
     }
 }
 
-/// The bytes before the place to which pointer_field points.
+/// Returns the bytes before the place to which pointer_field points.
 #[tactic(auto, unfolding(crate::specs::Findings::last_bytes, crate::specs::Findings::last_bytes_by))]
 pub(crate) fn end_before_pointer<'a, A: Allocator + Clone>(
     alloc: &A,
@@ -244,7 +244,7 @@ fn note_whole<'a, A: Allocator + Clone>(
     Ok(())
 }
 
-/// The open unit ends where a PES packet begins. One without a length is moved to the finding, and no bytes are left.
+/// Ends the open unit where a PES packet begins. One without a length is moved to the finding, and no bytes are left.
 #[tactic(auto, unfolding(crate::specs::Findings::ended))]
 pub(crate) fn end_moved<'a, A: Allocator + Clone>(
     alloc: &A,
@@ -316,7 +316,7 @@ fn append_last<'a, A: Allocator + Clone>(
     append_bytes(alloc, place, packet, kind, payload, &mut unit.bytes, found)
 }
 
-/// A payload that goes on with the open unit, where it stands; where that decides the unit, it is open no more.
+/// Returns a payload that goes on with the open unit, where it stands; where that decides the unit, it is open no more.
 #[tactic(auto, unfolding(crate::specs::Findings::found_appended, crate::specs::Findings::found_if, crate::specs::Findings::undecided, crate::specs::Findings::unless_decided, crate::specs::Machine::next_open), using(crate::proofs::LeastSizes::still_open))]
 pub(crate) fn append_payload<'a, A: Allocator + Clone>(
     alloc: &A,

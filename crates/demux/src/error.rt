@@ -16,7 +16,7 @@ impl DemuxError {
     ghost use Rattle.std.specs.Prelude.{◌≡◌};
     ghost use Rattle.demux.specs.Codes.{code_of};
 
-    /// The number of this refusal, from 1.
+    /// Returns the number of this refusal, from 1.
     pub fn code(self) -> u8
         ensures { result ≡ code_of self }
     {

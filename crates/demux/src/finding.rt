@@ -24,7 +24,7 @@ pub enum Part<'a, A: Allocator = Global> {
 }
 
 impl<A: Allocator> Part<'_, A> {
-    /// The bytes, wherever they lie.
+    /// Returns the bytes, borrowed or owned.
     pub fn bytes(&self) -> &[u8]
         ensures { result.now ≡ part_bytes self.now }
     {
@@ -35,7 +35,7 @@ impl<A: Allocator> Part<'_, A> {
     }
 }
 
-/// What is found.
+/// The kind of a finding.
 #[derive(Drop)]
 pub enum What<'a, A: Allocator = Global> {
     /// the packet before once more
@@ -68,12 +68,12 @@ pub enum What<'a, A: Allocator = Global> {
     Errored,
 }
 
-/// A finding, at the packet by which it is decided.
+/// A finding, at the packet that decides it.
 #[derive(Drop)]
 pub struct Finding<'a, A: Allocator = Global> {
     /// the packet's index in the stream; the number of whole packets for what the end of the stream decides
     pub packet: u64,
-    /// the PID, none for what is no packet of a PID
+    /// the PID, `None` for bytes that are no packet of a PID
     pub pid: Option<u16>,
     /// of a section or a PES packet: the packet of its first byte, and what begins there
     pub begun: Option<(u64, Kind)>,

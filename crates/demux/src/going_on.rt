@@ -12,7 +12,7 @@ use crate::marks::following;
 use crate::open_unit::OpenUnit;
 use std::alloc::{AllocError, Allocator};
 
-/// Whether a packet has no error, no start, no scrambling and no adaptation field.
+/// Returns whether a packet has no error, no start, no scrambling and no adaptation field.
 #[tactic(auto, using(crate::proofs::GoingOn::plain_read))]
 pub(crate) fn is_plain(bytes: &[u8; 188]) -> bool
     ensures { result ≡ true → packet_at bytes.now ≡ Ok (going.plain_view bytes.now) }
@@ -26,7 +26,7 @@ pub(crate) fn is_plain(bytes: &[u8; 188]) -> bool
     bytes[3] >> 4 == 1
 }
 
-/// The PID in the header of 188 bytes.
+/// Returns the PID in the header of 188 bytes.
 pub fn pid_in(bytes: &[u8; 188]) -> u16
     ensures { result ≡ going.pid_in bytes.now }
 {
@@ -40,7 +40,7 @@ fn counter_in(bytes: &[u8; 188]) -> u8
     bytes[3] & 0x0f
 }
 
-/// Whether the counter follows that of the last packet, if there is one.
+/// Returns whether the counter follows that of the last packet, if there is one.
 pub(crate) fn is_next(last: &Option<Last>, bytes: &[u8; 188]) -> bool
     ensures { result ≡ going.is_next last.now bytes.now }
 {

@@ -1,4 +1,4 @@
-//! What is kept of a packet for the mark of the next one of its PID.
+//! The state of a packet that marks the next packet of its PID.
 ghost use Rattle.std.specs.Prelude.{◌≡◌};
 ghost use Rattle.std.specs.Str.{bytes_eq};
 ghost use Rattle.ts_packet.specs.PcrBytes.{without_pcr};
@@ -31,7 +31,7 @@ impl Model for Last {
 }
 
 impl Last {
-    /// Whether all bytes but those of a program clock reference are these.
+    /// Returns whether all bytes except a program clock reference's bytes equal these.
     pub fn has_content(&self, has_pcr: bool, bytes: &[u8; 188]) -> bool
         ensures { result ≡ bytes_eq (without_pcr has_pcr bytes.now) self.now.content }
     {

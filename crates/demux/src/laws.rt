@@ -4,37 +4,37 @@ ghost use Rattle.demux.specs.Laws.{EachPidAlone, PacketsDecide, PiecesJoin, Take
 ghost use Rattle.demux.specs.Machine.{RunFindsAll};
 ghost use Rattle.demux.specs.FoundSoFar.{AllAreFound, NothingAtFirst, PacketAdds, PacketsAdd, PidFoundSoFar, PieceAdds};
 
-/// Packet by packet, with a state that keeps the last packet and the open unit, the findings are those that the packets
-/// of the PID have as a whole, with the end of the stream and without it.
+/// States that the findings packet by packet, with a state of the last packet and the open unit, are the findings of all
+/// packets of the PID together, with the end of the stream and without it.
 pub fn packet_by_packet()
     ensures { RunFindsAll }
 {}
 
-/// However the bytes of a stream are cut into pieces, they are taken as one piece.
+/// States that however the bytes of a stream are cut into pieces, they are taken as one piece.
 pub fn pieces_join()
     ensures { PiecesJoin }
 {}
 
-/// Where no part of a packet is held, a packet that is taken leaves and finds what its 188 bytes would if they were
-/// pushed.
+/// States that, if no part of a packet is held, a packet that is taken leaves and finds what its 188 bytes would if they
+/// were pushed.
 pub fn taken_as_pushed()
     ensures { TakenAsPushed }
 {}
 
-/// In a stream of fewer than 2^64 - 1 packets the findings of a PID but that of null packets are those of its packets
-/// alone, with the end of the stream and without it.
+/// States that the findings of a PID, except the null packets' PID, are the findings of its packets alone, in a stream
+/// of fewer than 2^64 - 1 packets, with the end of the stream and without it.
 pub fn each_pid_alone()
     ensures { EachPidAlone }
 {}
 
-/// Streams that agree on a PID's packets and their places agree on its findings; with the end of the stream, if they
-/// also agree on the number of packets.
+/// States that streams that agree on a PID's packets and their places agree on its findings; with the end of the stream,
+/// if they also agree on the number of packets.
 pub fn packets_decide()
     ensures { PacketsDecide }
 {}
 
-/// A caller who takes the findings away as they come, after a packet or several that were taken or a piece that was
-/// pushed, has all that are found, joined in their order; at the end the last ones follow.
+/// States that a caller who takes the findings away as they come, after a packet or several that were taken or a piece
+/// that was pushed, has all that are found, joined in their order; at the end the last ones follow.
 pub fn nothing_is_lost()
     ensures at_first { NothingAtFirst }
     ensures packet { PacketAdds }
@@ -43,7 +43,7 @@ pub fn nothing_is_lost()
     ensures all { AllAreFound }
 {}
 
-/// Those of a PID are then the findings of its packets, with the end of the stream and without it.
+/// States that the findings of a PID are then the findings of its packets, with the end of the stream and without it.
 pub fn each_pid_so_far()
     ensures { PidFoundSoFar }
 {}

@@ -1,4 +1,4 @@
-//! What is found in a transport stream: PES packets, sections, and what is wrong with the packets that carry them.
+//! The findings of a transport stream: PES packets, sections, and faults of the packets that carry them.
 //!
 //! The findings of a PID are a function of that PID's packets alone (`specs/Findings`). `Demux` takes a stream in
 //! pieces of any size or packet by packet and keeps a state for each PID, which finds the same (`packet_by_packet`,

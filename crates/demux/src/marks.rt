@@ -27,7 +27,7 @@ fn is_discontinuity(packet: &Packet<'_>) -> bool
     }
 }
 
-/// The counter that follows.
+/// Returns the counter that follows.
 pub(crate) fn following(counter: u8, has_payload: bool) -> u8
     ensures { result ≡ marks.following counter has_payload }
 {
@@ -38,7 +38,7 @@ pub(crate) fn following(counter: u8, has_payload: bool) -> u8
     }
 }
 
-/// Whether a packet is the last one once more.
+/// Returns whether a packet is the last one once more.
 #[tactic(auto, unfolding(crate::specs::Marks::repeats))]
 fn is_repeat(last: &Last, index: u64, packet: &Packet<'_>, bytes: &[u8; 188]) -> bool
     ensures { result ≡ marks.repeats last.now (entry_with index bytes.now packet.now) }
@@ -50,7 +50,7 @@ fn is_repeat(last: &Last, index: u64, packet: &Packet<'_>, bytes: &[u8; 188]) ->
         && last.has_content(has_pcr(packet), bytes)
 }
 
-/// What a packet is that does not repeat the last one.
+/// Returns the mark of a packet that does not repeat the last one.
 #[tactic(auto, unfolding(crate::specs::Marks::break_after))]
 fn follows(last: &Last, index: u64, packet: &Packet<'_>, bytes: &[u8; 188]) -> Mark
     ensures new { mark_duplicate result ≡ false }
@@ -65,7 +65,7 @@ fn follows(last: &Last, index: u64, packet: &Packet<'_>, bytes: &[u8; 188]) -> M
     }
 }
 
-/// What a packet is to the last one, if there is one.
+/// Returns the mark of a packet after the last one, if there is one.
 #[tactic(auto, unfolding(crate::specs::Marks::is_repeat, crate::specs::Marks::break_at))]
 pub(crate) fn mark_of(
     last: &Option<Last>,

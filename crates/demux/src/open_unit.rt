@@ -44,7 +44,7 @@ impl<A: Allocator> Model for OpenUnit<A> {
 }
 
 impl<A: Allocator + Clone> OpenUnit<A> {
-    /// All its bytes, with room for others.
+    /// Returns all its bytes, with room for others.
     pub fn joined(&self, alloc: &A, more: usize) -> Result<Vec<u8, A>, AllocError>
         ensures { IfOk result (λ joined. joined.items ≡ self.now.bytes) }
     {

@@ -12,7 +12,7 @@ pub enum PayloadBytes<'p, 'a> {
     Copied(&'p [u8]),
 }
 
-/// The bytes from one place to another, as far as they are there.
+/// Returns the bytes from one place to another, as far as they are there.
 fn middle(bytes: &[u8], start: usize, end: usize) -> &[u8]
     ensures { result.now ≡ take (end - start) (drop start bytes.now) }
 {
@@ -28,7 +28,7 @@ fn middle(bytes: &[u8], start: usize, end: usize) -> &[u8]
     middle
 }
 
-/// The bytes themselves.
+/// Returns the bytes themselves.
 pub(crate) fn bytes_of<'p, 'a: 'p>(payload: PayloadBytes<'p, 'a>) -> &'p [u8]
     ensures { result.now ≡ payload_list payload.entry }
 {

@@ -24,7 +24,7 @@ use std::alloc::{AllocError, Allocator};
 use std::marker::Model;
 use ts_packet::Packet;
 
-/// What is kept of a PID: its last packet, and its open unit.
+/// The state of a PID: its last packet, and its open unit.
 #[derive(Drop)]
 pub struct PidState<A: Allocator> {
     last: Option<Last>,
@@ -224,7 +224,7 @@ fn take_marked<'p, 'a: 'p, A: Allocator + Clone>(
 }
 
 impl<A: Allocator + Clone> PidState<A> {
-    /// Before the first packet.
+    /// Returns the state before the first packet.
     pub fn new() -> PidState<A>
         ensures { result ≡ machine.fresh }
     {
@@ -234,8 +234,8 @@ impl<A: Allocator + Clone> PidState<A> {
         }
     }
 
-    /// Takes a packet that has a payload alone, if its counter follows, it goes on with an open unit that stays open, and
-    /// there is memory for it. Whether it does; else nothing changes.
+    /// Takes a packet that has a payload alone, if its counter follows, it continues an open unit that stays open, and
+    /// there is memory for it. Returns whether it took the packet; if not, nothing changes.
     pub fn go_on(&mut self, index: u64, bytes: &[u8; 188]) -> bool
         ensures state { result ≡ true → self.new ≡ machine.step self.old (plain_entry index bytes.now) }
         ensures none { result ≡ true → machine.found_by self.old (plain_entry index bytes.now) ≡ [] }
@@ -277,7 +277,7 @@ impl<A: Allocator + Clone> PidState<A> {
         Ok(())
     }
 
-    /// Where the stream ends.
+    /// Ends the stream.
     #[tactic(auto, using(crate::proofs::FoundViews::says, crate::proofs::FoundViews::joined))]
     pub fn finish<'a>(
         &self,

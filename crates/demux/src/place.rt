@@ -66,7 +66,7 @@ pub(crate) fn note_here<'a, A: Allocator>(
     Ok(())
 }
 
-/// What is found of a section or a PES packet with these bytes.
+/// Returns what is found of a section or a PES packet with these bytes.
 pub(crate) fn what_by<'p, 'a: 'p, A: Allocator + Clone>(
     alloc: &A,
     verdict: Verdict,

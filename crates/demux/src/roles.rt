@@ -71,7 +71,7 @@ fn role_by<'p, 'a: 'p>(starts: bool, payload: Option<PayloadBytes<'p, 'a>>) -> P
     role_by_pointer(payload)
 }
 
-/// What a packet with this header does with this payload.
+/// Returns what a packet with this header does with this payload.
 pub(crate) fn role_of<'p, 'a: 'p>(
     header: &Header,
     payload: Option<PayloadBytes<'p, 'a>>,

@@ -1,4 +1,4 @@
-//! Sections one after the other in a payload, up to a byte FF in a table_id's place (ISO/IEC 13818-1, 2.4.4).
+//! Sections in a row in a payload, up to a byte FF in a table_id's place (ISO/IEC 13818-1, 2.4.4).
 ghost use Rattle.std.specs.Prelude.{◌≡◌, ◌<◌, ◌≤◌, IfOk, OnOk, option_map, length, drop};
 ghost use Rattle.demux.specs.OpenUnits as units;
 ghost use Rattle.demux.specs.Shown.{Finds, is_borrowed, payload_list, what_of};

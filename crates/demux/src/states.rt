@@ -1,4 +1,4 @@
-//! The states of the PIDs of a stream, in the order in which these were first seen.
+//! The states of the PIDs of a stream, in the order of each PID's first packet.
 ghost use Rattle.std.specs.Prelude.{◌≡◌, ◌<◌, ◌++◌, [], ℕ, Some, None, OnOk, OnErr, map, false, true, slice_get, nat_eq};
 ghost use Rattle.indexmap.specs.IndexMap.{index_map_len, get, values, set_value_at};
 ghost use Rattle.demux.specs.Machine as machine;
@@ -152,7 +152,7 @@ fn end_each<'a, A: Allocator + Copy>(
 }
 
 impl<A: Allocator + Copy> States<A> {
-    /// Before the first packet.
+    /// Returns the state before the first packet.
     pub fn new(alloc: A) -> States<A>
         ensures { result ≡ [] }
     {
@@ -161,13 +161,13 @@ impl<A: Allocator + Copy> States<A> {
         }
     }
 
-    /// Where they are kept.
+    /// Returns the allocator of the states.
     pub fn allocator(&self) -> &A {
         self.by_pid.entries().allocator()
     }
 
-    /// Takes a packet that has a payload alone, if it goes on with the open unit of its PID, nothing is found in it, and
-    /// there is memory for it. Whether it does; else nothing changes.
+    /// Takes a packet that has a payload alone, if it continues the open unit of its PID, it has no finding, and
+    /// there is memory for it. Returns whether it took the packet; if not, nothing changes.
     pub fn go_on(&mut self, index: u64, pid: u16, bytes: &[u8; 188]) -> bool
         ensures states { let state = state_of pid self.old in result ≡ true →
             self.new ≡ with_state pid (machine.step state (plain_entry index bytes.now)) self.old }
@@ -215,7 +215,7 @@ impl<A: Allocator + Copy> States<A> {
         }
     }
 
-    /// What the end of the stream decides of the PIDs, in their order.
+    /// Returns what the end of the stream decides of the PIDs, in their order.
     pub fn end<'a>(&self, packet: u64, found: &mut Vec<Finding<'a, A>, A>) -> Result<(), AllocError>
         ensures found { OnOk result (AddsFindings found.old.items found.new.items (ended_found packet self.now)) }
         ensures joined { OnOk result (KeepsJoined found.old.items found.new.items) }

@@ -23,7 +23,7 @@ pub(crate) enum Verdict {
     BadSection(SectionError),
 }
 
-/// What the bytes at hand decide, none while they are too few; then they are not many.
+/// Returns what the bytes at hand decide, none while they are too few; then they are not many.
 #[tactic(auto, unfolding(crate::specs::OpenUnits::decided))]
 pub(crate) fn decide(kind: UnitKind, bytes: &[u8]) -> Option<Verdict>
     ensures decides { option_map (what_of bytes.now) result ≡ decided kind bytes.now }
@@ -99,7 +99,7 @@ fn least_size(header: PesHeader) -> usize
     6 + header.len as usize
 }
 
-/// The header at the front, apart from the other bytes where it has at most 48.
+/// Returns the header at the front, apart from the other bytes where it has at most 48.
 #[tactic(auto, using(crate::proofs::HeadedUnits::waits_for))]
 pub(crate) fn head_of(bytes: &[u8]) -> Head<'_>
     ensures joined { result.front.now ++ result.rest.now ≡ bytes.now }
@@ -141,7 +141,7 @@ fn unread(bytes: &[u8], least: usize) -> Head<'_>
     }
 }
 
-/// What the first bytes of a PES packet decide, whose header stands apart.
+/// Returns what the first bytes of a PES packet decide, whose header stands apart.
 #[tactic(auto, unfolding(crate::specs::OpenUnits::decided, crate::specs::OpenUnits::of_pes))]
 pub(crate) fn decide_first(head: Head<'_>, bytes: &[u8]) -> Option<Verdict>
     requires { IsFront head.header UnitKind.Pes head.front.now bytes.now }

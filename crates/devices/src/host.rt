@@ -19,7 +19,7 @@ use std::process::ExitCode;
 /// the buffer.
 const INPUT_ROOM: usize = 1 << 16;
 
-/// A program over any files, a reader that tells which bytes it holds, and two writers.
+/// A program over any files, a reader that shows which bytes it holds, and two writers.
 pub trait Program {
     /// Reads the input, writes the output, reports faults, and returns the exit status. It may open files by name.
     fn run<F: NamedFiles, R: HeldInput, W: Sink, E: Sink>(
@@ -43,14 +43,15 @@ struct Writers {
     faults: Counted<Stderr>,
 }
 
-/// The code with which a process ends, of a status.
+/// Returns the code with which a process ends, of a status.
 fn exit_code(status: u8) -> ExitCode
     ensures { exit_status result ≡ status }
 {
     ExitCode::from(status)
 }
 
-/// The status where the command line can't be read: out of memory, or a word is not UTF-8, which is a usage error.
+/// Returns the status where the command line can't be read: out of memory, or a word is not UTF-8, which is a usage
+/// error.
 fn without_words<P: Program, E: Sink>(error: Error, faults: &mut E) -> u8
     ensures { (result ≡ 2) ⊎ (result ≡ 3) }
 {
@@ -60,14 +61,14 @@ fn without_words<P: Program, E: Sink>(error: Error, faults: &mut E) -> u8
     }
 }
 
-/// Whether the words ask for progress.
+/// Returns whether the words ask for progress.
 fn ask_for_progress(words: &[&str]) -> bool
     ensures { result ≡ list_any (λ word. bytes_eq word.now (codes "--progress")) words.now }
 {
     words.iter().any(|word| *word == "--progress")
 }
 
-/// The bytes of the input, where it is a file.
+/// Returns the bytes of the input, where it is a file.
 fn input_size(rt: &HostRuntime) -> Option<u64> {
     let known = metadata(rt, "/dev/stdin").ok()?;
     if known.is_file() {
@@ -90,7 +91,7 @@ fn input_of<'a>(
     }
 }
 
-/// The status of a program with the words of the command line.
+/// Returns the status of a program with the words of the command line.
 fn status_of<P: Program>(rt: &HostRuntime, writers: &mut Writers) -> u8 {
     let args = match env::args(rt) {
         Ok(args) => args,

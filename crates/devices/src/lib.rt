@@ -7,7 +7,7 @@
 //! `specs/Runs` says what a program does that reads its whole input and takes all its memory before the first byte
 //! that it writes: to its end, or until a device fails or memory runs out. `options` are the numbers and flags of a
 //! command line. `files` opens a file by its name; `host` runs a program over the real reader, writers and files. A `Watched` reader
-//! tells on a writer of its own how far it has come, as `meter` says it (`specs/Progress`): that of `host`, where the words ask for it.
+//! reports on a writer of its own how far it has read, in the text of `meter` (`specs/Progress`): `host` uses it if the words ask for it.
 #![tactic(auto)]
 
 mod files;

@@ -16,7 +16,7 @@ pub struct Meter {
     pub taken: u64,
     /// The bytes of the whole input, where they are known.
     pub size: Option<u64>,
-    /// When it was told last, in ms after the beginning.
+    /// When it was last reported, in ms after the beginning.
     pub told: u64,
 }
 
@@ -120,7 +120,7 @@ impl Meter {
         self.taken.saturating_add(n as u64)
     }
 
-    /// The meter after a read of `n` bytes, `ms` after the beginning; none where it was the last.
+    /// Returns the meter after a read of `n` bytes, `ms` after the beginning; none where it was the last.
     #[tactic(auto, unfolding(crate::specs::Progress::meter_after))]
     pub(crate) fn after(self, n: usize, ms: u64) -> Option<Meter>
         ensures { result ≡ spec.meter_after self n ms }
@@ -135,7 +135,7 @@ impl Meter {
         })
     }
 
-    /// What is told after it.
+    /// Returns what is told after it.
     #[tactic(auto, unfolding(crate::specs::Progress::text_after))]
     pub(crate) fn text_after(self, n: usize, ms: u64) -> ArrayVec<u8, ROOM>
         ensures { result.items ≡ spec.text_after self n ms }

@@ -8,7 +8,7 @@ ghost use Rattle.devices.specs.Options as stated;
 use clap::{Arg, ArgAction, ArgMatches};
 use std::alloc::Global;
 
-/// An option `--NAME VALUE`.
+/// Returns an option `--NAME VALUE`.
 pub fn option<'a>(alloc: Global, name: &'a str) -> Arg<'a>
     ensures rule { rule_of result ≡ stated.option_rule name.entry.now }
     ensures local { result.global ≡ false }
@@ -16,7 +16,7 @@ pub fn option<'a>(alloc: Global, name: &'a str) -> Arg<'a>
     Arg::new(alloc, name).long(name)
 }
 
-/// A flag `--NAME`.
+/// Returns a flag `--NAME`.
 pub fn flag<'a>(alloc: Global, name: &'a str) -> Arg<'a>
     ensures rule { rule_of result ≡ stated.flag_rule name.entry.now }
     ensures local { result.global ≡ false }
@@ -24,21 +24,21 @@ pub fn flag<'a>(alloc: Global, name: &'a str) -> Arg<'a>
     Arg::new(alloc, name).long(name).action(ArgAction::SetTrue)
 }
 
-/// Whether a text is decimal digits alone.
+/// Returns whether a text is decimal digits alone.
 fn is_digits(text: &str) -> bool
     ensures { result ≡ list_all is_ascii_digit text.now }
 {
     text.bytes().all(|byte| byte.is_ascii_digit())
 }
 
-/// Whether a text is one decimal digit or more, and nothing else.
+/// Returns whether a text is one decimal digit or more, and nothing else.
 fn is_decimal(text: &str) -> bool
     ensures { result ≡ stated.is_decimal text.now }
 {
     text.len() > 0 && is_digits(text)
 }
 
-/// The number, if it lies within these limits.
+/// Returns the number, if it lies within these limits.
 fn within(low: u64, high: u64, number: u64) -> Option<u64>
     ensures value { result ≡ stated.within low high number }
     ensures lower { IfSome result (λ n. low ≤ n) }
@@ -51,7 +51,7 @@ fn within(low: u64, high: u64, number: u64) -> Option<u64>
     }
 }
 
-/// The value of a text of decimal digits alone, if it lies within these limits.
+/// Returns the value of a text of decimal digits alone, if it lies within these limits.
 pub fn number_in(text: &str, low: u64, high: u64) -> Option<u64>
     ensures value { result ≡ option_and_then (stated.within low high) (stated.decimal text.now) }
     ensures lower { IfSome result (λ n. low ≤ n) }
@@ -66,14 +66,14 @@ pub fn number_in(text: &str, low: u64, high: u64) -> Option<u64>
     within(low, high, number)
 }
 
-/// The text of an option or a flag.
+/// Returns the text of an option or a flag.
 pub fn text_of<'a>(matches: &ArgMatches<'a>, id: &str) -> Option<&'a str>
     ensures { option_map (λ s. s.now) result ≡ first_of id.now (rows_of (found_of matches.now)) }
 {
     matches.get_str(id)
 }
 
-/// The number of an option, `default` where it is not given.
+/// Returns the number of an option, `default` where it is not given.
 #[tactic(auto, unfolding(crate::specs::Options::number_option))]
 pub fn number_option(text: Option<&str>, low: u64, high: u64, default: u64) -> Option<u64>
     requires { default ≤ high }
@@ -86,7 +86,7 @@ pub fn number_option(text: Option<&str>, low: u64, high: u64, default: u64) -> O
     }
 }
 
-/// The number of an option that must be given.
+/// Returns the number of an option that must be given.
 #[tactic(auto, unfolding(crate::specs::Options::number_given))]
 pub fn number_given(text: Option<&str>, low: u64, high: u64) -> Option<u64>
     ensures value { result ≡ stated.number_given low high (option_map (λ s. s.now) text.entry) }
@@ -99,7 +99,7 @@ pub fn number_given(text: Option<&str>, low: u64, high: u64) -> Option<u64>
     }
 }
 
-/// The number of an option that need not be given; none where it is out of these limits.
+/// Returns the number of an option that need not be given; none where it is out of these limits.
 #[tactic(auto, unfolding(crate::specs::Options::number_if_given))]
 pub fn number_if_given(text: Option<&str>, low: u64, high: u64) -> Option<Option<u64>>
     ensures { result ≡ stated.number_if_given low high (option_map (λ s. s.now) text.entry) }
@@ -113,7 +113,7 @@ pub fn number_if_given(text: Option<&str>, low: u64, high: u64) -> Option<Option
     }
 }
 
-/// Whether a flag is given.
+/// Returns whether a flag is given.
 #[tactic(auto, unfolding(crate::specs::Options::is_given))]
 pub fn is_given(text: Option<&str>) -> bool
     ensures { result ≡ stated.is_given (option_map (λ s. s.now) text.entry) }

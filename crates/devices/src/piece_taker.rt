@@ -25,7 +25,7 @@ pub trait PieceTaker {
         ensures memory { IfErr result (λ halt. halt ≡ Halt.Memory) };
 }
 
-/// A piece of this many bytes.
+/// Returns a piece of this many bytes.
 pub fn new_piece(alloc: Global, size: usize) -> Result<Vec<u8>, Halt>
     ensures ok { IfOk result (λ piece. length piece.items ≡ size) }
     ensures err { IfErr result (λ halt. halt ≡ Halt.Memory) }
@@ -47,7 +47,7 @@ pub fn read_piece<R: Source>(input: &mut R, piece: &mut [u8]) -> Result<usize, H
     }
 }
 
-/// The size of an input, if it is no longer than the longest input.
+/// Returns the size of an input, if it is no longer than the longest input.
 pub fn size_within(size: usize) -> Result<usize, Halt>
     ensures ok { IfOk result (λ n. (n ≡ size) × (size ≤ longest_input)) }
     ensures err { IfErr result (λ halt. (halt ≡ Halt.Read) × (longest_input < size)) }

@@ -1,4 +1,4 @@
-//! A reader that tells how far it has come, on a writer of its own.
+//! A reader that reports its progress on a writer of its own.
 ghost use Rattle.std.specs.Prelude.{◌≡◌, false, None, Some, IfSome};
 ghost use Rattle.std.specs.Io.{ReadsAtMost};
 ghost use Rattle.std.specs.Io.KnownBytes.{ReadConsumes};
@@ -11,7 +11,7 @@ use counted_io::Sink;
 use std::io::{self, Read};
 use std::time::{Clock, Instant};
 
-/// A reader that tells how far it has come, if it is to. Its bytes are those of the inner one.
+/// A reader that reports its progress, if asked to. Its bytes are the inner reader's bytes.
 #[derive(Drop)]
 pub struct Watched<R, W, C> {
     inner: R,
@@ -33,7 +33,7 @@ fn ms_since<C: Clock>(begun: Option<Instant>, clock: &C, told: u64) -> u64 {
 }
 
 impl<R, W: Sink, C: Clock> Watched<R, W, C> {
-    /// Tells nothing.
+    /// Reports nothing.
     pub fn silent(inner: R, to: W, clock: C) -> Watched<R, W, C>
         ensures inner { spec.inner_of result ≡ inner }
         ensures writer { spec.writer_of result ≡ to }
@@ -48,7 +48,7 @@ impl<R, W: Sink, C: Clock> Watched<R, W, C> {
         }
     }
 
-    /// Tells how far it has come from now on, of `size` bytes where that is known.
+    /// Reports its progress from now on, out of `size` bytes if the size is known.
     pub fn telling(inner: R, to: W, clock: C, size: Option<u64>) -> Watched<R, W, C>
         ensures inner { spec.inner_of result ≡ inner }
         ensures writer { spec.writer_of result ≡ to }

@@ -11,7 +11,7 @@ use counted_io::Source;
 use std::alloc::{Allocator, Global};
 use std::io::{self, BufRead, BufReader, Read};
 
-/// A reader with a buffer, and the count of its failed calls. Its bytes are those of the buffer, and then of the reader.
+/// A reader with a buffer, and the count of its failed calls. Its bytes are the buffer's bytes, and then the reader's.
 #[derive(Drop)]
 pub struct BufferedInput<T, A: Allocator = Global> {
     reader: BufReader<T, A>,
@@ -19,7 +19,7 @@ pub struct BufferedInput<T, A: Allocator = Global> {
 }
 
 impl<T: Read, A: Allocator> BufferedInput<T, A> {
-    /// No call has failed yet.
+    /// Returns it with no failed call.
     pub fn new(reader: BufReader<T, A>) -> BufferedInput<T, A>
         ensures reader { reader_of result ≡ reader }
         ensures faults { failures_of result ≡ 0 }

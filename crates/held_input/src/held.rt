@@ -1,15 +1,15 @@
-//! A reader that tells which bytes it holds.
+//! A reader that shows which bytes it holds.
 ghost use Rattle.std.specs.Prelude.{◌≡◌, ℕ, [], List, IfSome};
 ghost use Rattle.std.specs.Io.{StartsWith};
 
 use counted_io::{Counted, Source};
 use std::io::Read;
 
-/// A reader that tells which bytes it holds: its next reads give these, and call no device for them.
+/// A reader that shows which bytes it holds: its next reads give these bytes, and call no device for them.
 pub trait HeldInput: Source {
     ghost held: { Self → List ℕ };
 
-    /// The bytes that it holds. Where the bytes that are left are known, they are the first of these.
+    /// Returns the bytes that it holds. Where the bytes that are left are known, they are the first of these.
     fn held(&self) -> &[u8]
         ensures value { result.now ≡ held self.now }
         ensures front { IfSome (Self.remaining self.now) (λ xs. StartsWith xs result.now) };

@@ -1,9 +1,9 @@
-//! Readers that tell which bytes they hold.
+//! Buffered input whose unread bytes a caller can look at without blocking.
 //!
-//! `HeldInput` is a `Source` that tells them: its next reads give these, and call no device. `BufferedInput` is one, with a
-//! buffer; a `Counted` holds none.
+//! `HeldInput` is a `Source` that shows the bytes it holds: its next reads give these bytes, and call no device.
+//! `BufferedInput` is a `HeldInput` with a buffer; a `Counted` holds no bytes.
 //!
-//! Definitions stand in `specs/`: `Holding` says what a `BufferedInput` shows, and what a read of held bytes leaves of it.
+//! Definitions are in `specs/`: `Holding` says what a `BufferedInput` shows, and what a read of held bytes leaves of it.
 #![tactic(auto)]
 
 mod buffered;

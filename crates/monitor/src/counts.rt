@@ -1,4 +1,4 @@
-//! What is counted for each PID.
+//! The counts of each PID.
 ghost use Rattle.std.specs.Prelude.{◌≡◌, ◌<◌, OnOk, Some, slice_get};
 ghost use Rattle.indexmap.specs.IndexMap.{index_map_len, set_value_at, values};
 ghost use Rattle.monitor.specs.Counts.{duplicate_counted, finding_counts_of, one_more_packet, scrambled_counted, packet_counted};

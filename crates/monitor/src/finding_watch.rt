@@ -1,4 +1,4 @@
-//! What is found in a stream's PIDs: counters, sections, and where tables and PES packets begin.
+//! Findings of a stream's PIDs: counters, sections, and where tables and PES packets begin.
 ghost use Rattle.std.specs.Prelude.{◌≡◌, ◌≤◌, ◌++◌, ◌∷◌, [], IfOk, OnOk, Some, map};
 ghost use Rattle.demux.specs.Shown.{finding_view, what_view};
 ghost use Rattle.monitor.specs.Reports.{found_faults};
@@ -51,7 +51,7 @@ impl<A: Allocator> Model for FindingWatch<A> {
 }
 
 impl<A: Allocator + Copy> FindingWatch<A> {
-    /// Before the first packet, at a rate in bits a second.
+    /// Returns the state before the first packet, at a rate in bits a second.
     pub fn new(alloc: A, rate: u64) -> Result<FindingWatch<A>, AllocError>
         requires { rate ≤ 100000000 }
         ensures { IfOk result (λ watch. watch ≡ none_noted rate) }
@@ -71,7 +71,7 @@ impl<A: Allocator + Copy> FindingWatch<A> {
         })
     }
 
-    /// The counts of each PID.
+    /// Returns the counts of each PID.
     pub fn counts(&self) -> &FindingCountsByPid<A>
         ensures { result.now.entries ≡ self.now.finding_counts }
     {
@@ -167,7 +167,7 @@ impl<A: Allocator + Copy> FindingWatch<A> {
         }
     }
 
-    /// What is found, one after another.
+    /// Notes the findings in turn.
     #[tactic(auto, unfolding(crate::specs::FindingStates::all_noted))]
     pub fn note_all(&mut self, found: &[Finding<'_, A>]) -> Result<(), AllocError>
         ensures { OnOk result (self.new ≡ all_noted self.old (map finding_view found.now)) }
@@ -178,7 +178,7 @@ impl<A: Allocator + Copy> FindingWatch<A> {
         Ok(())
     }
 
-    /// The last gap of the program association table ends with the stream, which has `packets` packets.
+    /// Ends the last gap of the program association table with the stream, which has `packets` packets.
     #[tactic(auto, unfolding(crate::specs::MonitorStates::pat_marked))]
     pub fn end_pat(&mut self, packets: u64) -> Result<(), AllocError>
         ensures { OnOk result (self.new ≡ pat_marked self.old packets) }

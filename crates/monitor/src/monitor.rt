@@ -20,7 +20,7 @@ use ts_packet::read_packet;
 
 /// A monitor that takes a stream packet by packet: a state for each PID, and the faults so far. No packet is kept.
 ///
-/// After an `AllocError` its state is that of no stream: drop it.
+/// After an `AllocError` its state describes no stream: drop it.
 #[derive(Drop)]
 pub struct Monitor<A: Allocator = Global> {
     alloc: A,
@@ -109,8 +109,8 @@ fn counts_of<A: Allocator + Copy>(
 }
 
 impl<A: Allocator + Copy> Monitor<A> {
-    /// Before the first packet, at a rate in bits a second. The greatest gap of program clock references is in
-    /// milliseconds.
+    /// Returns the state before the first packet, at a rate in bits a second. The greatest gap of program clock references
+    /// is in milliseconds.
     #[tactic(auto, unfolding(crate::specs::MonitorStates::packets_taken))]
     pub fn new(alloc: A, rate: Rate, pcr_limit: u32) -> Result<Monitor<A>, AllocError>
         ensures { IfOk result (λ monitor. HasTaken rate pcr_limit [] monitor) }
@@ -175,7 +175,7 @@ impl<A: Allocator + Copy> Monitor<A> {
         self.read_next(bytes, found)
     }
 
-    /// The next packet.
+    /// Takes the next packet.
     pub fn take(&mut self, bytes: &[u8; 188]) -> Result<(), AllocError>
         ensures { OnOk result (Takes (bytes.now ∷ []) self.old self.new) }
     {
@@ -183,7 +183,7 @@ impl<A: Allocator + Copy> Monitor<A> {
         self.take_next(bytes, &mut found)
     }
 
-    /// The next packets.
+    /// Takes the next packets.
     #[tactic(auto, unfolding(crate::specs::MonitorStates::packets_taken))]
     pub fn take_all(&mut self, packets: &[[u8; 188]]) -> Result<(), AllocError>
         ensures { OnOk result (Takes packets.now self.old self.new) }
@@ -230,7 +230,7 @@ impl<A: Allocator + Copy> Monitor<A> {
         self.report()
     }
 
-    /// The report of the stream that was taken, which ends here: after a whole packet, or within one (`cut`).
+    /// Returns the report of the stream that was taken, which ends here: after a whole packet, or within one (`cut`).
     pub fn finish(mut self, cut: bool) -> Result<Report<A>, AllocError>
         ensures { IfOk result (λ report. ReportsTaken self cut report) }
     {
@@ -262,7 +262,7 @@ fn watch<A: Allocator + Copy>(
     }
 }
 
-/// The report of a whole stream, which is cut by 188 from its first byte.
+/// Returns the report of a whole stream, which is cut by 188 from its first byte.
 ///
 /// `rate` is in bits a second; `pcr_limit`, the greatest gap between program clock references, in milliseconds.
 #[tactic(auto, using(crate::proofs::TakenPackets::with_room))]

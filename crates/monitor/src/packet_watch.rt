@@ -45,7 +45,7 @@ fn refusal_rule(error: PacketError) -> Rule
 }
 
 impl<A: Allocator + Copy> PacketWatch<A> {
-    /// Before the first packet.
+    /// Returns the state before the first packet.
     pub fn new(alloc: A, limit_times_rate: u64) -> PacketWatch<A>
         ensures { result ≡ no_packets limit_times_rate }
     {
@@ -56,14 +56,14 @@ impl<A: Allocator + Copy> PacketWatch<A> {
         }
     }
 
-    /// The counts of each PID.
+    /// Returns the counts of each PID.
     pub fn counts(&self) -> &PacketCountsByPid<A>
         ensures { result.now.entries ≡ self.now.packet_counts }
     {
         self.packet_counts.entries()
     }
 
-    /// A rule fails at a packet.
+    /// Returns a rule fails at a packet.
     pub fn fail(&mut self, packet: u64, rule: Rule) -> Result<(), AllocError>
         ensures { OnOk result (self.new ≡ record self.old {
           faults = self.old.faults ++
@@ -98,7 +98,7 @@ impl<A: Allocator + Copy> PacketWatch<A> {
         Ok(())
     }
 
-    /// A packet of the stream that has no error, no start and no adaptation field.
+    /// Takes a packet of the stream that has no error, no start and no adaptation field.
     #[tactic(auto, using(crate::proofs::PlainPackets::plain_watched))]
     pub fn go_on(&mut self, bytes: &[u8; 188]) -> Result<(), AllocError>
         requires { packet_at bytes.now ≡ Ok (plain_view bytes.now) }
@@ -108,7 +108,7 @@ impl<A: Allocator + Copy> PacketWatch<A> {
         count_packet(&mut self.packet_counts, pid, false)
     }
 
-    /// A packet of the stream, as it was read.
+    /// Returns a packet of the stream, as it was read.
     #[tactic(auto, unfolding(crate::specs::PacketStates::packet_watched_by))]
     pub fn take(
         &mut self,

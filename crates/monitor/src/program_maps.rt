@@ -1,4 +1,4 @@
-//! The PIDs on which program map sections have to recur: those that a program association section names.
+//! The PIDs on which program map sections have to recur: the PIDs that a program association section names.
 ghost use Rattle.std.specs.Prelude.{◌≡◌, ◌++◌, [], OnOk, flat_map};
 ghost use Rattle.monitor.specs.Reports.{ended_map};
 ghost use Rattle.psi_tables.specs.ProgramAssociation.{pat_at, programs_of};
@@ -77,7 +77,7 @@ fn programs_in_section<'a>(section: &'a [u8]) -> Programs<'a>
 }
 
 impl<A: Allocator + Copy> ProgramMapWatch<A> {
-    /// No PID is named yet.
+    /// Returns a watch that names no PID.
     pub fn new(alloc: A, limit_times_rate: u64) -> ProgramMapWatch<A>
         ensures { result ≡ no_maps limit_times_rate }
     {
@@ -88,7 +88,7 @@ impl<A: Allocator + Copy> ProgramMapWatch<A> {
         }
     }
 
-    /// A PID is named at a packet.
+    /// Names a PID at a packet.
     #[tactic(auto, unfolding(crate::specs::ProgramMaps::named_from))]
     fn name(&mut self, pid: u16, packet: u64) -> Result<(), AllocError>
         ensures { OnOk result (self.new ≡ named self.old pid packet) }
@@ -105,7 +105,7 @@ impl<A: Allocator + Copy> ProgramMapWatch<A> {
         Ok(())
     }
 
-    /// The entries of a section are named at a packet, but those of program 0, which name the network PID.
+    /// Names the entries of a section at a packet, except entries of program 0, which name the network PID.
     #[tactic(auto, unfolding(crate::specs::ProgramMaps::named_all))]
     fn name_programs(&mut self, programs: Programs<'_>, packet: u64) -> Result<(), AllocError>
         ensures { OnOk result (self.new ≡ named_all self.old (programs_of programs.entry) packet) }
@@ -118,7 +118,7 @@ impl<A: Allocator + Copy> ProgramMapWatch<A> {
         Ok(())
     }
 
-    /// A section ended on PID 0, at a packet.
+    /// Returns a section ended on PID 0, at a packet.
     #[tactic(auto, unfolding(crate::specs::ProgramMaps::named_by))]
     pub fn read(&mut self, section: &[u8], packet: u64) -> Result<(), AllocError>
         ensures { OnOk result (self.new ≡ named_by self.old section.now packet) }
@@ -126,7 +126,7 @@ impl<A: Allocator + Copy> ProgramMapWatch<A> {
         self.name_programs(programs_in_section(section), packet)
     }
 
-    /// A program map section that was found at a packet began on a PID.
+    /// Returns a program map section that was found at a packet began on a PID.
     #[tactic(auto, unfolding(crate::specs::ProgramMaps::map_begins_at, crate::specs::ProgramMaps::late_map))]
     pub fn begin(&mut self, pid: u16, found: u64, packet: u64) -> Result<(), AllocError>
         ensures { OnOk result (self.new ≡ map_begins self.old pid found packet) }
@@ -151,7 +151,7 @@ impl<A: Allocator + Copy> ProgramMapWatch<A> {
         Ok(())
     }
 
-    /// The packets at which a section began too late.
+    /// Returns the packets at which a section began too late.
     pub fn late(&self) -> &[LatePacket]
         ensures { result.now ≡ self.now.late }
     {

@@ -33,7 +33,8 @@ impl<A: Allocator> Model for RecurrenceWatch<A> {
     ghost view = { λ r. record { limit_times_rate = r.limit_times_rate; last = r.last.entries; late = r.late.items } };
 }
 
-/// Whether a gap of `gap` packets lasts longer than a limit: its milliseconds multiplied by the rate in bits a second.
+/// Returns whether a gap of `gap` packets lasts longer than a limit: its milliseconds multiplied by the rate in bits a
+/// second.
 pub(crate) fn is_long(limit_times_rate: u64, gap: u64) -> bool
     ensures { result ≡ is_long limit_times_rate gap }
 {
@@ -72,7 +73,7 @@ fn replace<A: Allocator + Clone>(
 }
 
 impl<A: Allocator + Copy> RecurrenceWatch<A> {
-    /// Nothing has come yet.
+    /// Returns the state before the first one.
     pub fn new(alloc: A, limit_times_rate: u64) -> RecurrenceWatch<A>
         ensures { result ≡ no_marks limit_times_rate }
     {
@@ -83,7 +84,7 @@ impl<A: Allocator + Copy> RecurrenceWatch<A> {
         }
     }
 
-    /// It comes at a packet of a PID.
+    /// Notes it at a packet of a PID.
     #[tactic(auto, unfolding(crate::specs::Recurrences::late_at))]
     pub fn mark(&mut self, pid: u16, packet: u64) -> Result<(), AllocError>
         ensures { OnOk result (self.new ≡ marked self.old pid packet) }
@@ -99,7 +100,7 @@ impl<A: Allocator + Copy> RecurrenceWatch<A> {
         }
     }
 
-    /// The packets at which it came too late.
+    /// Returns the packets at which it came too late.
     pub fn late(&self) -> &[LatePacket]
         ensures { result.now ≡ self.now.late }
     {

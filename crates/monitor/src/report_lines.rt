@@ -10,7 +10,7 @@ use std::alloc::{AllocError, Allocator};
 use std::fmt::Write;
 
 impl Rule {
-    /// The word for the rule in a line.
+    /// Returns the word for the rule in a line.
     #[tactic(auto, unfolding(crate::specs::ReportLines::rule_name))]
     pub fn name(self) -> &'static str
         ensures { result.now ≡ rule_name self }
@@ -130,7 +130,7 @@ fn write_faults<B: Allocator>(
 }
 
 impl<A: Allocator> Report<A> {
-    /// The lines of the report.
+    /// Returns the lines of the report.
     #[tactic(auto, unfolding(crate::specs::ReportLines::report_text))]
     pub fn write_text<B: Allocator>(&self, alloc: B) -> Result<String<B>, AllocError>
         ensures { IfOk result (λ text. string_bytes text ≡ report_text self.now) }

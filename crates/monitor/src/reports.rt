@@ -19,22 +19,22 @@ pub enum ReportError {
     Memory,
 }
 
-/// What is counted of a PID. Each count stops at 2^64 - 1.
+/// The counts of a PID. Each count stops at 2^64 - 1.
 #[derive(Clone, Copy)]
 pub struct PidCounts {
     pub pid: u16,
-    /// its packets, but those with transport_error_indicator
+    /// its packets, except packets with transport_error_indicator
     pub packets: u64,
-    /// those with payload_unit_start_indicator
+    /// packets with payload_unit_start_indicator
     pub starts: u64,
-    /// those that repeat the packet before
+    /// packets that repeat the packet before
     pub duplicates: u64,
-    /// those with transport_scrambling_control
+    /// packets with transport_scrambling_control
     pub scrambled: u64,
 }
 
-/// The report of a stream: the number of its whole packets, the counts of each PID in the order in which these were
-/// first seen, and the faults.
+/// The report of a stream: the number of its whole packets, the counts of each PID in the order of each PID's first
+/// packet, and the faults.
 #[derive(Drop)]
 pub struct Report<A: Allocator = Global> {
     packets: u64,
@@ -53,7 +53,7 @@ impl<A: Allocator> Model for Report<A> {
 }
 
 impl<A: Allocator> Report<A> {
-    /// A report of these.
+    /// Returns a report of these.
     pub(crate) fn new(
         packets: u64,
         pids: Vec<PidCounts, A>,
@@ -68,21 +68,21 @@ impl<A: Allocator> Report<A> {
         }
     }
 
-    /// The number of whole packets.
+    /// Returns the number of whole packets.
     pub fn packets(&self) -> u64
         ensures { result ≡ self.now.packets }
     {
         self.packets
     }
 
-    /// The counts of each PID.
+    /// Returns the counts of each PID.
     pub fn pids(&self) -> &[PidCounts]
         ensures { result.now ≡ self.now.pids }
     {
         self.pids.as_slice()
     }
 
-    /// The faults.
+    /// Returns the faults.
     pub fn faults(&self) -> &[StreamFault]
         ensures { result.now ≡ self.now.faults }
     {
@@ -101,7 +101,7 @@ fn each_once<T: Ord + Drop, A: Allocator>(mut values: Vec<T, A>) -> Vec<T, A>
     values
 }
 
-/// The faults by packet, then by the number of the rule, then by PID, each once.
+/// Returns the faults by packet, then by the number of the rule, then by PID, each once.
 pub(crate) fn in_order<A: Allocator>(faults: Vec<StreamFault, A>) -> Vec<StreamFault, A>
     ensures { result.items ≡ in_order faults.items }
 {

@@ -23,7 +23,7 @@ impl<A: Allocator> Model for TableWatch<A> {
 }
 
 impl<A: Allocator + Copy> TableWatch<A> {
-    /// Nothing has begun yet.
+    /// Returns the state before the first section.
     pub fn new(alloc: A, pid: u16, table_id: u8, limit_times_rate: u64) -> TableWatch<A>
         ensures { result ≡ new_watch pid table_id limit_times_rate }
     {
@@ -34,14 +34,14 @@ impl<A: Allocator + Copy> TableWatch<A> {
         }
     }
 
-    /// A section begins on some PID, or the stream begins or ends.
+    /// Marks that a section begins on some PID, or that the stream begins or ends.
     pub fn mark(&mut self, packet: u64) -> Result<(), AllocError>
         ensures { OnOk result (self.new ≡ table_marked self.old packet) }
     {
         self.marks.mark(self.pid, packet)
     }
 
-    /// A section begins on a PID.
+    /// Notes that a section begins on a PID.
     pub fn begin(&mut self, pid: u16, table_id: u8, packet: u64) -> Result<(), AllocError>
         ensures { OnOk result (self.new ≡ watched self.old pid table_id packet) }
     {
@@ -52,7 +52,7 @@ impl<A: Allocator + Copy> TableWatch<A> {
         }
     }
 
-    /// The packets at which one began too late.
+    /// Returns the packets at which one began too late.
     pub fn late(&self) -> &[LatePacket]
         ensures { result.now ≡ self.now.marks.late }
     {

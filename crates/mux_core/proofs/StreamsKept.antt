@@ -1,14 +1,17 @@
 -- What the finished bytes keep of a stream that has its PID for itself.
-use Rattle.std.proofs.Common.{◌≡◌, ◌≤◌, ◌*◌, ℕ, List, Some, None, sym, subst}
+use Rattle.std.proofs.Common.{◌≡◌, ◌≤◌, ◌*◌, ℕ, Bool, List, Some, None, sym, subst}
 use Rattle.std.specs.Prelude.{slice_get}
 use Rattle.pes_packet.specs.AccessUnits.{AccessUnit}
 use Rattle.slot_contents.specs.Contents.{Content, run_bytes}
+use Rattle.unit_timing.specs.declared.framing.Framing.{Framing}
+use Rattle.unit_timing.specs.PesPacket.{PesPacket}
 use Rattle.unit_timing.specs.Schedule.{Packet}
 use Rattle.unit_timing.specs.Transport.{slots_of, tb_fullness, pes_left, NoneLeavesEarly}
 use Rattle.unit_timing.specs.Arrived.{AllLeft}
 use Rattle.unit_timing.specs.MainBuffer.{mb_fullness}
 use Rattle.unit_timing.specs.VideoBuffers.{multiplexing_left, multiplexing_fullness, elementary_fullness}
 use Rattle.unit_timing.specs.Plans.{KeepsDeclaration, run_packets}
+use Rattle.unit_timing.specs.AccessUnits.{packets_of}
 use Rattle.unit_timing.proofs.LateUnits.{late_law}
 use Rattle.unit_timing.proofs.NotEarly.{run_left}
 use Rattle.description.specs.Described.{DescribedStream}
@@ -22,6 +25,7 @@ use Rattle.unit_queue.specs.Payloads.{StreamIsAlone}
 use Rattle.unit_queue.proofs.CarriedBytes.{carried_law}
 use Rattle.mux_core.specs.Scheduled.{Scheduled}
 use Rattle.mux_core.specs.Histories.{owned_stream}
+use Rattle.mux_core.specs.FramesKept.{FramesKept}
 use Rattle.mux_core.specs.Headline.{StreamKept}
 
 -- its main buffer never holds more than its size, whenever bytes leave the transport buffer after their packet has begun
@@ -35,6 +39,25 @@ main_kept d k s units content n is alone kept promised x left late =
     record { spaced = kept.spaced; sized = kept.sized; allowed = kept.allowed } in
     (promised.streams k s pes is keeps).main n x left
     (subst (λ (ps : List Packet). NoneLeavesEarly s.rx ps left) (carried_law (owned_stream d k s) units content n alone).packets late)
+
+-- nor where a unit is several access units that are removed one by one
+frames_kept : (d : Scheduled) (k : ℕ) (s : DescribedStream) (units : List AccessUnit) (content : ℕ → Content) (n : ℕ) →
+    slice_get d.description.streams k ≡ Some s → StreamIsAlone (owned_stream d k s) units content → Kept (owned_stream d k s) units → Promised d.description d.schedule →
+    (f : Framing) → s.framing ≡ Some f → FramesKept d s f units (run_bytes content 0 n)
+frames_kept d k s units content n is alone kept promised f some packets x cut =
+    let keeps : KeepsDeclaration (declaration s) (timed_pes_packets s.stream_id d.description.base0 units) =
+    record { spaced = kept.spaced; sized = kept.sized; allowed = kept.allowed } in
+    let sent : packets_on s.pid (run_bytes content 0 n)
+    ≡ run_packets (owned d.schedule (StreamItem k)) d.description.rate (declaration s) (timed_pes_packets s.stream_id d.description.base0 units) n =
+    (carried_law (owned_stream d k s) units content n alone).packets in
+    let own : ℕ → Bool = owned d.schedule (StreamItem k) in
+    let pes : List PesPacket = timed_pes_packets s.stream_id d.description.base0 units in
+    let left : List ℕ = pes_left d.description.rate s.rx 0 (packets_on s.pid (run_bytes content 0 n)) in
+    let late = subst (λ (ps : List Packet). NoneLeavesEarly s.rx (run_packets own d.description.rate (declaration s) pes n) (pes_left d.description.rate s.rx 0 ps))
+    (sym sent) (run_left own d.description.rate s.lead s.rx n pes) in
+    promised.frames k s f packets is some cut.declared
+    (subst (λ (us : List PesPacket). KeepsDeclaration (declaration s) us) (sym cut.same) keeps) n x left
+    (subst (λ (us : List PesPacket). NoneLeavesEarly s.rx (run_packets own d.description.rate (declaration s) us n) left) (sym cut.same) late)
 
 pub stream_kept : (d : Scheduled) (k : ℕ) (s : DescribedStream) (units : List AccessUnit) (content : ℕ → Content) (n : ℕ) →
     slice_get d.description.streams k ≡ Some s → StreamIsAlone (owned_stream d k s) units content → Kept (owned_stream d k s) units → Promised d.description d.schedule →
@@ -63,4 +86,5 @@ stream_kept d k s units content n is alone kept promised =
         elementary = λ x. subst (λ (ps : List Packet). elementary_fullness rate s.rx b.rbx x pes ps ≤ s.main) packets (video.elementary n x);
         whole = subst (λ (ps : List Packet). AllLeft rate (s.rx * b.rbx) n pes (multiplexing_left rate s.rx b.rbx ps)) packets (video.whole n);
       };
+      frames = frames_kept d k s units content n is alone kept promised;
     }

@@ -15,6 +15,7 @@ use Rattle.slot_plan.specs.declared.slot.Slot.{Slot}
 use Rattle.slot_plan.specs.SlotPids.{slot_pid}
 use Rattle.slot_plan.specs.TableRounds.{section_starts}
 use Rattle.own_slots.specs.Slots.{own_slots}
+use Rattle.unit_timing.specs.declared.framing.Framing.{Framing}
 use Rattle.unit_timing.specs.declared.multiplexing_buffer.MultiplexingBuffer.{MultiplexingBuffer}
 use Rattle.unit_timing.specs.Arrived.{AllLeft}
 use Rattle.unit_timing.specs.MainBuffer.{mb_fullness}
@@ -26,6 +27,7 @@ use Rattle.table_rounds.specs.Payloads.{TableCarried, Begins}
 use Rattle.tstd.specs.Carried.{carries, timed_pes_packets, packets_on, table_packets}
 use Rattle.tstd.specs.Measured.{late_of}
 use Rattle.mux_core.specs.Scheduled.{Scheduled}
+use Rattle.mux_core.specs.FramesKept.{FramesKept}
 use Rattle.mux_core.specs.Histories.{History, parameters_of, owned_stream, table_of, content_at}
 use Rattle.mux_core.specs.MuxStates.{MuxState, Stands}
 use Rattle.description.specs.Ranges.{IsInRange}
@@ -63,6 +65,9 @@ pub record StreamKept (d : Scheduled) (k : ℕ) (s : DescribedStream) (units : L
       mb_fullness d.description.rate s.rx x (timed_pes_packets s.stream_id d.description.base0 units) (pes_left d.description.rate s.rx 0 (packets_on s.pid bytes)) ≤ s.main
   -- where the main buffer is two, a multiplexing buffer and an elementary stream buffer, neither does
   pub video : (b : MultiplexingBuffer) → s.multiplexing ≡ Some b → VideoKept d s b units slots bytes
+  -- if its units are several access units each: with each access unit removed at its own decoding time, the main buffer never
+  -- holds more than its size either
+  pub frames : (f : Framing) → s.framing ≡ Some f → FramesKept d s f units bytes
 
 -- of a program
 pub record ProgramKept (d : Scheduled) (p : DescribedProgram) (slots : ℕ) (bytes : List ℕ) : Type 0 where

@@ -3,6 +3,7 @@ pub mod TimingLaws
 pub mod Histories
 pub mod MuxStates
 pub mod SlotSteps
+pub mod FramesKept
 pub mod Headline
 pub mod MeasuredRuns
 pub mod Decoder

@@ -34,7 +34,7 @@ impl<A: Allocator> Model for CheckedSchedule<A> {
 }
 
 impl<A: Allocator> CheckedSchedule<A> {
-    /// One plan over and over.
+    /// Returns one plan over and over.
     pub fn single(plan: CheckedPlan<A>) -> CheckedSchedule<A>
         ensures value { result ≡ record { description = plan.description; schedule = single plan.plan.slots } }
         ensures ranges { IsInRange result.description }
@@ -48,7 +48,7 @@ impl<A: Allocator> CheckedSchedule<A> {
         }
     }
 
-    /// The first plan of a switch for a number of its periods, then the second.
+    /// Returns the first plan of a switch for a number of its periods, then the second.
     pub fn switched(switch: CheckedSwitch<A>, periods: u64) -> CheckedSchedule<A>
         ensures value { result ≡ record {
           description = switch.first.description;
@@ -66,7 +66,7 @@ impl<A: Allocator> CheckedSchedule<A> {
         }
     }
 
-    /// What is served.
+    /// Returns the description that the plans serve.
     pub fn description(&self) -> &Description
         ensures { result.now ≡ self.now.description }
     {
@@ -76,7 +76,7 @@ impl<A: Allocator> CheckedSchedule<A> {
         }
     }
 
-    /// What slot `s` of the run carries.
+    /// Returns what slot `s` of the run carries.
     pub fn slot(&self, s: u64) -> Slot
         ensures { result ≡ slot_of self.now.schedule s }
     {

@@ -12,35 +12,37 @@ ghost use Rattle.mux_core.specs.TimingLaws.{OfPlan, OfSwitch};
 
 pub use crate::driving::{Event, drive};
 
-/// Over a plan whose conditions hold, each unit that is due has left its transport buffer whole by its decoding time.
+/// States that over a plan whose conditions hold, each unit that is due has left its transport buffer whole by its decoding
+/// time.
 pub fn deadlines()
     ensures { OfPlan UnitsArrive }
 {
     plan_timing::laws::accepted_plan();
 }
 
-/// Over such a plan no transport buffer of a stream holds more than 512 bytes.
+/// States that over such a plan no transport buffer of a stream holds more than 512 bytes.
 pub fn transport()
     ensures { OfPlan TransportFits }
 {
     plan_timing::laws::accepted_plan();
 }
 
-/// Over such a plan no main buffer holds more than its size.
+/// States that over such a plan no main buffer holds more than its size.
 pub fn main_buffer()
     ensures { OfPlan MainFits }
 {
     plan_timing::laws::accepted_plan();
 }
 
-/// Over such a plan neither of a program's two buffers in tandem, transport buffer and system buffer, overflows.
+/// States that over such a plan neither of a program's two buffers in tandem, transport buffer and system buffer,
+/// overflows.
 pub fn tandem()
     ensures { OfPlan SystemFits }
 {
     plan_timing::laws::accepted_plan();
 }
 
-/// Over such a plan PCRs and sections recur within their limits, round each period's end.
+/// States that over such a plan PCRs and sections recur within their limits, round each period's end.
 pub fn gaps()
     ensures pcrs { OfPlan PcrsRecur }
     ensures sections { OfPlan SectionsRecur }
@@ -48,7 +50,8 @@ pub fn gaps()
     plan_timing::laws::accepted_plan();
 }
 
-/// A plan whose conditions hold over one period keeps all of these promises for all time, and so do two plans in turn.
+/// States that a plan whose conditions hold over one period keeps all of these promises for all time, and so do two plans
+/// in turn.
 pub fn all_time()
     ensures plan { OfPlan Promised }
     ensures switch { OfSwitch Promised }
@@ -57,7 +60,7 @@ pub fn all_time()
     plan_timing::laws::accepted_switch();
 }
 
-/// Over two plans in turn PCRs and sections recur within their limits, across the switch too.
+/// States that over two plans in turn PCRs and sections recur within their limits, across the switch too.
 pub fn switch_gaps()
     ensures pcrs { OfSwitch PcrsRecur }
     ensures sections { OfSwitch SectionsRecur }
@@ -65,8 +68,8 @@ pub fn switch_gaps()
     plan_timing::laws::accepted_switch();
 }
 
-/// Over two plans in turn the work that the first leaves finds room in the second: no transport buffer and no system
-/// buffer overflows.
+/// States that over two plans in turn the work that the first leaves finds room in the second: no transport buffer and no
+/// system buffer overflows.
 pub fn switch_work()
     ensures streams { OfSwitch TransportFits }
     ensures programs { OfSwitch SystemFits }
@@ -74,56 +77,58 @@ pub fn switch_work()
     plan_timing::laws::accepted_switch();
 }
 
-/// Over two plans in turn each unit that is due has left its transport buffer whole by its decoding time.
+/// States that over two plans in turn each unit that is due has left its transport buffer whole by its decoding time.
 pub fn switch_deadlines()
     ensures { OfSwitch UnitsArrive }
 {
     plan_timing::laws::accepted_switch();
 }
 
-/// Over two plans in turn no main buffer holds more than its size.
+/// States that over two plans in turn no main buffer holds more than its size.
 pub fn switch_main()
     ensures { OfSwitch MainFits }
 {
     plan_timing::laws::accepted_switch();
 }
 
-/// The finished bytes of a run keep every promise, where the schedule keeps the conditions and each stream's units are
-/// within what it declares; and so of each history that a multiplexer stands for.
+/// States that the finished bytes of a run keep every promise, if the schedule keeps the conditions and each stream's units
+/// are within its declaration; and that each history that a multiplexer represents does so.
 pub fn headline()
     ensures whole { HeadlineLaw }
     ensures standing { StandingLaw }
 {}
 
-/// Of bytes that keep every promise, `tstd::measure` finds no late unit and no buffer over its size.
+/// States that `tstd::measure` finds, in bytes that keep every promise, no late unit and no buffer over its size.
 pub fn measured()
     ensures { MeasuredLaw }
 {}
 
-/// Nor does `tstd::measure` refuse such bytes, where each unit names a stream and has from one byte to its greatest size.
+/// States that `tstd::measure` does not refuse such bytes, if each unit names a stream and has from one byte to its
+/// greatest size.
 pub fn measurable()
     ensures { MeasurableLaw }
 {}
 
-/// Of such bytes, whoever wrote them, a decoder by ISO/IEC 13818-1 reads a packet in each slot, finds no counter that
-/// breaks, and puts together each unit that is due in the run, whole, and by its DTS.
+/// States that a decoder of such bytes, whoever wrote them, by ISO/IEC 13818-1 reads a packet in each slot, finds no
+/// counter that breaks, and puts together each unit that is due in the run, whole, and by its DTS.
 pub fn decoded()
     ensures put { PutLaw }
     ensures decoded { DecodedLaw }
 {}
 
-/// What was written stays, whatever units and slots follow.
+/// States that what was written stays, whatever units and slots follow.
 pub fn written_stays()
     ensures { WrittenStays }
 {}
 
-/// Two lists of events after which the units of each stream and the number of slots are the same give the same bytes.
+/// States that two lists of events after which the units of each stream and the number of slots are the same give the same
+/// bytes.
 pub fn order_is_free()
     ensures { OrderIsFree }
 {}
 
-/// A whole job takes room for as many units of a stream as it has. That room is enough: its units are refused just
-/// where 1,048,576 of each stream may wait.
+/// States that a whole job takes room for as many units of a stream as it has. That room is enough: its units are refused
+/// just where 1,048,576 of each stream may wait.
 pub fn room_for_all()
     ensures { RoomForAll }
 {}

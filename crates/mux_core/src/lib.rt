@@ -1,12 +1,12 @@
 //! The multiplexer: units of each stream in, the packets of a checked plan out, and what the finished bytes keep.
 //!
 //! `specs/Histories` says what each slot carries, from the units that were accepted and the schedule alone,
-//! `specs/MuxStates` which history a multiplexer stands for, `specs/Headline` what is promised of the finished bytes,
+//! `specs/MuxStates` which history a multiplexer represents, `specs/Headline` the promises about the finished bytes,
 //! `specs/MeasuredRuns` what measuring them finds, `specs/DecodedRuns` what a decoder gets of them, in the words of
 //! `specs/Decoder`, and `specs/SlotSteps` one slot and one unit of the state. `specs/WholeJobs` says what a whole job
 //! answers and writes, where all units are fed first, and `specs/Events` what units and slots in any order leave.
 //!
-//! The modules in reading order: by which plans slots are filled, where a run ends, how a multiplexer is made,
+//! The modules in reading order: the plans that fill slots, where a run ends, how a multiplexer is made,
 //! its calls, the packet of a slot of each kind, a whole job, events in any order; the laws. Records of units and
 //! `carry`, the packets of one PID without a plan, are crates of their own; their calls are exported here too.
 #![tactic(auto)]
@@ -25,6 +25,6 @@ pub use carry::{CarryError, carry};
 pub use done::{Done, NewError};
 pub use multiplexer::Mux;
 pub use multiplexing::{MuxError, multiplex, multiplex_as, multiplex_switch, multiplex_switch_as};
-pub use pes_packet::Unit;
+pub use pes_packet::{Marks, PesFlags, Unit};
 pub use unit_queue::FeedError;
 pub use unit_records::{UnitFileError, read_unit};

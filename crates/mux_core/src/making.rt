@@ -23,8 +23,8 @@ use unit_queue::{StreamParameters, UnitQueue};
 pub(crate) const MAX_CAPACITY: usize = 1_048_576;
 
 impl<A: Allocator + Clone> Mux<A> {
-    /// A multiplexer over a plan, in which each stream may have `capacity` units that are not sent whole, 1 to
-    /// 1,048,576. Where none is made the plan comes back.
+    /// Returns a multiplexer over a plan that lets each stream have `capacity` units that are not sent whole, 1 to
+    /// 1,048,576. If none can be made, the plan is handed back.
     pub fn new(
         alloc: A,
         plan: CheckedPlan<A>,
@@ -51,8 +51,8 @@ impl<A: Allocator + Clone> Mux<A> {
         Ok(begun(CheckedSchedule::single(plan), queues, carousels, capacity))
     }
 
-    /// A multiplexer over two plans, the first for `periods` of its periods: 1 or more, and 2^40 slots at most. Where
-    /// none is made the switch comes back.
+    /// Returns a multiplexer over two plans, the first for `periods` of its periods: 1 or more, and 2^40 slots at
+    /// most. Where none is made the switch comes back.
     pub fn with_switch(
         alloc: A,
         switch: CheckedSwitch<A>,

@@ -73,7 +73,7 @@ fn feed_stream<A: Allocator>(
 }
 
 impl<A: Allocator> Mux<A> {
-    /// The packet of the next slot.
+    /// Returns the packet of the next slot.
     pub fn next_packet(&mut self) -> Result<[u8; 188], Done>
         ensures next { (h : History) → Stands h self.old → Gives h self.old result self.new }
         ensures headline { (h : History) → Stands h self.old →
@@ -134,14 +134,14 @@ impl<A: Allocator> Mux<A> {
         feed_stream(&mut self.queues, stream, self.slots, unit)
     }
 
-    /// The number of slots written.
+    /// Returns the number of slots written.
     pub fn now(&self) -> u64
         ensures { (h : History) → Stands h self.now → result ≡ h.slots }
     {
         self.slots
     }
 
-    /// The number of units of a stream that are not sent whole; None where there is no such stream.
+    /// Returns the number of units of a stream that are not sent whole; None where there is no such stream.
     pub fn waiting(&self, stream: u8) -> Option<usize>
         ensures { (h : History) → Stands h self.now → result ≡ waiting_of self.now.schedule h stream }
     {

@@ -67,7 +67,7 @@ pub fn multiplex<A: Allocator + Copy, W: Sink>(
     multiplex_as(alloc, plan, units, slots, false, to)
 }
 
-/// The same, where with `hex` each packet leaves as a line of 376 lower-case digits and LF.
+/// Returns the same, where with `hex` each packet leaves as a line of 376 lower-case digits and LF.
 pub fn multiplex_as<A: Allocator + Copy, W: Sink>(
     alloc: A,
     plan: CheckedPlan<A>,
@@ -100,7 +100,7 @@ pub fn multiplex_as<A: Allocator + Copy, W: Sink>(
     written
 }
 
-/// The same over two plans, the first for `periods` of its periods: 1 or more, and 2^40 slots at most.
+/// Returns the same over two plans, the first for `periods` of its periods: 1 or more, and 2^40 slots at most.
 pub fn multiplex_switch<A: Allocator + Copy, W: Sink>(
     alloc: A,
     switch: CheckedSwitch<A>,
@@ -123,7 +123,7 @@ pub fn multiplex_switch<A: Allocator + Copy, W: Sink>(
     multiplex_switch_as(alloc, switch, periods, units, slots, false, to)
 }
 
-/// The same, where with `hex` each packet leaves as a line of 376 lower-case digits and LF.
+/// Returns the same, where with `hex` each packet leaves as a line of 376 lower-case digits and LF.
 pub fn multiplex_switch_as<A: Allocator + Copy, W: Sink>(
     alloc: A,
     switch: CheckedSwitch<A>,

@@ -24,7 +24,7 @@ use std::alloc::{Allocator, Global};
 use std::marker::Model;
 use unit_records::read_unit;
 
-/// A run without end. It makes its memory when it is made; a record takes that of its unit's bytes, until the unit is
+/// A run without end. It takes its memory when it is made; a record takes memory for its unit's bytes, until the unit is
 /// sent.
 #[derive(Drop)]
 pub struct OnAir<A: Allocator = Global> {
@@ -78,8 +78,8 @@ impl<A: Allocator + Copy> OnAir<A> {
         self.flush(to)
     }
 
-    /// Hears the next record: judges it, and writes the slots that are settled by it, to the last byte where a read of the
-    /// record after it may wait. A record that is refused moves nothing.
+    /// Takes the next record: judges it, and writes the slots that it settles, to the last byte if a read of the record
+    /// after it may wait. A refused record moves nothing.
     pub fn hear<R: HeldInput, W: Sink>(
         &mut self,
         alloc: A,
@@ -116,7 +116,7 @@ impl<A: Allocator + Copy> OnAir<A> {
         }
     }
 
-    /// Hears records up to one that is refused, or to the end. Before a read that may wait all is written that is settled.
+    /// Takes records up to a refused record, or to the end. Before a read that may wait it writes all settled slots.
     pub fn hear_on<R: HeldInput, W: Sink>(
         &mut self,
         alloc: A,
@@ -163,7 +163,7 @@ impl<A: Allocator + Copy> OnAir<A> {
         }
     }
 
-    /// The number of records heard.
+    /// Returns the number of records taken.
     pub fn records(&self) -> u64
         ensures { result ≡ self.now.records }
     {

@@ -1,9 +1,9 @@
-//! What a call answers that hears records.
+//! The answers of calls that take records.
 
 use crate::refusals::AirRefusal;
 use unit_records::UnitFileError;
 
-/// What was heard.
+/// The answer about a record.
 #[derive(Clone, Copy)]
 pub enum Heard {
     /// A record was taken: its unit was accepted, or time went on.
@@ -14,7 +14,7 @@ pub enum Heard {
     Ended(Ending),
 }
 
-/// Why no further record is heard.
+/// Why no further record is taken.
 #[derive(Clone, Copy)]
 pub enum Ending {
     /// The input is at its end.

@@ -21,7 +21,7 @@ use slot_plan::Description;
 use std::alloc::Allocator;
 
 impl<A: Allocator + Copy> OnAir<A> {
-    /// A run over a plan, before its first slot.
+    /// Returns a run over a plan, before its first slot.
     pub fn new(
         alloc: A,
         plan: CheckedPlan<A>,
@@ -46,7 +46,7 @@ impl<A: Allocator + Copy> OnAir<A> {
         }
     }
 
-    /// A run over two plans, the first for `periods` of its periods.
+    /// Returns a run over two plans, the first for `periods` of its periods.
     pub fn with_switch(
         alloc: A,
         switch: CheckedSwitch<A>,

@@ -8,7 +8,7 @@ use slot_plan::StreamDescription;
 // The maximum number of units of a stream that may wait.
 const MAX_ROOM: u64 = 1_048_576;
 
-/// The greatest lead of all streams, in units of 90 kHz.
+/// Returns the greatest lead of all streams, in units of 90 kHz.
 pub(crate) fn greatest_lead(streams: &[StreamDescription]) -> u32
     ensures { result ≡ greatest_lead streams.now }
 {
@@ -24,7 +24,7 @@ fn least_interval(streams: &[StreamDescription]) -> u32
         .fold(90_000, |least, stream| least.min(stream.interval))
 }
 
-/// The number of units of a stream that may wait: those that may be due within a lead, and one that comes.
+/// Returns the number of units of a stream that may wait: those that may be due within a lead, and one that comes.
 pub(crate) fn room_of(lead: u64, streams: &[StreamDescription]) -> usize
     requires { lead ≤ 2 ^ 33 }
     ensures { result ≡ room_of lead streams.now }

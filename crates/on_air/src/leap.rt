@@ -1,4 +1,4 @@
-//! A leap of the stamps that come in: records in a row that all lie further ahead than the terms of a run allow.
+//! A leap of the stamps of the input: records in a row that all lie further ahead than the terms of a run allow.
 
 ghost use Rattle.std.specs.Prelude.{◌≡◌, ◌&&◌, nat_lt};
 ghost use Rattle.on_air.specs.Leaps.{is_far, is_near, leap_after, leap_records, leap_with, no_leap};

@@ -19,7 +19,7 @@ pub struct Terms {
 }
 
 impl Terms {
-    /// The number of slots after which none is written.
+    /// Returns the number of slots after which none is written.
     #[tactic(auto, unfolding(crate::specs::Airing::slots_or))]
     pub(crate) fn limit(self) -> u64
         ensures value { result ≡ limit_of self }

@@ -15,7 +15,7 @@ pub enum AirRefusal {
 }
 
 impl AirRefusal {
-    /// The number of this refusal in fault lines.
+    /// Returns the number of this refusal in fault lines.
     pub fn code(self) -> u8
         ensures { result ≡ air_code self }
     {

@@ -1,4 +1,4 @@
-//! Slots written up to one that is settled.
+//! Writes the settled slots.
 
 ghost use Rattle.std.specs.Prelude.{◌≡◌, ◌≤◌, ◌^◌, ℕ, [], List, Option, OnOk, OnErr, IfErr};
 ghost use Rattle.counted_io.specs.Device.{Failed};
@@ -15,8 +15,8 @@ use mux_core::Mux;
 use packet_output::{OutputFault, PacketOutput};
 use std::alloc::Allocator;
 
-/// The number of slots that are settled by a unit due at `due`, where units come up to `lead` before they are due: no
-/// later one can be sent in them. `limit` at most.
+/// Returns the number of slots that are settled by a unit due at `due`, where units come up to `lead` before they are
+/// due: no later one can be sent in them. `limit` at most.
 pub(crate) fn settled(rate: Rate, lead: u64, limit: u64, due: u64) -> u64
     ensures value { result ≡ settled rate lead limit due }
     ensures upper { result ≤ limit }
@@ -27,7 +27,7 @@ pub(crate) fn settled(rate: Rate, lead: u64, limit: u64, due: u64) -> u64
     }
 }
 
-/// The number of slots of a whole run, where its input ends.
+/// Returns the number of slots of a whole run, where its input ends.
 pub(crate) fn last_slot(rate: Rate, terms: Terms, greatest: u64) -> u64
     ensures value { result ≡ last_of rate terms greatest }
     ensures upper { result ≤ 2 ^ 40 }

@@ -63,7 +63,7 @@ impl<A: Allocator> Model for PacketOutput<A> {
 }
 
 impl<A: Allocator + Copy> PacketOutput<A> {
-    /// An output of no packets, with the memory for a part.
+    /// Returns an output of no packets, with the memory for a part.
     pub fn new(alloc: A, hex: bool) -> Result<PacketOutput<A>, AllocError>
         ensures empty { IfOk result (λ output. waiting_of output ≡ []) }
         ensures sent { IfOk result (λ output. output.sent ≡ 0) }
@@ -84,7 +84,7 @@ impl<A: Allocator + Copy> PacketOutput<A> {
 impl<A: Allocator> PacketOutput<A> {
     ghost use Rattle.packet_output.specs.contracts.output.PacketOutput.{the_row};
 
-    /// The room of the next packet.
+    /// Returns the room of the next packet.
     pub fn room(&mut self) -> &mut [u8; 188]
         ensures* next { sem 𝓛 (Lends (the_row A.row A.Allocator) (Array byte 0) self.entry result (with_next self.old)) }
         ensures there { self.old.count < length self.old.rooms }

@@ -41,6 +41,10 @@ is_flagged p = slice_index p 0 == 0 && slice_index p 1 == 0 && slice_index p 2 =
 
 -- 3. Its PES header: two flag bytes, PES_header_data_length, and what they announce
 
+-- PTS_DTS_flags announce no PTS: the PES packet goes on with a unit, and marks are those of its first one
+abbrev pub goes_on : List ℕ → Bool
+goes_on p = nat_lt (slice_index p 7) 128
+
 -- data_alignment_indicator
 abbrev pub is_aligned : List ℕ → Bool
 is_aligned p = slice_index p 6 / 4 % 2 == 1

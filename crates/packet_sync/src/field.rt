@@ -31,7 +31,7 @@ pub enum Field {
 }
 
 impl Field {
-    /// Its number.
+    /// Returns its number.
     #[tactic(auto, unfolding(crate::specs::Fields::number_of))]
     pub(crate) fn number(self) -> u8
         ensures { result ≡ spec.number_of self }
@@ -49,7 +49,7 @@ impl Field {
         }
     }
 
-    /// Whether a viewer may lose something without it.
+    /// Returns whether a viewer may lose something without it.
     #[tactic(auto, unfolding(crate::specs::Fields::is_loss))]
     pub fn is_loss(self) -> bool
         ensures { result ≡ spec.is_loss self }
@@ -62,7 +62,7 @@ impl Field {
     }
 }
 
-/// The flag byte of the adaptation field of a packet; 0 where there is none.
+/// Returns the flag byte of the adaptation field of a packet; 0 where there is none.
 #[tactic(auto, unfolding(crate::specs::Fields::adaptation_flags))]
 pub(crate) fn adaptation_flags(packet: &[u8]) -> u8
     requires { length packet.now ≡ 188 }
@@ -97,7 +97,7 @@ fn payload_place(packet: &[u8]) -> usize
     }
 }
 
-/// The clear payload at whose front a PES packet or a section begins; empty where none does.
+/// Returns the clear payload at whose front a PES packet or a section begins; empty where none does.
 #[tactic(auto, unfolding(crate::specs::Fields::start_payload))]
 pub(crate) fn start_payload(packet: &[u8]) -> &[u8]
     requires { length packet.now ≡ 188 }
@@ -111,7 +111,7 @@ pub(crate) fn start_payload(packet: &[u8]) -> &[u8]
     }
 }
 
-/// Whether a PES packet begins there that has flag bytes.
+/// Returns whether a PES packet begins there that has flag bytes.
 #[tactic(auto, unfolding(crate::specs::Fields::is_flagged))]
 pub(crate) fn is_flagged(payload: &[u8]) -> bool
     requires { 9 ≤ length payload.now }
@@ -129,7 +129,7 @@ fn extension_place(flags: u8) -> usize
     9 + bit(128) * 5 + bit(64) * 5 + bit(32) * 6 + bit(16) * 3 + bit(8) + bit(4) + bit(2) * 2
 }
 
-/// The flags of PES_extension; 0 where there are none.
+/// Returns the flags of PES_extension; 0 where there are none.
 #[tactic(auto, unfolding(crate::specs::Fields::extension_flags))]
 pub(crate) fn extension_flags(payload: &[u8]) -> u8
     requires { 9 ≤ length payload.now }

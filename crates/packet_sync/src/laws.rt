@@ -2,12 +2,12 @@
 
 ghost use Rattle.packet_sync.specs.Laws.{CarriedInStep, NothingElseIsLeftOut};
 
-/// A stream in which each packet begins 188 bytes after the one before has no slip, and is carried as it is.
+/// States that a stream whose packets each begin 188 bytes after the packet before has no slip, and is carried unchanged.
 pub fn carried_in_step()
     ensures { CarriedInStep }
 {}
 
-/// The bytes that are carried and those of the slips are together as many as those of the stream.
+/// States that the carried bytes and the slips' bytes are together as many as the stream's bytes.
 pub fn nothing_else_is_left_out()
     ensures { NothingElseIsLeftOut }
 {}

@@ -1,4 +1,4 @@
-//! The fields that are not written again, in packets that stand in step.
+//! The fields that are not written again, in packets in step.
 
 ghost use Rattle.std.specs.Prelude.{◌≡◌, ◌≤◌, ◌*◌, OnOk, length};
 ghost use Rattle.packet_sync.specs.Fields as fields;
@@ -8,7 +8,7 @@ use crate::field::{Field, adaptation_flags, extension_flags, is_flagged, start_p
 use crate::sync_bytes::PACKET_SIZE;
 use std::alloc::{AllocError, Allocator};
 
-/// A field that stands in packets of a PID.
+/// A field in packets of a PID.
 #[derive(Clone, Copy)]
 pub struct FieldLeftOut {
     pub pid: u16,
@@ -71,11 +71,12 @@ fn note_flags<A: Allocator>(
     ensures { OnOk result (found.new.items ≡ spec.with_flags pid payload.now found.old.items) }
 {
     let flags = payload[6];
-    note(pid, Field::Alignment, flags / 4 % 2 == 1, found)?;
+    let goes_on = payload[7] < 128;
+    note(pid, Field::Alignment, goes_on && flags / 4 % 2 == 1, found)?;
     note(
         pid,
         Field::Flags,
-        flags / 8 % 2 == 1 || flags % 4 != 0,
+        goes_on && (flags / 8 % 2 == 1 || flags % 4 != 0),
         found,
     )?;
     note(pid, Field::Scrambling, flags / 16 % 4 != 0, found)
@@ -103,7 +104,7 @@ fn note_data<A: Allocator>(
     note(
         pid,
         Field::LongHeader,
-        payload[3] == 0xBD && size == 36,
+        payload[7] < 128 && (payload[3] == 0xBD && size == 36),
         found,
     )?;
     note(pid, Field::PrivateData, extension / 128 == 1, found)?;

@@ -1,4 +1,4 @@
-//! What is said of the packets of a stream, while its bytes come.
+//! Notes about the packets of a stream, while it arrives.
 
 ghost use Rattle.std.specs.Prelude.{◌≡◌, ◌≤◌, ◌<◌, ◌+◌, IfOk, OnOk, if◌then◌else◌, length};
 ghost use Rattle.packet_sync.specs.Notes as spec;
@@ -11,8 +11,8 @@ use crate::sync_bytes::PACKET_SIZE;
 use std::alloc::{AllocError, Allocator, Global};
 use std::marker::Model;
 
-/// What is said of the packets of the bytes that have come: the slips, and the fields that are not written again, each once of
-/// a PID, in the order of their first.
+/// Notes about the packets so far: the slips, and the fields that are not written again, each once for a PID, in the order of
+/// their first packets.
 #[derive(Drop)]
 pub struct StreamNotes<A: Allocator = Global> {
     pub slips: Vec<Slip, A>,
@@ -77,8 +77,8 @@ impl<A: Allocator> StreamNotes<A> {
         Ok(())
     }
 
-    /// Notes what the next bytes of a stream tell, as far as those that have come decide it, and returns how many of them are
-    /// in step and left out; `ended`: whether no more bytes come.
+    /// Notes the next bytes of a stream, as far as the bytes at hand decide, and returns how many of them are in step and left
+    /// out; `ended`: whether no more bytes follow.
     pub fn take_stretch(&mut self, bytes: &[u8], ended: bool) -> Result<Stretch, AllocError>
         ensures noted { IfOk result (spec.IsNoted self.old self.new bytes.now ended) }
         ensures stretch { IfOk result (stretches.IsStretch bytes.now ended) }
@@ -93,7 +93,7 @@ impl<A: Allocator> StreamNotes<A> {
 }
 
 impl<A: Allocator + Copy> StreamNotes<A> {
-    /// Before the first byte of a stream.
+    /// Returns the state before the first byte of a stream.
     pub fn new(alloc: A) -> StreamNotes<A>
         ensures { result ≡ spec.no_notes }
     {

@@ -5,7 +5,7 @@ ghost use Rattle.packet_sync.specs.OtherPackets as spec;
 
 use crate::sync_bytes::{is_in_step, is_sync};
 
-/// The first bytes of a stream that tell what packets it has: those up to the third sync byte of packets of 204 bytes.
+/// The first bytes of a stream that show its packets' size: the bytes up to the third sync byte of packets of 204 bytes.
 pub const FRONT: usize = 409;
 
 /// What other packets a stream has.
@@ -44,7 +44,7 @@ fn packets_at_front(bytes: &[u8]) -> Option<OtherPackets>
     None
 }
 
-/// What other packets than those of 188 bytes stand at the front of a stream, if any do.
+/// Returns which packets of another size than 188 bytes are at the front of a stream, if any.
 pub fn other_packets(bytes: &[u8]) -> Option<OtherPackets>
     ensures value { result ≡ spec.other_packets bytes.now }
     ensures front { (more : List ℕ) → 409 ≤ length bytes.now → result ≡ spec.other_packets (bytes.now ++ more) }

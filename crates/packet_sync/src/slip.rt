@@ -1,6 +1,6 @@
 //! Where the step of packets is lost.
 
-/// Bytes that are in no packet: the packets after them stand in another step than those before.
+/// Bytes that are in no packet: the packets after them are in another step than the packets before.
 #[derive(Clone, Copy)]
 pub struct Slip {
     /// The number of packets before them.

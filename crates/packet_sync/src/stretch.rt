@@ -5,11 +5,11 @@ ghost use Rattle.packet_sync.specs.Stretches as spec;
 
 use crate::sync_bytes::{PACKET_SIZE, slip_size};
 
-/// The bytes by which it is decided whether the step goes on after a packet, and if not where a new one begins: those up to
-/// the third sync byte of the last place at which one is looked for.
+/// The number of bytes that decide whether the step continues after a packet, and if not, where a new step begins: up to the
+/// third sync byte of the last place that is searched.
 pub const REACH: usize = 1128;
 
-/// Bytes that stand in step, and those after them that are in no packet.
+/// Bytes in step, and the bytes after them that are in no packet.
 #[derive(Clone, Copy, Debug, PartialEq, Eq)]
 pub struct Stretch {
     pub in_step: usize,
@@ -23,8 +23,8 @@ fn decisive(ended: bool) -> usize
     if ended { PACKET_SIZE } else { REACH }
 }
 
-/// What of the next bytes of a stream is carried, as far as the bytes that have come tell it, and how many are left out
-/// after that; `ended`: whether no more bytes come.
+/// Returns which of the next bytes of a stream are carried, as far as the bytes at hand decide, and how many are left out
+/// after them; `ended`: whether no more bytes follow.
 pub fn next_stretch(bytes: &[u8], ended: bool) -> Stretch
     ensures stretch { spec.IsStretch bytes.now ended result }
     ensures stepped { spec.IsSteppedSoFar bytes.now ended result }

@@ -12,7 +12,7 @@ pub(crate) const PACKET_SIZE: usize = 188;
 /// A new step is looked for in this number of bytes, those of four packets.
 const SEARCHED: usize = 752;
 
-/// Whether a sync byte stands at this place.
+/// Returns whether a sync byte stands at this place.
 #[tactic(auto, unfolding(crate::specs::Slips::is_sync))]
 pub(crate) fn is_sync(bytes: &[u8], at: usize) -> bool
     ensures value { result ≡ spec.is_sync bytes.now at }
@@ -24,7 +24,7 @@ pub(crate) fn is_sync(bytes: &[u8], at: usize) -> bool
     }
 }
 
-/// Whether three packets in a row begin at this place.
+/// Returns whether three packets in a row begin at this place.
 #[tactic(auto, unfolding(crate::specs::Slips::is_in_step))]
 pub(crate) fn is_in_step(bytes: &[u8], at: usize) -> bool
     requires { at < 2 ^ 63 + 1128 }
@@ -80,7 +80,7 @@ fn new_step(bytes: &[u8], at: usize) -> Option<usize>
     None
 }
 
-/// How many bytes are left out before the step goes on, where it is lost after the packet at this place.
+/// Returns how many bytes are left out before the step goes on, where it is lost after the packet at this place.
 #[tactic(auto, unfolding(crate::specs::Slips::slip_size))]
 pub(crate) fn slip_size(bytes: &[u8], at: usize) -> Option<usize>
     requires { at < 2 ^ 63 }

@@ -2,10 +2,12 @@
 use Rattle.std.proofs.Common.{◌≡◌, ℕ, ◌+◌, ◌*◌, ◌/◌, ◌%◌, ◌^◌, ◌<◌, ◌≤◌, ◌&&◌, not, Bool, true, false, cond, Result, Ok, Err, List, [], ◌∷◌, ◌++◌, length, take, drop, refl, sym, ap, ◌∙◌, subst, arith, ltb, eqb, suc, ◌⊎◌, inl, inr, IfOk}
 use Rattle.std.proofs.lemmas.Bool.{eqb-true, eq-eqb, or_parts, or_from, ltb-false, le-ltb, ne_eqb, cases_eq}
 use Rattle.std.proofs.lemmas.List.{length-append, length-take-le, take-append-drop, take_at}
-use Rattle.bit_fields.specs.Fields.{number, fields, IsBytes}
+use Rattle.bit_fields.specs.Fields.{number, fields, bit, flag, IsBytes}
 use Rattle.bit_fields.proofs.Bind.{bind_ok, guard_ok, chosen, ok_not_err}
+use Rattle.bit_fields.proofs.Fields.{bit_test, test_bit}
 use Rattle.bit_fields.proofs.ByteLists.{IsBytes-tail, IsBytes-take, IsBytes-append_left, IsBytes-append_right}
 use Rattle.pes_packet.specs.StreamIds.{has_flags}
+use Rattle.pes_packet.specs.Marks.{no_flags, flags_in}
 use Rattle.pes_packet.specs.Reading.{stamps_at, is_bad_flags, is_too_short, data_at, flags_at, start_at, misses_prefix, header_at}
 use Rattle.pes_packet.specs.Syntax.{IsStamps, IsStart, IsFlags, IsAfter, IsPesHeader, stamp_flags}
 use Rattle.pes_packet.specs.declared.refusal.PesError.{PesError}
@@ -13,6 +15,7 @@ use Rattle.pes_packet.specs.declared.refusal.PesError.TheVariants.{Short, Prefix
 use Rattle.pes_packet.specs.declared.time_stamps.Stamps.{Stamps}
 use Rattle.pes_packet.specs.declared.time_stamps.Stamps.TheVariants.{Absent, Pts, PtsDts}
 use Rattle.pes_packet.specs.declared.reading.PesHeader.{PesHeader}
+use Rattle.pes_packet.specs.declared.marks.PesFlags.{PesFlags}
 use Rattle.pes_packet.proofs.StampFields.{stamps_takes, stamps_again}
 
 not_false : (b : Bool) → not b ≡ false → b ≡ true
@@ -39,14 +42,25 @@ pub counts_again : (len size : ℕ) → (len ≡ 0) ⊎ (3 + size ≤ len) → i
 counts_again len size (inl none) = rw (eq-eqb len 0 none) refl
 counts_again len size (inr some) = rw (le-ltb len (3 + size) some) (and_false (not (eqb len 0)))
 
+-- a flag that is read, as a bit
+flag_bit : (byte value : ℕ) → bit (flag byte value) ≡ byte / value % 2
+flag_bit byte value = bit_test (byte / value % 2) (omega arith)
+
+flags_spelled : (first second size stamps p a c o : ℕ) → first < 256 → second < 256 → size < 256 → first / 64 ≡ 2 → second / 64 ≡ stamps
+    → p ≡ first / 8 % 2 → a ≡ first / 4 % 2 → c ≡ first / 2 % 2 → o ≡ first / 1 % 2
+    → number (first ∷ second ∷ size ∷ [])
+    ≡ fields ((2, 2) ∷ (2, first / 16 % 4) ∷ (1, p) ∷ (1, a) ∷ (1, c) ∷ (1, o) ∷ (2, stamps) ∷ (6, second % 64) ∷ (8, size) ∷ [])
+flags_spelled first second size stamps p a c o hf hs hn two flags ep ea ec eo = omega arith
+
 flags_of : (first second size : ℕ) (stamps : Stamps) → first < 256 → second < 256 → size < 256
-    → first / 64 ≡ 2 → second / 64 ≡ stamp_flags stamps → IsFlags (first ∷ second ∷ size ∷ []) stamps size
+    → first / 64 ≡ 2 → second / 64 ≡ stamp_flags stamps → IsFlags (first ∷ second ∷ size ∷ []) (flags_in first) stamps size
 flags_of first second size stamps hf hs hn two flags = record {
   len = refl;
-  control = first % 64;
+  scrambling = first / 16 % 4;
   parts = second % 64;
-  spelled = omega (arith, two, flags);
-  control_fits = omega arith;
+  spelled = flags_spelled first second size (stamp_flags stamps) _ _ _ _ hf hs hn two flags
+      (flag_bit first 8) (flag_bit first 4) (flag_bit first 2) (flag_bit first 1);
+  scrambling_fits = omega arith;
   parts_fit = omega arith;
   length_fits = hn;
 }
@@ -71,15 +85,14 @@ flags_takes id len (first ∷ second ∷ count ∷ bytes) header size fits flagg
     let b = bind_ok (stamps_at (second / 64) (take count bytes)) _ (header, size) n.1 in
     let more : IsBytes bytes = IsBytes-tail count bytes (IsBytes-tail second (count ∷ bytes) (IsBytes-tail first (second ∷ count ∷ bytes) fits)) in
     let s = stamps_takes (second / 64) (take count bytes) b.0 (IsBytes-take count bytes more) b.1 in
-    let made : ◌≡◌ {A = Result (PesHeader × ℕ) PesError} (Ok (record { id = id; len = len; stamps = b.0 }, 9 + count)) (Ok (header, size)) = b.2 in
-    let is : ◌≡◌ {A = PesHeader × ℕ} (record { id = id; len = len; stamps = b.0 }, 9 + count) (header, size) = cc (made) in
+    let made : ◌≡◌ {A = Result (PesHeader × ℕ) PesError} (Ok (record { id = id; len = len; stamps = b.0; flags = flags_in first; data_length = count }, 9 + count)) (Ok (header, size)) = b.2 in
+    let is : ◌≡◌ {A = PesHeader × ℕ} (record { id = id; len = len; stamps = b.0; flags = flags_in first; data_length = count }, 9 + count) (header, size) = cc (made) in
     let there : count ≤ length bytes = ltb-false _ _ g.0 in
     let took : length (take count bytes) ≡ count = length-take-le count bytes there in
     let parts : length (take count bytes) ≡ length s.front + length s.others = ap (length {A = ℕ}) s.is ∙ length-append s.front s.others in
     let whole : length s.front + length s.others ≡ count = sym parts ∙ took in
-    let flags : IsFlags (first ∷ second ∷ count ∷ []) b.0 (length s.front + length s.others) =
-    subst (λ (x : ℕ). IsFlags (first ∷ second ∷ count ∷ []) b.0 x) (sym whole)
-    (flags_of first second count b.0 (fits 0) (fits 1) (fits 2) (good_flags first second f.0) s.flags_are) in
+    let flags : IsFlags (first ∷ second ∷ count ∷ []) (flags_in first) b.0 count =
+    flags_of first second count b.0 (fits 0) (fits 1) (fits 2) (good_flags first second f.0) s.flags_are in
     subst (λ (x : PesHeader × ℕ). ReadsAfter id len (first ∷ second ∷ count ∷ bytes) x.0 x.1) is (record {
       after = (first ∷ second ∷ count ∷ []) ++ (s.front ++ s.others);
       rest = drop count bytes;
@@ -93,6 +106,7 @@ flags_takes id len (first ∷ second ∷ count ∷ bytes) header size fits flagg
         others = s.others;
         is = refl;
         flags_stand = flags;
+        data_is = sym whole;
         stamps_stand = s.stand;
         counted = elim (counts len count n.0) [
           | inl none ↦ inl none
@@ -105,14 +119,14 @@ flags_takes id len (first ∷ []) header size fits flagged read = absurd cc
 flags_takes id len (first ∷ second ∷ []) header size fits flagged read = absurd cc
 
 after_takes : (id len : ℕ) (bytes : List ℕ) (header : PesHeader) (size : ℕ) → IsBytes bytes
-    → cond (has_flags id) (flags_at id len bytes) (Ok (record { id = id; len = len; stamps = Absent }, 6)) ≡ Ok (header, size)
+    → cond (has_flags id) (flags_at id len bytes) (Ok (record { id = id; len = len; stamps = Absent; flags = no_flags; data_length = 0 }, 6)) ≡ Ok (header, size)
     → ReadsAfter id len bytes header size
 after_takes id len bytes header size fits read =
     elim (chosen (has_flags id) _ _ _ read) [
       | inl some ↦ flags_takes id len bytes header size fits some.0 some.1
       | inr none ↦
-          let made : ◌≡◌ {A = Result (PesHeader × ℕ) PesError} (Ok (record { id = id; len = len; stamps = Absent }, 6)) (Ok (header, size)) = none.1 in
-          let is : ◌≡◌ {A = PesHeader × ℕ} (record { id = id; len = len; stamps = Absent }, 6) (header, size) = cc (made) in
+          let made : ◌≡◌ {A = Result (PesHeader × ℕ) PesError} (Ok (record { id = id; len = len; stamps = Absent; flags = no_flags; data_length = 0 }, 6)) (Ok (header, size)) = none.1 in
+          let is : ◌≡◌ {A = PesHeader × ℕ} (record { id = id; len = len; stamps = Absent; flags = no_flags; data_length = 0 }, 6) (header, size) = cc (made) in
           subst (λ (x : PesHeader × ℕ). ReadsAfter id len bytes x.0 x.1) is (record {
             after = [];
             rest = bytes;
@@ -120,7 +134,7 @@ after_takes id len bytes header size fits read =
             id_is = refl;
             len_is = refl;
             size_is = refl;
-            stands = rw none.0 (refl, refl);
+            stands = rw none.0 (refl, refl, refl, refl);
           })
     ]
 
@@ -182,53 +196,107 @@ flags_not_one Absent e = omega arith
 flags_not_one (Pts pts) e = omega arith
 flags_not_one (PtsDts pts dts) e = omega arith
 
-flag_numbers : (first second count control flags parts n : ℕ) → first < 256 → second < 256 → count < 256
-    → number (first ∷ second ∷ count ∷ []) ≡ fields ((2, 2) ∷ (6, control) ∷ (2, flags) ∷ (6, parts) ∷ (8, n) ∷ [])
-    → control < 2 ^ 6 → flags < 4 → parts < 2 ^ 6 → n < 2 ^ 8
-    → (first / 64 ≡ 2) × (second / 64 ≡ flags) × (count ≡ n)
-flag_numbers first second count control flags parts n hf hs hc is bc bf bp bn = (omega arith, omega arith, omega arith)
+flag_numbers : (first second count scrambling p a c o flags parts n : ℕ) → first < 256 → second < 256 → count < 256
+    → number (first ∷ second ∷ count ∷ [])
+    ≡ fields ((2, 2) ∷ (2, scrambling) ∷ (1, p) ∷ (1, a) ∷ (1, c) ∷ (1, o) ∷ (2, flags) ∷ (6, parts) ∷ (8, n) ∷ [])
+    → scrambling < 2 ^ 2 → p ≤ 1 → a ≤ 1 → c ≤ 1 → o ≤ 1 → flags < 4 → parts < 2 ^ 6 → n < 2 ^ 8
+    → (first ≡ 128 + (scrambling * 16 + (p * 8 + (a * 4 + (c * 2 + o))))) × (second / 64 ≡ flags) × (count ≡ n)
+flag_numbers first second count scrambling p a c o flags parts n hf hs hc is bs bp ba bc bo bf bt bn = (omega arith, omega arith, omega arith)
+
+-- the four lowest bits of the first flag byte
+low_bits : (first scrambling p a c o : ℕ) → p ≤ 1 → a ≤ 1 → c ≤ 1 → o ≤ 1 → first ≡ 128 + (scrambling * 16 + (p * 8 + (a * 4 + (c * 2 + o))))
+    → (first / 8 % 2 ≡ p) × (first / 4 % 2 ≡ a) × (first / 2 % 2 ≡ c) × (first / 1 % 2 ≡ o)
+low_bits first scrambling p a c o bp ba bc bo is = (omega arith, omega arith, omega arith, omega arith)
+
+pub bit_most : (b : Bool) → bit b ≤ 1
+bit_most true = omega arith
+bit_most false = omega arith
+
+-- what the test on the flag bytes found, and the flags
+pub record FlagBytes (first second count : ℕ) (flags : PesFlags) (stamps n : ℕ) : Type 0 where
+  pub two : first / 64 ≡ 2
+  pub stamps_are : second / 64 ≡ stamps
+  pub count_is : count ≡ n
+  pub flags_are : flags_in first ≡ flags
+
+-- flags by their four values
+flags_by : (p a c o : Bool) (flags : PesFlags) → p ≡ flags.priority → a ≡ flags.aligned → c ≡ flags.copyright → o ≡ flags.original
+    → ◌≡◌ {A = PesFlags} (record { priority = p; aligned = a; copyright = c; original = o }) flags
+flags_by p a c o flags ep ea ec eo = rw (ep, ea, ec, eo) refl
+
+flag_bytes : (first second count : ℕ) (flags : PesFlags) (stamps : Stamps) (n : ℕ) → first < 256 → second < 256 → count < 256
+    → IsFlags (first ∷ second ∷ count ∷ []) flags stamps n → FlagBytes first second count flags (stamp_flags stamps) n
+flag_bytes first second count flags stamps n hf hs hc stands =
+    let bp = bit_most flags.priority in
+    let ba = bit_most flags.aligned in
+    let bc = bit_most flags.copyright in
+    let bo = bit_most flags.original in
+    let m = flag_numbers first second count stands.scrambling (bit flags.priority) (bit flags.aligned) (bit flags.copyright) (bit flags.original)
+    (stamp_flags stamps) stands.parts n hf hs hc stands.spelled stands.scrambling_fits bp ba bc bo (flags_below stamps) stands.parts_fit stands.length_fits in
+    let b = low_bits first stands.scrambling (bit flags.priority) (bit flags.aligned) (bit flags.copyright) (bit flags.original) bp ba bc bo m.0 in
+    let p : flag first 8 ≡ flags.priority = test_bit flags.priority (first / 8 % 2) b.0 in
+    let a : flag first 4 ≡ flags.aligned = test_bit flags.aligned (first / 4 % 2) b.1 in
+    let c : flag first 2 ≡ flags.copyright = test_bit flags.copyright (first / 2 % 2) b.2 in
+    let o : flag first 1 ≡ flags.original = test_bit flags.original (first / 1 % 2) b.3 in
+    let scr : stands.scrambling < 4 = stands.scrambling_fits in
+    record {
+      two = omega (arith, m.0, bp, ba, bc, bo, scr);
+      stamps_are = m.1;
+      count_is = m.2;
+      flags_are = flags_by (flag first 8) (flag first 4) (flag first 2) (flag first 1) flags p a c o;
+    }
 
 bad_again : (first second : ℕ) → first / 64 ≡ 2 → (second / 64 ≡ 1 → ⊥) → is_bad_flags first second ≡ false
 bad_again first second two one = or_from _ _ (ap not (eq-eqb _ _ two)) (ne_eqb _ _ one)
 
+-- a header made of parts that are its own
+header_by : (header : PesHeader) (stamps : Stamps) (flags : PesFlags) (count : ℕ)
+    → stamps ≡ header.stamps → flags ≡ header.flags → count ≡ header.data_length
+    → ◌≡◌ {A = PesHeader} (record { id = header.id; len = header.len; stamps = stamps; flags = flags; data_length = count }) header
+header_by header stamps flags count es ef ec = rw (es, ef, ec) refl
+
 -- header data is read after flag bytes
 flagged_again : (header : PesHeader) (first second count : ℕ) (stamps others rest : List ℕ)
     → first < 256 → second < 256 → count < 256 → IsBytes stamps
-    → IsFlags (first ∷ second ∷ count ∷ []) header.stamps (length stamps + length others)
+    → IsFlags (first ∷ second ∷ count ∷ []) header.flags header.stamps header.data_length
+    → header.data_length ≡ length stamps + length others
     → IsStamps stamps header.stamps
     → (header.len ≡ 0) ⊎ (3 + (length stamps + length others) ≤ header.len)
     → flags_at header.id header.len (first ∷ second ∷ count ∷ ((stamps ++ others) ++ rest)) ≡ Ok (header, 9 + (length stamps + length others))
 unfolding flags_at data_at
-flagged_again header first second count stamps others rest hf hs hc fits flags stand counted =
-    let n = flag_numbers first second count flags.control (stamp_flags header.stamps) flags.parts (length stamps + length others)
-    hf hs hc flags.spelled flags.control_fits (flags_below header.stamps) flags.parts_fit flags.length_fits in
-    let whole : length (stamps ++ others) ≡ count = length-append stamps others ∙ sym n.2 in
+flagged_again header first second count stamps others rest hf hs hc fits flags sized stand counted =
+    let n = flag_bytes first second count header.flags header.stamps header.data_length hf hs hc flags in
+    let sum : count ≡ length stamps + length others = n.count_is ∙ sized in
+    let whole : length (stamps ++ others) ≡ count = length-append stamps others ∙ sym sum in
     let there : ltb (length ((stamps ++ others) ++ rest)) count ≡ false = le-ltb _ _ (omega (arith, length-append (stamps ++ others) rest, whole)) in
     let took : take count ((stamps ++ others) ++ rest) ≡ stamps ++ others = take_at (stamps ++ others) rest count whole in
-    let good : is_bad_flags first second ≡ false = bad_again first second n.0 (λ one. flags_not_one header.stamps (sym n.1 ∙ one)) in
-    let long : is_too_short header.len count ≡ false = counts_again header.len count (subst (λ (x : ℕ). (header.len ≡ 0) ⊎ (3 + x ≤ header.len)) (sym n.2) counted) in
+    let good : is_bad_flags first second ≡ false = bad_again first second n.two (λ one. flags_not_one header.stamps (sym n.stamps_are ∙ one)) in
+    let long : is_too_short header.len count ≡ false = counts_again header.len count (subst (λ (x : ℕ). (header.len ≡ 0) ⊎ (3 + x ≤ header.len)) (sym sum) counted) in
     let stamp : stamps_at (second / 64) (take count ((stamps ++ others) ++ rest)) ≡ Ok header.stamps =
-    rw (n.1, took) (stamps_again header.stamps stamps others fits stand) in
-    rw (there, good, long, stamp, n.2) refl
+    rw (n.stamps_are, took) (stamps_again header.stamps stamps others fits stand) in
+    let made : ◌≡◌ {A = PesHeader}
+    (record { id = header.id; len = header.len; stamps = header.stamps; flags = flags_in first; data_length = count }) header =
+    header_by header header.stamps (flags_in first) count refl n.flags_are n.count_is in
+    rw (there, good, long, stamp) (ap (λ (h : PesHeader). Ok (h, 9 + count)) made ∙ ap (λ (k : ℕ). Ok (header, 9 + k)) sum)
 
 flagged_by : (header : PesHeader) (flags stamps others rest : List ℕ) → IsBytes flags → IsBytes stamps
-    → IsFlags flags header.stamps (length stamps + length others) → IsStamps stamps header.stamps
+    → IsFlags flags header.flags header.stamps header.data_length → header.data_length ≡ length stamps + length others → IsStamps stamps header.stamps
     → (header.len ≡ 0) ⊎ (length (flags ++ (stamps ++ others)) ≤ header.len)
     → flags_at header.id header.len ((flags ++ (stamps ++ others)) ++ rest) ≡ Ok (header, 6 + length (flags ++ (stamps ++ others)))
-flagged_by header (first ∷ second ∷ count ∷ []) stamps others rest fits_flags fits stands stand counted =
+flagged_by header (first ∷ second ∷ count ∷ []) stamps others rest fits_flags fits stands sized stand counted =
     let joined : length (stamps ++ others) ≡ length stamps + length others = length-append stamps others in
     let there : (header.len ≡ 0) ⊎ (3 + (length stamps + length others) ≤ header.len) =
     elim counted [ inl none ↦ inl none | inr some ↦ inr (omega (arith, some, joined)) ] in
     let size : 9 + (length stamps + length others) ≡ 6 + (3 + length (stamps ++ others)) = omega (arith, joined) in
-    flagged_again header first second count stamps others rest (fits_flags 0) (fits_flags 1) (fits_flags 2) fits stands stand there
+    flagged_again header first second count stamps others rest (fits_flags 0) (fits_flags 1) (fits_flags 2) fits stands sized stand there
     ∙ ap (λ (n : ℕ). Ok (header, n)) (size ∙ omega arith)
-flagged_by header [] stamps others rest fits_flags fits stands stand counted = absurd (omega (arith, stands.len))
-flagged_by header (first ∷ []) stamps others rest fits_flags fits stands stand counted = absurd (omega (arith, stands.len))
-flagged_by header (first ∷ second ∷ []) stamps others rest fits_flags fits stands stand counted = absurd (omega (arith, stands.len))
-flagged_by header (first ∷ second ∷ count ∷ more ∷ flags) stamps others rest fits_flags fits stands stand counted = absurd (omega (arith, stands.len))
+flagged_by header [] stamps others rest fits_flags fits stands sized stand counted = absurd (omega (arith, stands.len))
+flagged_by header (first ∷ []) stamps others rest fits_flags fits stands sized stand counted = absurd (omega (arith, stands.len))
+flagged_by header (first ∷ second ∷ []) stamps others rest fits_flags fits stands sized stand counted = absurd (omega (arith, stands.len))
+flagged_by header (first ∷ second ∷ count ∷ more ∷ flags) stamps others rest fits_flags fits stands sized stand counted = absurd (omega (arith, stands.len))
 
 after_by : (b : Bool) (header : PesHeader) (after rest : List ℕ) → IsBytes after → IsAfter b after header
-    → cond b (flags_at header.id header.len (after ++ rest)) (Ok (record { id = header.id; len = header.len; stamps = Absent }, 6))
+    → cond b (flags_at header.id header.len (after ++ rest)) (Ok (record { id = header.id; len = header.len; stamps = Absent; flags = no_flags; data_length = 0 }, 6))
     ≡ Ok (header, 6 + length after)
 after_by true header after rest fits stands =
     let whole : IsBytes (stands.flags ++ (stands.stamps ++ stands.others)) = subst IsBytes stands.is fits in
@@ -238,15 +306,16 @@ after_by true header after rest fits stands =
     rw (stands.is)
     (flagged_by header stands.flags stands.stamps stands.others rest
     (IsBytes-append_left stands.flags (stands.stamps ++ stands.others) whole) (IsBytes-append_left stands.stamps stands.others later)
-    stands.flags_stand stands.stamps_stand counted)
+    stands.flags_stand stands.data_is stands.stamps_stand counted)
 after_by false header after rest fits stands =
-    let whole : ◌≡◌ {A = PesHeader} (record { id = header.id; len = header.len; stamps = Absent }) header = rw (sym stands.1) refl in
+    let whole : ◌≡◌ {A = PesHeader} (record { id = header.id; len = header.len; stamps = Absent; flags = no_flags; data_length = 0 }) header =
+    header_by header Absent no_flags 0 (sym stands.1) (sym stands.2) (sym stands.3) in
     let size : 6 ≡ 6 + length after = sym (ap (λ (t : List ℕ). 6 + length t) stands.0) in
     ap (λ (h : PesHeader). Ok (h, 6)) whole ∙ ap (λ (n : ℕ). Ok (header, n)) size
 
 -- what follows PES_packet_length is read
 after_again : (header : PesHeader) (after rest : List ℕ) → IsBytes after → IsAfter (has_flags header.id) after header
-    → cond (has_flags header.id) (flags_at header.id header.len (after ++ rest)) (Ok (record { id = header.id; len = header.len; stamps = Absent }, 6))
+    → cond (has_flags header.id) (flags_at header.id header.len (after ++ rest)) (Ok (record { id = header.id; len = header.len; stamps = Absent; flags = no_flags; data_length = 0 }, 6))
     ≡ Ok (header, 6 + length after)
 after_again header after rest fits stands = after_by (has_flags header.id) header after rest fits stands
 

@@ -4,6 +4,7 @@ use Rattle.std.proofs.lemmas.Bool.{ltb-false, le-ltb}
 use Rattle.std.proofs.lemmas.List.{length-append, take-append-le}
 use Rattle.std.specs.List.{zip, list_any}
 use Rattle.pes_packet.specs.StreamIds.{has_flags}
+use Rattle.pes_packet.specs.Marks.{no_flags}
 use Rattle.pes_packet.specs.Reading.{data_at, flags_at, start_at, misses_prefix, header_at}
 use Rattle.pes_packet.specs.Laws.{LongerIsRead}
 use Rattle.pes_packet.specs.declared.refusal.PesError.{PesError}
@@ -60,7 +61,7 @@ start_stays : (bytes more : List ℕ) → Stays (start_at bytes) (start_at (byte
 unfolding start_at
 start_stays (p ∷ q ∷ r ∷ id ∷ high ∷ low ∷ bytes) more =
     either_stays (has_flags id) (flags_at id (high * 256 + low) bytes) (flags_at id (high * 256 + low) (bytes ++ more))
-    (Ok (record { id = id; len = high * 256 + low; stamps = Absent }, 6)) (flags_stay id (high * 256 + low) bytes more)
+    (Ok (record { id = id; len = high * 256 + low; stamps = Absent; flags = no_flags; data_length = 0 }, 6)) (flags_stay id (high * 256 + low) bytes more)
 start_stays [] more = λ some. absurd (some refl)
 start_stays (p ∷ []) more = λ some. absurd (some refl)
 start_stays (p ∷ q ∷ []) more = λ some. absurd (some refl)

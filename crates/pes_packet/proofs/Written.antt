@@ -1,16 +1,21 @@
 -- A written header is one by the table of fields, and is read again.
-use Rattle.std.proofs.Common.{◌≡◌, ℕ, ◌+◌, ◌*◌, ◌/◌, ◌%◌, ◌^◌, ◌<◌, ◌≤◌, ◌==◌, ◌&&◌, ◌||◌, not, nat_le, Bool, true, false, cond, List, [], ◌∷◌, ◌++◌, length, refl, ap, arith, ◌⊎◌, inl, inr, IsTrue}
-use Rattle.std.proofs.lemmas.Bool.{eqb-true, ne_eqb, and_parts, or_from, leb-true}
+use Rattle.std.proofs.Common.{◌≡◌, ℕ, ◌+◌, ◌*◌, ◌/◌, ◌%◌, ◌^◌, ◌<◌, ◌≤◌, ◌==◌, ◌&&◌, ◌||◌, not, nat_le, zero, suc, ◌-◌, Bool, true, false, cond, List, [], ◌∷◌, ◌++◌, length, replicate, refl, sym, ap, ◌∙◌, arith, ◌⊎◌, inl, inr, IsTrue}
+use Rattle.std.proofs.lemmas.Bool.{eqb-true, ne_eqb, and_parts, or_from, leb-true, le-leb}
+use Rattle.std.proofs.lemmas.List.{length-append, length-replicate}
 use Rattle.bit_fields.specs.Fields.{IsBytes}
 use Rattle.bit_fields.proofs.ByteLists.{IsBytes-cons, IsBytes-nil, IsBytes-append}
 use Rattle.pes_packet.specs.StreamIds.{has_flags, is_unit_id, greatest_size, fits_packet}
-use Rattle.pes_packet.specs.Encoding.{pes_start_bytes, packet_length, stamp_bytes, on_wire, pts_header, pts_dts_header, pes_header_bytes}
-use Rattle.pes_packet.specs.Syntax.{IsStamp, IsStart, IsFlags, IsPesHeader, stamp_flags}
-use Rattle.pes_packet.specs.Laws.{written_header, WrittenIsRead, WrittenIsHeader, HeaderSizes}
+use Rattle.pes_packet.specs.Encoding.{pes_start_bytes, packet_length, stamp_bytes, on_wire, header_with, pts_header, pts_dts_header, pes_header_bytes}
+use Rattle.pes_packet.specs.HeaderMarks.{header_marks}
+use Rattle.pes_packet.specs.Marks.{flag_bits, data_length, stuffing}
+use Rattle.pes_packet.specs.Syntax.{IsStamp, IsStamps, IsStart, IsFlags, IsPesHeader, stamp_flags}
+use Rattle.pes_packet.specs.Laws.{written_header, plain_header, MarksAreRead, WrittenIsRead, WrittenIsHeader, HeaderSizes, HeaderCounts, WithoutMarks}
 use Rattle.pes_packet.specs.declared.time_stamps.Stamps.{Stamps}
 use Rattle.pes_packet.specs.declared.time_stamps.Stamps.TheVariants.{Pts, PtsDts}
 use Rattle.pes_packet.specs.declared.reading.PesHeader.{PesHeader}
-use Rattle.pes_packet.proofs.HeaderFields.{header_again}
+use Rattle.pes_packet.specs.declared.marks.PesFlags.{PesFlags}
+use Rattle.pes_packet.specs.declared.marks.Marks.{Marks}
+use Rattle.pes_packet.proofs.HeaderFields.{header_again, bit_most}
 
 either : (b c : Bool) → (b || c) ≡ true → (b ≡ true) ⊎ (c ≡ true)
 either true c e = inl refl
@@ -59,6 +64,10 @@ packet_length_fits n =
       | inr some ↦ omega (arith, some.0, some.1)
     ]
 
+packet_length_all : (n : ℕ) → n ≤ 65_535 → packet_length n ≡ n
+unfolding packet_length
+packet_length_all n h = rw (le-leb n 65_535 h) refl
+
 packet_length_counts : (n size : ℕ) → n ≤ size → (packet_length size ≡ 0) ⊎ (n ≤ packet_length size)
 packet_length_counts n size h =
     elim (packet_length_is size) [
@@ -101,110 +110,215 @@ pub record Stands (bytes : List ℕ) (header : PesHeader) (size : ℕ) : Type 0 
   pub after_is_bytes : IsBytes is.after
 
 -- flag bytes
-flags_stand : (second n : ℕ) (stamps : Stamps) → second < 256 → n < 256 → stamp_flags stamps * 64 ≡ second → IsFlags (0x80 ∷ second ∷ n ∷ []) stamps n
-flags_stand second n stamps hs hn e = record {
+flags_stand : (second n : ℕ) (flags : PesFlags) (stamps : Stamps) → second < 256 → n < 256 → stamp_flags stamps * 64 ≡ second
+    → IsFlags ((0x80 + flag_bits flags) ∷ second ∷ n ∷ []) flags stamps n
+flags_stand second n flags stamps hs hn e = record {
   len = refl;
-  control = 0;
+  scrambling = 0;
   parts = 0;
-  spelled = omega arith;
-  control_fits = omega arith;
+  spelled = omega (arith, e);
+  scrambling_fits = omega arith;
   parts_fit = omega arith;
   length_fits = hn;
 }
 
+flag_byte_fits : (flags : PesFlags) → 0x80 + flag_bits flags < 256
+flag_byte_fits flags =
+    omega (arith, bit_most flags.priority, bit_most flags.aligned, bit_most flags.copyright, bit_most flags.original)
+
+stuffed_fits : (n : ℕ) → IsBytes (replicate n 0xFF)
+stuffed_fits zero = IsBytes-nil
+stuffed_fits (suc n) = IsBytes-cons 0xFF (replicate n 0xFF) (omega arith) (stuffed_fits n)
+
+-- stuffing is bytes, and as many as are wanting
+filled_by : (b : Bool) (n : ℕ) → n ≤ 10
+    → (IsBytes (cond b (replicate (36 - n) 0xFF) [])) × (cond b 36 n ≡ n + length {A = ℕ} (cond b (replicate (36 - n) 0xFF) []))
+filled_by true n h = (stuffed_fits (36 - n), omega (arith, length-replicate {A = ℕ} (36 - n) 0xFF))
+filled_by false n h = (IsBytes-nil, omega arith)
+
+data_fits : (b : Bool) (n : ℕ) → n ≤ 10 → cond b 36 n < 256
+data_fits true n h = omega arith
+data_fits false n h = omega arith
+
+-- a header with these stamps
+with_stands : (id size : ℕ) (marks : Marks) (second : ℕ) (stamps : Stamps) (wire rest : List ℕ) → id < 256 → has_flags id ≡ true
+    → second < 256 → stamp_flags stamps * 64 ≡ second → length wire ≤ 10 → IsStamps wire stamps → IsBytes wire
+    → Stands (header_with id size marks second wire ++ rest)
+    (record {
+      id = id;
+      len = packet_length (3 + data_length marks (length wire) + size);
+      stamps = stamps;
+      flags = marks.flags;
+      data_length = data_length marks (length wire);
+    })
+    (length (header_with id size marks second wire))
+unfolding header_with pes_start_bytes
+with_stands id size marks second stamps wire rest hi flagged hs announced short stand fits =
+    let n : ℕ = length wire in
+    let filled = filled_by marks.long n short in
+    let joined : length (wire ++ stuffing marks n) ≡ data_length marks n = length-append wire (stuffing marks n) ∙ sym filled.1 in
+    let count : 3 + data_length marks n ≤ 3 + data_length marks n + size = omega arith in
+    record {
+      is = record {
+        start = pes_start_bytes id (packet_length (3 + data_length marks n + size));
+        after = ((0x80 + flag_bits marks.flags) ∷ second ∷ data_length marks n ∷ []) ++ (wire ++ stuffing marks n);
+        rest = rest;
+        is = refl;
+        size_is = length-append (pes_start_bytes id (packet_length (3 + data_length marks n + size)))
+            (((0x80 + flag_bits marks.flags) ∷ second ∷ data_length marks n ∷ []) ++ (wire ++ stuffing marks n));
+        start_stands = start_stands id (packet_length (3 + data_length marks n + size)) _ hi (packet_length_fits (3 + data_length marks n + size)) refl refl;
+        after_stands = rw flagged (record {
+          flags = (0x80 + flag_bits marks.flags) ∷ second ∷ data_length marks n ∷ [];
+          stamps = wire;
+          others = stuffing marks n;
+          is = refl;
+          flags_stand = flags_stand second (data_length marks n) marks.flags stamps hs (data_fits marks.long n short) announced;
+          data_is = filled.1;
+          stamps_stand = stand;
+          counted = elim (packet_length_counts (3 + data_length marks n) (3 + data_length marks n + size) count) [
+            | inl none ↦ inl none
+            | inr some ↦ inr (omega (arith, some, joined))
+          ];
+        });
+      };
+      start_is_bytes = start_is_bytes id (packet_length (3 + data_length marks n + size)) hi (packet_length_fits (3 + data_length marks n + size));
+      after_is_bytes = IsBytes-append ((0x80 + flag_bits marks.flags) ∷ second ∷ data_length marks n ∷ []) (wire ++ stuffing marks n)
+          (three_bytes (0x80 + flag_bits marks.flags) second (data_length marks n) (flag_byte_fits marks.flags) hs (data_fits marks.long n short))
+          (IsBytes-append wire (stuffing marks n) fits filled.0);
+    }
+
 -- a header with a PTS alone
-pts_stands : (id size pts : ℕ) (rest : List ℕ) → id < 256 → has_flags id ≡ true → pts < 2 ^ 33
-    → Stands (pts_header id size pts ++ rest) (record { id = id; len = packet_length (8 + size); stamps = Pts pts }) (length (pts_header id size pts))
-unfolding pts_header pes_start_bytes stamp_bytes
-pts_stands id size pts rest hi flagged hp = record {
-  is = record {
-    start = pes_start_bytes id (packet_length (8 + size));
-    after = (0x80 ∷ 0x80 ∷ 5 ∷ []) ++ stamp_bytes 2 pts;
-    rest = rest;
-    is = refl;
-    size_is = refl;
-    start_stands = start_stands id (packet_length (8 + size)) _ hi (packet_length_fits (8 + size)) refl refl;
-    after_stands = rw flagged (record {
-      flags = 0x80 ∷ 0x80 ∷ 5 ∷ [];
-      stamps = stamp_bytes 2 pts;
-      others = [];
-      is = refl;
-      flags_stand = flags_stand 0x80 5 (Pts pts) (omega arith) (omega arith) refl;
-      stamps_stand = stamp_stands 2 pts (omega arith) hp;
-      counted = packet_length_counts 8 (8 + size) (omega arith);
-    });
-  };
-  start_is_bytes = start_is_bytes id (packet_length (8 + size)) hi (packet_length_fits (8 + size));
-  after_is_bytes = IsBytes-append (0x80 ∷ 0x80 ∷ 5 ∷ []) (stamp_bytes 2 pts) (three_bytes 0x80 0x80 5 (omega arith) (omega arith) (omega arith)) (stamp_is_bytes 2 pts (omega arith) hp);
-}
+pts_stands : (id size : ℕ) (marks : Marks) (pts : ℕ) (rest : List ℕ) → id < 256 → has_flags id ≡ true → pts < 2 ^ 33
+    → Stands (pts_header id size marks pts ++ rest)
+    (record { id = id; len = packet_length (3 + data_length marks 5 + size); stamps = Pts pts; flags = marks.flags; data_length = data_length marks 5 })
+    (length (pts_header id size marks pts))
+unfolding pts_header stamp_bytes
+pts_stands id size marks pts rest hi flagged hp =
+    with_stands id size marks 0x80 (Pts pts) (stamp_bytes 2 pts) rest hi flagged (omega arith) refl (omega arith)
+    (stamp_stands 2 pts (omega arith) hp) (stamp_is_bytes 2 pts (omega arith) hp)
 
 -- a header with a PTS and a DTS
-pts_dts_stands : (id size pts dts : ℕ) (rest : List ℕ) → id < 256 → has_flags id ≡ true → pts < 2 ^ 33 → dts < 2 ^ 33
-    → Stands (pts_dts_header id size pts dts ++ rest) (record { id = id; len = packet_length (13 + size); stamps = PtsDts pts dts }) (length (pts_dts_header id size pts dts))
-unfolding pts_dts_header pes_start_bytes stamp_bytes
-pts_dts_stands id size pts dts rest hi flagged hp hd = record {
-  is = record {
-    start = pes_start_bytes id (packet_length (13 + size));
-    after = (0x80 ∷ 0xC0 ∷ 10 ∷ []) ++ (stamp_bytes 3 pts ++ stamp_bytes 1 dts);
-    rest = rest;
-    is = refl;
-    size_is = refl;
-    start_stands = start_stands id (packet_length (13 + size)) _ hi (packet_length_fits (13 + size)) refl refl;
-    after_stands = rw flagged (record {
-      flags = 0x80 ∷ 0xC0 ∷ 10 ∷ [];
-      stamps = stamp_bytes 3 pts ++ stamp_bytes 1 dts;
-      others = [];
+pts_dts_stands : (id size : ℕ) (marks : Marks) (pts dts : ℕ) (rest : List ℕ) → id < 256 → has_flags id ≡ true → pts < 2 ^ 33 → dts < 2 ^ 33
+    → Stands (pts_dts_header id size marks pts dts ++ rest)
+    (record { id = id; len = packet_length (3 + data_length marks 10 + size); stamps = PtsDts pts dts; flags = marks.flags; data_length = data_length marks 10 })
+    (length (pts_dts_header id size marks pts dts))
+unfolding pts_dts_header stamp_bytes
+pts_dts_stands id size marks pts dts rest hi flagged hp hd =
+    with_stands id size marks 0xC0 (PtsDts pts dts) (stamp_bytes 3 pts ++ stamp_bytes 1 dts) rest hi flagged (omega arith) refl (omega arith)
+    (record {
+      first = stamp_bytes 3 pts;
+      second = stamp_bytes 1 dts;
       is = refl;
-      flags_stand = flags_stand 0xC0 10 (PtsDts pts dts) (omega arith) (omega arith) refl;
-      stamps_stand = record {
-        first = stamp_bytes 3 pts;
-        second = stamp_bytes 1 dts;
-        is = refl;
-        pts_stands = stamp_stands 3 pts (omega arith) hp;
-        dts_stands = stamp_stands 1 dts (omega arith) hd;
-      };
-      counted = packet_length_counts 13 (13 + size) (omega arith);
-    });
-  };
-  start_is_bytes = start_is_bytes id (packet_length (13 + size)) hi (packet_length_fits (13 + size));
-  after_is_bytes = IsBytes-append (0x80 ∷ 0xC0 ∷ 10 ∷ []) (stamp_bytes 3 pts ++ stamp_bytes 1 dts)
-      (three_bytes 0x80 0xC0 10 (omega arith) (omega arith) (omega arith))
-      (IsBytes-append (stamp_bytes 3 pts) (stamp_bytes 1 dts) (stamp_is_bytes 3 pts (omega arith) hp) (stamp_is_bytes 1 dts (omega arith) hd));
-}
+      pts_stands = stamp_stands 3 pts (omega arith) hp;
+      dts_stands = stamp_stands 1 dts (omega arith) hd;
+    })
+    (IsBytes-append (stamp_bytes 3 pts) (stamp_bytes 1 dts) (stamp_is_bytes 3 pts (omega arith) hp) (stamp_is_bytes 1 dts (omega arith) hd))
 
 -- either header, by whether the stamps on the wire are one
-header_stands : (b : Bool) (id size p d : ℕ) (rest : List ℕ) → id < 256 → has_flags id ≡ true → p < 2 ^ 33 → d < 2 ^ 33
-    → Stands (cond b (pts_header id size p) (pts_dts_header id size p d) ++ rest)
-    (cond b (record { id = id; len = packet_length (8 + size); stamps = Pts p }) (record { id = id; len = packet_length (13 + size); stamps = PtsDts p d }))
-    (length (cond b (pts_header id size p) (pts_dts_header id size p d)))
-header_stands true id size p d rest hi flagged hp hd = pts_stands id size p rest hi flagged hp
-header_stands false id size p d rest hi flagged hp hd = pts_dts_stands id size p d rest hi flagged hp hd
+header_stands : (b : Bool) (id size : ℕ) (marks : Marks) (p d : ℕ) (rest : List ℕ) → id < 256 → has_flags id ≡ true → p < 2 ^ 33 → d < 2 ^ 33
+    → Stands (cond b (pts_header id size marks p) (pts_dts_header id size marks p d) ++ rest)
+    (cond b
+    (record { id = id; len = packet_length (3 + data_length marks 5 + size); stamps = Pts p; flags = marks.flags; data_length = data_length marks 5 })
+    (record { id = id; len = packet_length (3 + data_length marks 10 + size); stamps = PtsDts p d; flags = marks.flags; data_length = data_length marks 10 }))
+    (length (cond b (pts_header id size marks p) (pts_dts_header id size marks p d)))
+header_stands true id size marks p d rest hi flagged hp hd = pts_stands id size marks p rest hi flagged hp
+header_stands false id size marks p d rest hi flagged hp hd = pts_dts_stands id size marks p d rest hi flagged hp hd
 
 -- the header of a unit is one
-pub written_stands : (id size pts dts : ℕ) (rest : List ℕ) → IsTrue (fits_packet id size)
-    → Stands (pes_header_bytes id size pts dts ++ rest) (written_header id size pts dts) (length (pes_header_bytes id size pts dts))
+pub written_stands : (id size : ℕ) (marks : Marks) (pts dts : ℕ) (rest : List ℕ) → IsTrue (fits_packet id size)
+    → Stands (pes_header_bytes id size marks pts dts ++ rest) (written_header id size marks pts dts) (length (pes_header_bytes id size marks pts dts))
 unfolding pes_header_bytes written_header
-written_stands id size pts dts rest fits =
+written_stands id size marks pts dts rest fits =
     let all = and_parts (is_unit_id id && nat_le 1 size) (nat_le size (greatest_size id)) fits in
     let parts = and_parts (is_unit_id id) (nat_le 1 size) all.0 in
     let ids = unit_ids id parts.0 in
     let hp : on_wire pts < 2 ^ 33 = omega arith in
     let hd : on_wire dts < 2 ^ 33 = omega arith in
-    header_stands (on_wire pts == on_wire dts) id size (on_wire pts) (on_wire dts) rest (unit_id_below id ids) (flagged_ids id ids) hp hd
+    header_stands (on_wire pts == on_wire dts) id size marks (on_wire pts) (on_wire dts) rest (unit_id_below id ids) (flagged_ids id ids) hp hd
 
 pub written_is_header : WrittenIsHeader
-written_is_header id size pts dts rest fits = (written_stands id size pts dts rest fits).is
+written_is_header id size marks pts dts rest fits = (written_stands id size marks pts dts rest fits).is
 
 pub written_is_read : WrittenIsRead
-written_is_read id size pts dts rest fits =
-    let s = written_stands id size pts dts rest fits in
-    header_again (pes_header_bytes id size pts dts ++ rest) (written_header id size pts dts) (length (pes_header_bytes id size pts dts)) s.is s.start_is_bytes s.after_is_bytes
+written_is_read id size marks pts dts rest fits =
+    let s = written_stands id size marks pts dts rest fits in
+    header_again (pes_header_bytes id size marks pts dts ++ rest) (written_header id size marks pts dts) (length (pes_header_bytes id size marks pts dts))
+    s.is s.start_is_bytes s.after_is_bytes
 
-sizes : (b : Bool) (id size p d : ℕ) → length (cond b (pts_header id size p) (pts_dts_header id size p d)) ≡ cond b 14 19
-unfolding pts_header pts_dts_header pes_start_bytes stamp_bytes
-sizes true id size p d = refl
-sizes false id size p d = refl
+-- a header has 9 bytes and its data
+with_size : (id size : ℕ) (marks : Marks) (second : ℕ) (wire : List ℕ) → length wire ≤ 10
+    → length (header_with id size marks second wire) ≡ 9 + data_length marks (length wire)
+unfolding header_with pes_start_bytes
+with_size id size marks second wire short =
+    omega (arith, length-append wire (stuffing marks (length wire)), (filled_by marks.long (length wire) short).1)
+
+sizes : (b : Bool) (id size : ℕ) (marks : Marks) (p d : ℕ)
+    → length (cond b (pts_header id size marks p) (pts_dts_header id size marks p d)) ≡ cond b (9 + data_length marks 5) (9 + data_length marks 10)
+unfolding pts_header pts_dts_header stamp_bytes
+sizes true id size marks p d = with_size id size marks 0x80 (stamp_bytes 2 p) (omega arith)
+sizes false id size marks p d = with_size id size marks 0xC0 (stamp_bytes 3 p ++ stamp_bytes 1 d) (omega arith)
+
+size_is : (b long : Bool) → cond b (9 + cond long 36 5) (9 + cond long 36 10) ≡ cond long 45 (cond b 14 19)
+size_is true true = refl
+size_is true false = refl
+size_is false true = refl
+size_is false false = refl
 
 pub header_sizes : HeaderSizes
 unfolding pes_header_bytes
-header_sizes id size pts dts = sizes (on_wire pts == on_wire dts) id size (on_wire pts) (on_wire dts)
+header_sizes id size marks pts dts =
+    sizes (on_wire pts == on_wire dts) id size marks (on_wire pts) (on_wire dts) ∙ size_is (on_wire pts == on_wire dts) marks.long
+
+count_fits : (b long : Bool) (size : ℕ) → size + cond long 26 0 ≤ 65_522
+    → 6 + cond b (packet_length (3 + cond long 36 5 + size)) (packet_length (3 + cond long 36 10 + size)) ≡ cond long 45 (cond b 14 19) + size
+count_fits true true size h = omega (arith, packet_length_all (3 + 36 + size) (omega arith))
+count_fits true false size h = omega (arith, packet_length_all (3 + 5 + size) (omega arith))
+count_fits false true size h = omega (arith, packet_length_all (3 + 36 + size) (omega arith))
+count_fits false false size h = omega (arith, packet_length_all (3 + 10 + size) (omega arith))
+
+length_written : (b : Bool) (x y : PesHeader) → (cond b x y).len ≡ cond b x.len y.len
+length_written true x y = refl
+length_written false x y = refl
+
+pub header_counts : HeaderCounts
+unfolding written_header
+header_counts id size marks pts dts h =
+    let pts_alone : PesHeader = record {
+      id = id;
+      len = packet_length (3 + data_length marks 5 + size);
+      stamps = Pts (on_wire pts);
+      flags = marks.flags;
+      data_length = data_length marks 5;
+    } in
+    let with_dts : PesHeader = record {
+      id = id;
+      len = packet_length (3 + data_length marks 10 + size);
+      stamps = PtsDts (on_wire pts) (on_wire dts);
+      flags = marks.flags;
+      data_length = data_length marks 10;
+    } in
+    ap (λ (n : ℕ). 6 + n) (length_written (on_wire pts == on_wire dts) pts_alone with_dts)
+    ∙ count_fits (on_wire pts == on_wire dts) marks.long size h
+    ∙ ap (λ (n : ℕ). n + size) (sym (header_sizes id size marks pts dts))
+
+pub without_marks : WithoutMarks
+unfolding pes_header_bytes pts_header pts_dts_header header_with pes_start_bytes stamp_bytes plain_header
+without_marks id size pts dts = refl
+
+long_again : (long : Bool) (n : ℕ) → (n == 36) ≡ false → (cond long 36 n == 36) ≡ long
+long_again true n e = refl
+long_again false n e = e
+
+either_marks : (b : Bool) (marks : Marks) (id l m : ℕ) (s t : Stamps)
+    → header_marks (cond b
+    (record { id = id; len = l; stamps = s; flags = marks.flags; data_length = data_length marks 5 })
+    (record { id = id; len = m; stamps = t; flags = marks.flags; data_length = data_length marks 10 }))
+    ≡ marks
+either_marks true marks id l m s t = rw (long_again marks.long 5 refl) refl
+either_marks false marks id l m s t = rw (long_again marks.long 10 refl) refl
+
+pub marks_are_read : MarksAreRead
+unfolding written_header
+marks_are_read id size marks pts dts =
+    either_marks (on_wire pts == on_wire dts) marks id (packet_length (3 + data_length marks 5 + size)) (packet_length (3 + data_length marks 10 + size))
+    (Pts (on_wire pts)) (PtsDts (on_wire pts) (on_wire dts))

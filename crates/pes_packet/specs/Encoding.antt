@@ -1,6 +1,9 @@
--- What is written (ISO/IEC 13818-1, 2.4.3.6 and 2.4.3.7): flag bytes 80 80 and a PTS, or 80 C0, a PTS and a DTS.
+-- What is written (ISO/IEC 13818-1, 2.4.3.6 and 2.4.3.7): the flags of a unit in the first flag byte, then 80 and a PTS, or C0,
+-- a PTS and a DTS; 45 bytes where the unit asks for a long header.
 use Rattle.std.specs.Prelude.{ℕ, ◌+◌, ◌*◌, ◌/◌, ◌%◌, ◌^◌, ◌==◌, nat_le, if◌then◌else◌, List, [], ◌∷◌, ◌++◌, length}
 use Rattle.pes_packet.specs.AccessUnits.{AccessUnit}
+use Rattle.pes_packet.specs.Marks.{flag_bits, data_length, stuffing}
+use Rattle.pes_packet.specs.declared.marks.Marks.{Marks}
 
 -- the first six bytes: packet_start_code_prefix, stream_id, PES_packet_length
 unfoldable pub pes_start_bytes : ℕ → ℕ → List ℕ
@@ -21,25 +24,32 @@ stamp_bytes mark stamp =
 abbrev pub on_wire : ℕ → ℕ
 on_wire stamp = stamp % 2 ^ 33
 
--- a header with a PTS alone, 14 bytes
-unfoldable pub pts_header : ℕ → ℕ → ℕ → List ℕ
-pts_header id size pts = pes_start_bytes id (packet_length (8 + size)) ++ (0x80 ∷ 0x80 ∷ 5 ∷ []) ++ stamp_bytes 2 pts
+-- a header: its start, two flag bytes, PES_header_data_length, the bytes of the stamps and stuffing
+unfoldable pub header_with : ℕ → ℕ → Marks → ℕ → List ℕ → List ℕ
+header_with id size marks second stamps =
+    pes_start_bytes id (packet_length (3 + data_length marks (length stamps) + size))
+    ++ ((0x80 + flag_bits marks.flags) ∷ second ∷ data_length marks (length stamps) ∷ [])
+    ++ stamps ++ stuffing marks (length stamps)
 
--- a header with a PTS and a DTS, 19 bytes
-unfoldable pub pts_dts_header : ℕ → ℕ → ℕ → ℕ → List ℕ
-pts_dts_header id size pts dts =
-    pes_start_bytes id (packet_length (13 + size)) ++ (0x80 ∷ 0xC0 ∷ 10 ∷ []) ++ stamp_bytes 3 pts ++ stamp_bytes 1 dts
+-- a header with a PTS alone
+unfoldable pub pts_header : ℕ → ℕ → Marks → ℕ → List ℕ
+pts_header id size marks pts = header_with id size marks 0x80 (stamp_bytes 2 pts)
+
+-- a header with a PTS and a DTS
+unfoldable pub pts_dts_header : ℕ → ℕ → Marks → ℕ → ℕ → List ℕ
+pts_dts_header id size marks pts dts = header_with id size marks 0xC0 (stamp_bytes 3 pts ++ stamp_bytes 1 dts)
 
 -- the header of a unit: a DTS exactly where the two stamps on the wire differ
-unfoldable pub pes_header_bytes : ℕ → ℕ → ℕ → ℕ → List ℕ
-pes_header_bytes id size pts dts =
-    if on_wire pts == on_wire dts then pts_header id size (on_wire pts)
-    else pts_dts_header id size (on_wire pts) (on_wire dts)
+unfoldable pub pes_header_bytes : ℕ → ℕ → Marks → ℕ → ℕ → List ℕ
+pes_header_bytes id size marks pts dts =
+    if on_wire pts == on_wire dts then pts_header id size marks (on_wire pts)
+    else pts_dts_header id size marks (on_wire pts) (on_wire dts)
 
 -- the size in bytes of the header of a unit
-abbrev pub header_size : ℕ → ℕ → ℕ
-header_size pts dts = if on_wire pts == on_wire dts then 14 else 19
+abbrev pub header_size : Marks → ℕ → ℕ → ℕ
+header_size marks pts dts = if marks.long then 45 else (if on_wire pts == on_wire dts then 14 else 19)
 
 -- the PES packet of a unit, header and bytes, its stamps moved by the first value of the program clock reference
 unfoldable pub pes_packet_bytes : ℕ → ℕ → AccessUnit → List ℕ
-pes_packet_bytes id base0 unit = pes_header_bytes id (length unit.bytes) (unit.pts + base0) (unit.dts + base0) ++ unit.bytes
+pes_packet_bytes id base0 unit =
+    pes_header_bytes id (length unit.bytes) unit.marks (unit.pts + base0) (unit.dts + base0) ++ unit.bytes

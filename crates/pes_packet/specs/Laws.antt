@@ -1,36 +1,74 @@
 -- What the laws of this crate say.
-use Rattle.std.specs.Prelude.{◌≡◌, ◌≢◌, ℕ, ◌+◌, ◌*◌, ◌<◌, ◌≤◌, ◌==◌, if◌then◌else◌, Ok, Err, Some, List, ◌++◌, length, take, drop, slice_get, All, IsTrue}
+use Rattle.std.specs.Prelude.{◌≡◌, ◌≢◌, ℕ, ◌+◌, ◌*◌, ◌<◌, ◌≤◌, ◌==◌, if◌then◌else◌, Ok, Err, Some, List, [], ◌∷◌, ◌++◌, length, take, drop, slice_get, All, IsTrue}
 use Rattle.std.specs.List.{concat}
 use Rattle.pes_packet.specs.StreamIds.{fits_packet}
 use Rattle.pes_packet.specs.Reading.{header_at}
-use Rattle.pes_packet.specs.Encoding.{packet_length, on_wire, pes_header_bytes, header_size}
+use Rattle.pes_packet.specs.HeaderMarks.{header_marks}
+use Rattle.pes_packet.specs.Marks.{data_length, marks_size, no_marks}
+use Rattle.pes_packet.specs.Encoding.{packet_length, on_wire, pes_start_bytes, stamp_bytes, pes_header_bytes, header_size}
 use Rattle.pes_packet.specs.Syntax.{IsPesHeader}
 use Rattle.pes_packet.specs.Payloads.{pieces, piece_count}
 use Rattle.pes_packet.specs.declared.refusal.PesError.TheVariants.{Short}
 use Rattle.pes_packet.specs.declared.time_stamps.Stamps.TheVariants.{Pts, PtsDts}
 use Rattle.pes_packet.specs.declared.reading.PesHeader.{PesHeader}
+use Rattle.pes_packet.specs.declared.marks.Marks.{Marks}
 
 -- the header that is written for a unit, as it is read: a DTS exactly where the stamps on the wire differ
-unfoldable pub written_header : ℕ → ℕ → ℕ → ℕ → PesHeader
-written_header id size pts dts =
-    if on_wire pts == on_wire dts then record { id = id; len = packet_length (8 + size); stamps = Pts (on_wire pts) }
-    else record { id = id; len = packet_length (13 + size); stamps = PtsDts (on_wire pts) (on_wire dts) }
+unfoldable pub written_header : ℕ → ℕ → Marks → ℕ → ℕ → PesHeader
+written_header id size marks pts dts =
+    if on_wire pts == on_wire dts
+    then record {
+      id = id;
+      len = packet_length (3 + data_length marks 5 + size);
+      stamps = Pts (on_wire pts);
+      flags = marks.flags;
+      data_length = data_length marks 5;
+    }
+    else record {
+      id = id;
+      len = packet_length (3 + data_length marks 10 + size);
+      stamps = PtsDts (on_wire pts) (on_wire dts);
+      flags = marks.flags;
+      data_length = data_length marks 10;
+    }
 
 -- a written header, whatever follows it, is read again as the same value
 abbrev pub WrittenIsRead : Type 0
 WrittenIsRead =
-    (id size pts dts : ℕ) (rest : List ℕ) → IsTrue (fits_packet id size)
-    → header_at (pes_header_bytes id size pts dts ++ rest) ≡ Ok (written_header id size pts dts, length (pes_header_bytes id size pts dts))
+    (id size : ℕ) (marks : Marks) (pts dts : ℕ) (rest : List ℕ) → IsTrue (fits_packet id size)
+    → header_at (pes_header_bytes id size marks pts dts ++ rest)
+    ≡ Ok (written_header id size marks pts dts, length (pes_header_bytes id size marks pts dts))
 
 -- a written header is the standard's
 abbrev pub WrittenIsHeader : Type 0
 WrittenIsHeader =
-    (id size pts dts : ℕ) (rest : List ℕ) → IsTrue (fits_packet id size)
-    → IsPesHeader (pes_header_bytes id size pts dts ++ rest) (written_header id size pts dts) (length (pes_header_bytes id size pts dts))
+    (id size : ℕ) (marks : Marks) (pts dts : ℕ) (rest : List ℕ) → IsTrue (fits_packet id size)
+    → IsPesHeader (pes_header_bytes id size marks pts dts ++ rest) (written_header id size marks pts dts) (length (pes_header_bytes id size marks pts dts))
 
--- a written header has 14 bytes, or 19 with a DTS
+-- with the marks of its unit
+abbrev pub MarksAreRead : Type 0
+MarksAreRead = (id size : ℕ) (marks : Marks) (pts dts : ℕ) → header_marks (written_header id size marks pts dts) ≡ marks
+
+-- a written header has 45 bytes where it is long, else 14, or 19 with a DTS
 abbrev pub HeaderSizes : Type 0
-HeaderSizes = (id size pts dts : ℕ) → length (pes_header_bytes id size pts dts) ≡ header_size pts dts
+HeaderSizes = (id size : ℕ) (marks : Marks) (pts dts : ℕ) → length (pes_header_bytes id size marks pts dts) ≡ header_size marks pts dts
+
+-- PES_packet_length counts the rest of the packet where the unit and what its marks take have at most 65,522 bytes
+abbrev pub HeaderCounts : Type 0
+HeaderCounts =
+    (id size : ℕ) (marks : Marks) (pts dts : ℕ) → size + marks_size marks ≤ 65_522
+    → 6 + (written_header id size marks pts dts).len ≡ length (pes_header_bytes id size marks pts dts) + size
+
+-- a header without marks: flag bytes 80 80 and a PTS, or 80 C0, a PTS and a DTS
+unfoldable pub plain_header : ℕ → ℕ → ℕ → ℕ → List ℕ
+plain_header id size pts dts =
+    if on_wire pts == on_wire dts
+    then pes_start_bytes id (packet_length (8 + size)) ++ (0x80 ∷ 0x80 ∷ 5 ∷ []) ++ stamp_bytes 2 (on_wire pts)
+    else pes_start_bytes id (packet_length (13 + size)) ++ (0x80 ∷ 0xC0 ∷ 10 ∷ []) ++ stamp_bytes 3 (on_wire pts) ++ stamp_bytes 1 (on_wire dts)
+
+-- that is what is written for a unit without marks
+abbrev pub WithoutMarks : Type 0
+WithoutMarks = (id size pts dts : ℕ) → pes_header_bytes id size no_marks pts dts ≡ plain_header id size pts dts
 
 -- bytes that are no longer too short for an answer keep it, whatever follows
 abbrev pub LongerIsRead : Type 0

@@ -1,8 +1,10 @@
 pub mod StreamIds
+pub mod Marks
 pub mod AccessUnits
 pub mod Codes
 pub mod Syntax
 pub mod Reading
+pub mod HeaderMarks
 pub mod Encoding
 pub mod Payloads
 pub mod Units

@@ -1,7 +1,9 @@
 -- The header of a PES packet as the standard's table of fields (ISO/IEC 13818-1, 2.4.3.6, table 2-21).
 use Rattle.std.specs.Prelude.{◌≡◌, ℕ, ◌+◌, ◌/◌, ◌%◌, ◌^◌, ◌<◌, ◌≤◌, ◌⊎◌, Bool, true, false, List, [], ◌∷◌, ◌++◌, length}
-use Rattle.bit_fields.specs.Fields.{number, fields}
+use Rattle.bit_fields.specs.Fields.{number, fields, bit}
 use Rattle.pes_packet.specs.StreamIds.{has_flags}
+use Rattle.pes_packet.specs.Marks.{no_flags}
+use Rattle.pes_packet.specs.declared.marks.PesFlags.{PesFlags}
 use Rattle.pes_packet.specs.declared.time_stamps.Stamps.{Stamps}
 use Rattle.pes_packet.specs.declared.time_stamps.Stamps.TheVariants.{Absent, Pts, PtsDts}
 use Rattle.pes_packet.specs.declared.reading.PesHeader.{PesHeader}
@@ -40,14 +42,18 @@ pub record IsStart (bytes : List ℕ) (header : PesHeader) : Type 0 where
   pub id : header.id < 2 ^ 8
   pub packet_length : header.len < 2 ^ 16
 
--- bits 10, six bits that are not looked at (scrambling, priority, alignment, copyright, original), PTS_DTS_flags, six
--- flags of other parts, PES_header_data_length
-pub record IsFlags (bytes : List ℕ) (stamps : Stamps) (data_length : ℕ) : Type 0 where
+-- bits 10, PES_scrambling_control, which is not looked at, PES_priority, data_alignment_indicator, copyright,
+-- original_or_copy, PTS_DTS_flags, six flags of other parts, PES_header_data_length
+pub record IsFlags (bytes : List ℕ) (flags : PesFlags) (stamps : Stamps) (data_length : ℕ) : Type 0 where
   pub len : length bytes ≡ 3
-  pub control : ℕ
+  pub scrambling : ℕ
   pub parts : ℕ
-  pub spelled : number bytes ≡ fields ((2, 2) ∷ (6, control) ∷ (2, stamp_flags stamps) ∷ (6, parts) ∷ (8, data_length) ∷ [])
-  pub control_fits : control < 2 ^ 6
+  pub spelled :
+      number bytes
+      ≡ fields
+      ((2, 2) ∷ (2, scrambling) ∷ (1, bit flags.priority) ∷ (1, bit flags.aligned) ∷ (1, bit flags.copyright) ∷ (1, bit flags.original)
+      ∷ (2, stamp_flags stamps) ∷ (6, parts) ∷ (8, data_length) ∷ [])
+  pub scrambling_fits : scrambling < 2 ^ 2
   pub parts_fit : parts < 2 ^ 6
   pub length_fits : data_length < 2 ^ 8
 
@@ -57,14 +63,15 @@ pub record IsFlagged (bytes : List ℕ) (header : PesHeader) : Type 0 where
   pub stamps : List ℕ
   pub others : List ℕ
   pub is : bytes ≡ flags ++ (stamps ++ others)
-  pub flags_stand : IsFlags flags header.stamps (length stamps + length others)
+  pub flags_stand : IsFlags flags header.flags header.stamps header.data_length
+  pub data_is : header.data_length ≡ length stamps + length others
   pub stamps_stand : IsStamps stamps header.stamps
   pub counted : (header.len ≡ 0) ⊎ (length bytes ≤ header.len)
 
 -- what follows PES_packet_length, by whether the stream_id has flag bytes
 abbrev pub IsAfter : Bool → List ℕ → PesHeader → Type 0
 IsAfter true bytes header = IsFlagged bytes header
-IsAfter false bytes header = (bytes ≡ []) × (header.stamps ≡ Absent)
+IsAfter false bytes header = (bytes ≡ []) × (header.stamps ≡ Absent) × (header.flags ≡ no_flags) × (header.data_length ≡ 0)
 
 -- the bytes begin with this header, of this size in bytes
 pub record IsPesHeader (bytes : List ℕ) (header : PesHeader) (size : ℕ) : Type 0 where

@@ -1,5 +1,6 @@
-//! One access unit with its time stamps.
+//! One access unit with its time stamps and its marks.
 
+use crate::marks::Marks;
 use std::alloc::{Allocator, Global};
 use std::marker::Model;
 
@@ -11,15 +12,17 @@ pub struct Unit<A: Allocator = Global> {
     pub dts: u64,
     /// When the unit is presented.
     pub pts: u64,
+    /// What its packets say of it beside the stamps.
+    pub marks: Marks,
     /// The coded bytes.
     pub bytes: Vec<u8, A>,
 }
 
-// A contract sees the stamps and the list of bytes, and not where the bytes are kept.
+// A contract sees the stamps, the marks and the list of bytes, and not where the bytes are kept.
 impl<A: Allocator> Model for Unit<A> {
     ghost use Rattle.pes_packet.specs.AccessUnits.{AccessUnit};
 
     ghost Value = { AccessUnit };
 
-    ghost view = { λ unit. record { dts = unit.dts; pts = unit.pts; bytes = unit.bytes.items } };
+    ghost view = { λ unit. record { dts = unit.dts; pts = unit.pts; marks = unit.marks; bytes = unit.bytes.items } };
 }

@@ -1,29 +1,46 @@
 //! Laws of the definitions. Each function does nothing: its contract is the law.
 
 ghost use Rattle.std.specs.Prelude.{ℕ, List};
-ghost use Rattle.pes_packet.specs.Laws.{WrittenIsRead, WrittenIsHeader, HeaderSizes, LongerIsRead, PayloadsJoin};
+ghost use Rattle.pes_packet.specs.Laws.{WrittenIsRead, WrittenIsHeader, MarksAreRead, HeaderSizes, HeaderCounts, WithoutMarks};
+ghost use Rattle.pes_packet.specs.Laws.{LongerIsRead, PayloadsJoin};
 
-/// A header that `write_header` writes is read again as the same value, whatever follows it.
+/// States that a header that `write_header` writes is read again as the same value, whatever follows it.
 pub fn written_is_read()
     ensures { WrittenIsRead }
 {}
 
-/// A header that `write_header` writes is a header by the standard's table of fields.
+/// States that a header that `write_header` writes is a header by the standard's table of fields.
 pub fn written_is_header()
     ensures { WrittenIsHeader }
 {}
 
-/// A header that `write_header` writes has 14 bytes, or 19 with a DTS.
+/// States that a header that `write_header` writes says the marks of its unit.
+pub fn marks_are_read()
+    ensures { MarksAreRead }
+{}
+
+/// States that a header that `write_header` writes has 45 bytes where it is long, else 14, or 19 with a DTS.
 pub fn header_sizes()
     ensures { HeaderSizes }
 {}
 
-/// More bytes after those at hand change no answer of `read_header` but `Short`.
+/// States that PES_packet_length counts the packet where its unit and what the unit's marks take have at most
+/// 65,522 bytes.
+pub fn header_counts()
+    ensures { HeaderCounts }
+{}
+
+/// States that a header without marks has flag bytes 80 80 and a PTS, or 80 C0, a PTS and a DTS.
+pub fn without_marks()
+    ensures { WithoutMarks }
+{}
+
+/// States that more bytes at the end change no answer of `read_header` except `Short`.
 pub fn longer_is_read()
     ensures { LongerIsRead }
 {}
 
-/// The payloads of a PES packet have 184 bytes each, the last 1 to 184, and joined they are the packet.
+/// States that the payloads of a PES packet have 184 bytes each, the last 1 to 184, and joined they are the packet.
 pub fn payloads_join()
     ensures { (bytes : List ℕ) → PayloadsJoin bytes }
 {}

@@ -3,8 +3,10 @@
 ghost use Rattle.std.specs.Prelude.{◌≡◌, ◌≤◌, ℕ, IfOk, length};
 ghost use Rattle.pes_packet.specs.Reading.{is_bad_flags, is_too_short, misses_prefix};
 ghost use Rattle.pes_packet.specs.Reading.{data_at, flags_at, start_at, header_at};
+ghost use Rattle.pes_packet.specs.HeaderMarks.{header_marks};
 ghost use Rattle.pes_packet.specs.Syntax.{IsPesHeader};
 
+use crate::marks::{Marks, PesFlags};
 use crate::refusal::PesError;
 use crate::stream_ids::has_flags;
 use crate::time_stamps::{Stamps, stamps_at};
@@ -22,6 +24,22 @@ pub struct PesHeader {
     pub len: u16,
     /// The stamps, in units of 90 kHz modulo 2^33.
     pub stamps: Stamps,
+    /// The flags in the first flag byte.
+    pub flags: PesFlags,
+    /// PES_header_data_length: the bytes of the header after it.
+    pub data_length: u8,
+}
+
+impl PesHeader {
+    /// Gives the marks that the header says: its flags, and whether it has 45 bytes.
+    pub fn marks(&self) -> Marks
+        ensures { result ≡ header_marks self.now }
+    {
+        Marks {
+            flags: self.flags,
+            long: self.data_length == 36,
+        }
+    }
 }
 
 /// Reads the header of a PES packet at the front of `bytes`, and says how many bytes it has.
@@ -76,6 +94,8 @@ fn start_at(bytes: &[u8]) -> Result<(PesHeader, usize), PesError>
                     id: *id,
                     len,
                     stamps: Stamps::Absent,
+                    flags: PesFlags::NONE,
+                    data_length: 0,
                 },
                 6,
             ))
@@ -133,8 +153,14 @@ fn data_at(
     if is_too_short(len, size) {
         return Err(PesError::Length);
     }
-    let size = size as usize;
-    let (data, _) = bytes.split_at(size);
+    let (data, _) = bytes.split_at(size as usize);
     let stamps = stamps_at(second >> 6, data)?;
-    Ok((PesHeader { id, len, stamps }, 9 + size))
+    let header = PesHeader {
+        id,
+        len,
+        stamps,
+        flags: PesFlags::from_bits(first),
+        data_length: size,
+    };
+    Ok((header, 9 + size as usize))
 }

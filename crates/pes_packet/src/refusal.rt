@@ -26,7 +26,7 @@ pub enum PesError {
 }
 
 impl PesError {
-    /// The number of this refusal in lines of findings.
+    /// Returns the number of this refusal in lines of findings.
     pub fn code(self) -> u8
         ensures { result ≡ code_of self }
     {

@@ -92,7 +92,7 @@ fn with_marker(bits: u16) -> u16
     bits << 1 | 1
 }
 
-/// The five bytes of a stamp, after its four bits.
+/// Returns the five bytes of a stamp, after its four bits.
 #[tactic(auto, unfolding(crate::specs::Encoding::stamp_bytes))]
 pub(crate) fn stamp_bytes(mark: u8, stamp: u64) -> [u8; 5]
     requires mark { mark < 16 }

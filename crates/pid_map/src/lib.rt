@@ -1,7 +1,7 @@
-//! What is kept for each PID of a stream, in the order in which the PIDs were first seen.
+//! A map by PID, in the order of each PID's first packet.
 //!
-//! - [`PidMap`]: a map by PID that looks for an entry first where that of the last PID with the same rest is. The PIDs
-//!   of a stream are few and come again and again, so few packets search.
+//! - [`PidMap`]: a map by PID that looks for an entry first at the place of the last PID with the same rest. The PIDs
+//!   of a stream are few and recur, so few packets search.
 //!
 //! A contract sees it as an `IndexMap`: its entries in their order.
 #![tactic(auto)]

@@ -10,13 +10,13 @@ use std::alloc::{AllocError, AllocFailed, Allocator};
 use std::hash::{BuildHasherDefault, FoldHasher};
 use std::marker::Model;
 
-/// Entries by PID, in the order in which the PIDs were first seen.
+/// Entries by PID, in the order of each PID's first packet.
 pub type PidEntries<V, A> = IndexMap<u16, V, BuildHasherDefault<FoldHasher>, A>;
 
 // For how many PIDs it is kept where their entries are.
 const PLACES: usize = 64;
 
-/// Entries by PID, in the order in which the PIDs were first seen, and where those of the last ones are.
+/// Entries by PID, in the order of each PID's first packet, and the places of the last PIDs' entries.
 #[derive(Drop)]
 pub struct PidMap<V, A: Allocator> {
     entries: PidEntries<V, A>,
@@ -38,7 +38,7 @@ impl<V, A: Allocator> Model for PidMap<V, A> {
 impl<V, A: Allocator> PidMap<V, A> {
     ghost use Rattle.pid_map.specs.contracts.pid_map.PidMap.{the_row};
 
-    /// No entries.
+    /// Returns no entries.
     pub fn new(alloc: A) -> PidMap<V, A>
     where
         A: Copy,
@@ -50,7 +50,7 @@ impl<V, A: Allocator> PidMap<V, A> {
         }
     }
 
-    /// The entries.
+    /// Returns the entries.
     #[inline(always)]
     pub fn entries(&self) -> &PidEntries<V, A>
         ensures { result.now ≡ self.now }
@@ -58,7 +58,7 @@ impl<V, A: Allocator> PidMap<V, A> {
         &self.entries
     }
 
-    /// The index of the entry of a PID, if it is where that of the last PID with the same rest is. Nothing is searched.
+    /// Returns the index of the PID's entry, if it is the entry of the last PID with the same rest. It searches nothing.
     #[inline(always)]
     pub fn noted(&self, pid: u16) -> Option<usize>
         ensures index { IfSome result (λ i. position (nat_eq pid) (keys_of self.now.entries) ≡ Some i) }
@@ -76,7 +76,7 @@ impl<V, A: Allocator> PidMap<V, A> {
         None
     }
 
-    /// Whether a PID has an entry.
+    /// Returns whether a PID has an entry.
     #[inline(always)]
     #[tactic(auto, using(crate::proofs::Entries::found_there))]
     pub fn contains(&self, pid: u16) -> bool
@@ -85,7 +85,7 @@ impl<V, A: Allocator> PidMap<V, A> {
         self.noted(pid).is_some() || self.entries.get(&pid).is_some()
     }
 
-    /// The index of the entry of a PID. It is searched for where it is not noted, and then noted.
+    /// Returns the index of the entry of a PID. It is searched for where it is not noted, and then noted.
     #[inline(always)]
     #[tactic(auto, using(crate::proofs::Entries::found_there))]
     pub fn index_of(&mut self, pid: u16) -> Option<usize>
@@ -103,7 +103,7 @@ impl<V, A: Allocator> PidMap<V, A> {
         Some(index)
     }
 
-    /// The value at an index, to write.
+    /// Returns the value at an index, to write.
     #[inline(always)]
     pub fn value_mut(&mut self, index: usize) -> &mut V
         requires { index < index_map_len self.old }

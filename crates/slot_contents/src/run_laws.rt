@@ -3,52 +3,53 @@ ghost use Rattle.slot_contents.specs.RunLaws.{ContentAgainLaw, RunLengthLaw, Run
 ghost use Rattle.slot_contents.specs.RunLaws.{PayloadCountLaw, RunPayloadEntriesLaw, PayloadEntriesAgainLaw};
 ghost use Rattle.slot_contents.specs.RunLaws.{RunJoinedLaw, RunByNumberLaw};
 
-/// The packet of what a slot carries has 188 bytes, and is read again.
+/// States that the packet of what a slot carries has 188 bytes, and is read again.
 pub fn content_again()
     ensures { ContentAgainLaw }
 {}
 
-/// A run of n slots has 188 * n bytes.
+/// States that a run of n slots has 188 * n bytes.
 pub fn run_length()
     ensures { RunLengthLaw }
 {}
 
-/// The list of a PID in the bytes of a run, slot by slot.
+/// States the list of a PID in the bytes of a run, slot by slot.
 pub fn run_pid_list()
     ensures { RunListLaw }
 {}
 
-/// Where the packets of a PID stand in an item's own slots, their indices are these slots.
+/// States that the indices of a PID's packets are an item's own slots, if the packets are in these slots.
 pub fn run_indices()
     ensures { RunIndicesLaw }
 {}
 
-/// The same of two PIDs together, as of the tables that enter one system buffer.
+/// States the same fact for two PIDs together, as for the tables that enter one system buffer.
 pub fn run_two()
     ensures { RunTwoLaw }
 {}
 
-/// A count of the payloads on a PID before each slot numbers them.
+/// States a count of the payloads on a PID before each slot numbers them.
 pub fn payload_count()
     ensures { PayloadCountLaw }
 {}
 
-/// Numbered payloads are the whole list of their PID, and their counters go up by one modulo 16 from 0.
+/// States that numbered payloads are the whole list of their PID, and their counters go up by one modulo 16 from 0.
 pub fn run_payload_entries()
     ensures { RunPayloadEntriesLaw }
 {}
 
-/// A payload comes back from its packet, with the packet's index and its start indicator.
+/// States that a payload comes back from its packet, with the packet's index and its start indicator.
 pub fn payload_entries_again()
     ensures { PayloadEntriesAgainLaw }
 {}
 
-/// The payloads of a PID in the bytes of a run, joined, are those of its slots, joined.
+/// States that the payloads of a PID in the bytes of a run, joined, are the payloads of its slots, joined.
 pub fn run_joined()
     ensures { RunJoinedLaw }
 {}
 
-/// Where an item's own slots alone carry payloads on a PID, by their numbers, the payloads of the PID are theirs.
+/// States that, if an item's own slots alone carry payloads on a PID, by their numbers, the payloads of the PID are
+/// theirs.
 pub fn run_by_number()
     ensures { RunByNumberLaw }
 {}

@@ -4,6 +4,8 @@ use Rattle.std.specs.List.{list_any}
 use Rattle.std.proofs.lemmas.Bool.{eqb-true}
 use Rattle.std.proofs.lemmas.List.{append_assoc, nil_from_length}
 use Rattle.std.proofs.lemmas.List.Folds.{list_any-append}
+use Rattle.pes_packet.specs.HeaderMarks.{header_marks}
+use Rattle.pes_packet.specs.declared.marks.Marks.{Marks}
 use Rattle.pes_packet.specs.declared.time_stamps.Stamps.{Stamps}
 use Rattle.pes_packet.specs.declared.time_stamps.Stamps.TheVariants.{Absent, Pts, PtsDts}
 use Rattle.demux.specs.Views.{WhatView, IsDuplicate, BreaksCounter, IsScrambled, IsTruncated, IsSection, IsBadSection, IsPes, IsBadPes, IsBadPacket, IsErrored, FindingView}
@@ -111,15 +113,15 @@ unfolding first_cause
 by_first split pid place size current u alone unended true fs is quiet next = absurd (told place causes.PartLost quiet refl)
 by_first split pid place size current u alone unended false fs is quiet next = by_start split pid current u fs is next
 
-by_pes : (split : Bool) (pid packet place id : ℕ) (current : Option ℕ) (body : List ℕ) (unended : Bool) (stamps : Stamps) (fs : List FindingView) →
+by_pes : (split : Bool) (pid packet place id : ℕ) (current : Option ℕ) (body : List ℕ) (unended : Bool) (marks : Marks) (stamps : Stamps) (fs : List FindingView) →
     IsQuiet place (pes_cause current (split && is_cut id pid fs) (length (continuation id pid fs) == 0) unended id stamps (length body)) →
-    Follows split pid current (pes_role packet id stamps body) fs → Goes split pid current (pes_role packet id stamps body) fs
+    Follows split pid current (pes_role packet id marks stamps body) fs → Goes split pid current (pes_role packet id marks stamps body) fs
 unfolding pes_cause pes_role
-by_pes split pid packet place id current body unended Absent fs quiet next = by_absent split pid place (length body) id current body unended (id == 0xBE) fs quiet next
-by_pes split pid packet place id current body unended (Pts pts) fs quiet next =
-    by_first split pid place (length body) current (unit_with packet id pts pts body) (length (continuation id pid fs) == 0) unended (split && is_cut id pid fs) fs refl quiet next
-by_pes split pid packet place id current body unended (PtsDts pts dts) fs quiet next =
-    by_first split pid place (length body) current (unit_with packet id dts pts body) (length (continuation id pid fs) == 0) unended (split && is_cut id pid fs) fs refl quiet next
+by_pes split pid packet place id current body unended marks Absent fs quiet next = by_absent split pid place (length body) id current body unended (id == 0xBE) fs quiet next
+by_pes split pid packet place id current body unended marks (Pts pts) fs quiet next =
+    by_first split pid place (length body) current (unit_with packet id pts pts marks body) (length (continuation id pid fs) == 0) unended (split && is_cut id pid fs) fs refl quiet next
+by_pes split pid packet place id current body unended marks (PtsDts pts dts) fs quiet next =
+    by_first split pid place (length body) current (unit_with packet id dts pts marks body) (length (continuation id pid fs) == 0) unended (split && is_cut id pid fs) fs refl quiet next
 
 by_what : (split : Bool) (pid count packet at place : ℕ) (current : Option ℕ) (unstamped : Bool) (what : WhatView) (fs : List FindingView) →
     IsQuiet place (cause_of_what count at current (split && is_cut (id_of what) pid fs) (length (continuation (id_of what) pid fs) == 0) what) →
@@ -134,7 +136,7 @@ by_what split pid count packet at place current unstamped (IsTruncated bytes) fs
 by_what split pid count packet at place current unstamped (IsSection bytes) fs quiet next = absurd (told place causes.Section quiet refl)
 by_what split pid count packet at place current unstamped (IsBadSection error) fs quiet next = absurd (told place (causes.BadSection error) quiet refl)
 by_what split pid count packet at place current unstamped (IsBadPes error) fs quiet next = absurd (told place (causes.BadPes error) quiet refl)
-by_what split pid count packet at place current unstamped (IsPes header unended body) fs quiet next = by_pes split pid packet place header.id current body unended header.stamps fs quiet next
+by_what split pid count packet at place current unstamped (IsPes header unended body) fs quiet next = by_pes split pid packet place header.id current body unended (header_marks header) header.stamps fs quiet next
 
 -- a finding, of this PID or of another one
 by_finding : (split : Bool) (pid count packet at place : ℕ) (current : Option ℕ) (unstamped own : Bool) (what : WhatView) (fs : List FindingView) →

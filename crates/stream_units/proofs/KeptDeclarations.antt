@@ -2,6 +2,7 @@
 use Rattle.std.proofs.Common.{◌≡◌, ◌≤◌, ℕ, ◌+◌, Option, Some, None, List, [], ◌∷◌, length, map, arith, All}
 use Rattle.std.proofs.lemmas.List.Elements.{All-nil, All-cons, All-head, All-tail}
 use Rattle.pes_packet.specs.AccessUnits.{AccessUnit}
+use Rattle.pes_packet.specs.Marks.{marks_size}
 use Rattle.unit_timing.specs.declared.allowance.Allowance.{Allowance}
 use Rattle.unit_timing.specs.declared.allowance.Allowance.TheVariants.{Groups, Pace}
 use Rattle.unit_timing.specs.PesPacket.{Spaced, Sized, GroupsWithin}
@@ -20,7 +21,7 @@ use Rattle.stream_units.proofs.UnitCounts.{within_burst, bytes_most}
 -- 1. Each by itself
 
 unit_is : (r : StreamParameters) (base : ℕ) (before : Option ℕ) (u : AccessUnit) → unit_fault base before u ≡ None →
-    1 ≤ length u.bytes → length (unit_at base before u).bytes ≤ r.size → IsUnit r (unit_at base before u)
+    1 ≤ length u.bytes → length (unit_at base before u).bytes + marks_size (unit_at base before u).marks ≤ r.size → IsUnit r (unit_at base before u)
 unfolding unit_at
 unit_is r base before u none some most =
     let own = timely base before u none in

@@ -1,9 +1,11 @@
 -- What is made of moments, one by one.
-use Rattle.std.proofs.Common.{◌≡◌, ◌≤◌, ◌<◌, ◌∙◌, ℕ, suc, Bool, if◌then◌else◌, map, nat_le, arith, ◌+◌, ◌-◌, ◌%◌, ◌^◌, ◌++◌, max, true, false, nat_lt, refl, sym, ap, add-one, List, [], ◌∷◌, length, drop, get_or, None, Some}
+use Rattle.std.proofs.Common.{◌≡◌, ◌≤◌, ◌<◌, ◌∙◌, ℕ, suc, Bool, if◌then◌else◌, nat_le, arith, ◌+◌, ◌-◌, ◌%◌, ◌^◌, ◌++◌, max, true, false, nat_lt, refl, sym, ap, add-one, List, [], ◌∷◌, length, drop, get_or, None, Some}
 use Rattle.std.proofs.Math.Seq.{drop-cons}
 use Rattle.std.proofs.lemmas.List.{append_assoc, append-nil, drop_all, length-map}
+use Rattle.pes_packet.specs.declared.marks.Marks.{Marks}
 use Rattle.stream_units.specs.CarriedUnits.{CarriedUnit, unit_with}
 use Rattle.stream_units.specs.MadeDts.{nearest, moments_after, moments_of, placed, in_order, shift_of, made_dts, pts_of, made_units, max_ahead, stands_first, first_same_pts, first_late_pts, with_dts}
+use Rattle.stream_units.proofs.UnitMoments.{content, contents}
 use Rattle.stream_units.specs.declared.dts_from_pts.DtsFault.TheVariants.{SamePts, PtsTooLate}
 
 pub next : (i : ℕ) (xs : List ℕ) → i < length xs → drop i xs ≡ get_or xs i 0 ∷ drop (i + 1) xs
@@ -75,9 +77,9 @@ late_short shift i (x ∷ order) moments none = absurd cc
 
 -- units with their DTS, one by one
 pub dts_more : (dts later : List ℕ) (d : ℕ) (us rest out : List CarriedUnit) (u x : CarriedUnit) → dts ≡ d ∷ later → us ≡ u ∷ rest →
-    x ≡ unit_with u.packet u.stream_id d u.unit.pts u.unit.bytes → out ++ with_dts dts us ≡ (out ++ x ∷ []) ++ with_dts later rest
+    x ≡ unit_with u.packet u.stream_id d u.unit.pts u.unit.marks u.unit.bytes → out ++ with_dts dts us ≡ (out ++ x ∷ []) ++ with_dts later rest
 unfolding with_dts
-dts_more dts later d us rest out u x ds is at = rw (ds, is, at) (sym (append_assoc out (unit_with u.packet u.stream_id d u.unit.pts u.unit.bytes ∷ []) (with_dts later rest)))
+dts_more dts later d us rest out u x ds is at = rw (ds, is, at) (sym (append_assoc out (unit_with u.packet u.stream_id d u.unit.pts u.unit.marks u.unit.bytes ∷ []) (with_dts later rest)))
 
 pub dts_short : (dts : List ℕ) (us : List CarriedUnit) → length dts ≡ 0 → with_dts dts us ≡ []
 unfolding with_dts
@@ -117,12 +119,12 @@ length_made us =
     let moments = moments_of (pts_of us) in
     length-map (in_order moments) (λ (m : ℕ). (m - shift_of moments) % 2 ^ 33) ∙ length_order moments ∙ length_moments (2 ^ 100) (pts_of us) ∙ length-map us (λ (u : CarriedUnit). u.unit.pts)
 
-restamped_bytes : (dts : List ℕ) (us : List CarriedUnit) → length dts ≡ length us → map (λ (u : CarriedUnit). u.unit.bytes) (with_dts dts us) ≡ map (λ (u : CarriedUnit). u.unit.bytes) us
+restamped_contents : (dts : List ℕ) (us : List CarriedUnit) → length dts ≡ length us → contents (with_dts dts us) ≡ contents us
 unfolding with_dts
-restamped_bytes [] [] same = refl
-restamped_bytes [] (u ∷ us) same = absurd cc
-restamped_bytes (d ∷ dts) [] same = absurd cc
-restamped_bytes (d ∷ dts) (u ∷ us) same = ap (λ (l : List (List ℕ)). u.unit.bytes ∷ l) (restamped_bytes dts us (let less : length dts ≡ length us = omega (arith, same) in less))
+restamped_contents [] [] same = refl
+restamped_contents [] (u ∷ us) same = absurd cc
+restamped_contents (d ∷ dts) [] same = absurd cc
+restamped_contents (d ∷ dts) (u ∷ us) same = ap (λ (l : List (Marks × List ℕ)). content u ∷ l) (restamped_contents dts us (let less : length dts ≡ length us = omega (arith, same) in less))
 
-pub made_bytes : (us : List CarriedUnit) → map (λ (u : CarriedUnit). u.unit.bytes) (made_units us) ≡ map (λ (u : CarriedUnit). u.unit.bytes) us
-made_bytes us = restamped_bytes (made_dts (pts_of us)) us (length_made us)
+pub made_contents : (us : List CarriedUnit) → contents (made_units us) ≡ contents us
+made_contents us = restamped_contents (made_dts (pts_of us)) us (length_made us)

@@ -7,6 +7,7 @@ use Rattle.std.proofs.lemmas.List.Elements.{All-nil, All-cons, All-head, All-tai
 use Rattle.clock27.specs.Release.{release}
 use Rattle.own_slots.specs.Slots.{own_before}
 use Rattle.pes_packet.specs.AccessUnits.{AccessUnit}
+use Rattle.pes_packet.specs.Marks.{marks_size}
 use Rattle.unit_timing.specs.declared.allowance.Allowance.{Allowance}
 use Rattle.unit_timing.specs.declared.allowance.Allowance.TheVariants.{Groups, Pace}
 use Rattle.unit_timing.specs.PesPacket.{PesPacket, Spaced, Sized, next_due}
@@ -31,7 +32,7 @@ unfolding own_cause
 own_none r earliest u unit due =
     rw (
       not_none (length u.bytes) unit.some,
-      le-ltb r.size (length u.bytes) unit.most,
+      le-ltb r.size (length u.bytes + marks_size u.marks) unit.most,
       le-ltb u.dts earliest due,
       le-ltb u.pts u.dts unit.later,
       le-ltb (u.dts + 90_000) u.pts unit.soon,

@@ -20,12 +20,13 @@ shows_pts base dts w = omega arith
 
 pub moved_by_one : MovedByOneConstant
 unfolding moved unit_at
-moved_by_one base before [] = (refl, refl, refl)
+moved_by_one base before [] = (refl, refl, refl, refl)
 moved_by_one base before (u ∷ us) =
     let rest = moved_by_one base (Some (dts_at base before u.dts)) us in (
       rw (shows_dts base before u.dts, rest.0) refl,
       rw (shows_pts base (dts_at base before u.dts) u.pts, rest.1) refl,
       rw rest.2 refl,
+      rw rest.3 refl,
     )
 
 between : (e from least w : ℕ) → e < 2 ^ 33 → least ≤ distance from w → distance from w - least + e < 2 ^ 33 →

@@ -3,6 +3,8 @@ use Rattle.std.proofs.Common.{◌≡◌, ◌<◌, ◌∙◌, ◌++◌, ◌==◌,
 use Rattle.std.proofs.Math.Seq.{drop-cons}
 use Rattle.std.proofs.lemmas.List.{map-set, set_split, take-append-drop, length-map, get_or-map}
 use Rattle.std.proofs.lemmas.List.Elements.{filter-append}
+use Rattle.pes_packet.specs.HeaderMarks.{header_marks}
+use Rattle.pes_packet.specs.declared.marks.Marks.{Marks}
 use Rattle.pes_packet.specs.declared.time_stamps.Stamps.{Stamps}
 use Rattle.pes_packet.specs.declared.time_stamps.Stamps.TheVariants.{Absent, Pts, PtsDts}
 use Rattle.demux.specs.Laws.{has_pid, found_of}
@@ -14,7 +16,7 @@ use Rattle.stream_units.proofs.CarriedUnits.{same_units}
 -- 1. The body of a PES packet with which a unit starts
 
 with_body : CarriedUnit → List ℕ → CarriedUnit
-with_body u bytes = unit_with u.packet u.stream_id u.unit.dts u.unit.pts bytes
+with_body u bytes = unit_with u.packet u.stream_id u.unit.dts u.unit.pts u.unit.marks bytes
 
 -- a role with that body, if it is a start
 in_role : RoleView → List ℕ → RoleView
@@ -26,11 +28,11 @@ unfolding in_role
 absent true id body = refl
 absent false id body = refl
 
-in_pes : (packet id : ℕ) (stamps : Stamps) (body : List ℕ) → in_role (pes_role packet id stamps body) body ≡ pes_role packet id stamps body
+in_pes : (packet id : ℕ) (marks : Marks) (stamps : Stamps) (body : List ℕ) → in_role (pes_role packet id marks stamps body) body ≡ pes_role packet id marks stamps body
 unfolding in_role pes_role with_body
-in_pes packet id Absent body = absent (id == 0xBE) id body
-in_pes packet id (Pts pts) body = refl
-in_pes packet id (PtsDts pts dts) body = refl
+in_pes packet id marks Absent body = absent (id == 0xBE) id body
+in_pes packet id marks (Pts pts) body = refl
+in_pes packet id marks (PtsDts pts dts) body = refl
 
 in_what : (packet : ℕ) (unstamped : Bool) (what : WhatView) → in_role (role_of_what packet unstamped what) (body_of what) ≡ role_of_what packet unstamped what
 unfolding in_role role_of_what body_of
@@ -40,7 +42,7 @@ in_what packet unstamped IsScrambled = refl
 in_what packet unstamped (IsTruncated bytes) = refl
 in_what packet unstamped (IsSection bytes) = refl
 in_what packet unstamped (IsBadSection error) = refl
-in_what packet unstamped (IsPes header unended body) = in_pes packet header.id header.stamps body
+in_what packet unstamped (IsPes header unended body) = in_pes packet header.id (header_marks header) header.stamps body
 in_what packet unstamped (IsBadPes error) = refl
 in_what packet unstamped (IsBadPacket error) = refl
 in_what packet unstamped IsErrored = refl
@@ -55,10 +57,10 @@ unfolding role_of
 in_finding pid f = in_own (has_pid pid f.pid) (role_of_what (first_packet f.packet f.begun) (is_unstamped f.begun) f.what) (body_of f.what)
     (in_what (first_packet f.packet f.begun) (is_unstamped f.begun) f.what)
 
-pub start_body : (pid : ℕ) (f : FindingView) (packet id dts pts : ℕ) (bytes : List ℕ) → Start (unit_with packet id dts pts bytes) ≡ role_of pid f →
-    role_of pid f ≡ Start (unit_with packet id dts pts (body_of f.what))
+pub start_body : (pid : ℕ) (f : FindingView) (packet id dts pts : ℕ) (marks : Marks) (bytes : List ℕ) → Start (unit_with packet id dts pts marks bytes) ≡ role_of pid f →
+    role_of pid f ≡ Start (unit_with packet id dts pts marks (body_of f.what))
 unfolding in_role with_body
-start_body pid f packet id dts pts bytes is =
+start_body pid f packet id dts pts marks bytes is =
     sym (in_finding pid f) ∙ ap (λ (r : RoleView). in_role r (body_of f.what)) (sym is)
 
 -- 2. What is found of other PIDs

@@ -1,19 +1,20 @@
 -- Counting over units from their front.
-use Rattle.std.proofs.Common.{◌≡◌, ◌≤◌, ◌<◌, ℕ, ◌+◌, ◌*◌, ◌==◌, ◌-◌, min, max, List, [], ◌∷◌, length, drop, get_or, refl, sym, arith, add-one, inl, inr}
+use Rattle.std.proofs.Common.{◌≡◌, ◌≤◌, ◌<◌, ℕ, ◌+◌, ◌*◌, ◌==◌, ◌-◌, min, max, Bool, true, false, cond, List, [], ◌∷◌, length, drop, get_or, refl, sym, arith, add-one}
 use Rattle.std.specs.Int.{div_ceil}
 use Rattle.std.proofs.Math.Seq.{drop-cons}
-use Rattle.std.proofs.lemmas.Bool.{cases_Bool}
 use Rattle.std.proofs.lemmas.Grind.{div_ceil_times}
 use Rattle.std.proofs.lemmas.List.{drop_all, length-append}
 use Rattle.pes_packet.specs.AccessUnits.{AccessUnit}
 use Rattle.pes_packet.specs.Encoding.{pes_packet_bytes, pes_header_bytes, on_wire, header_size}
+use Rattle.pes_packet.specs.Marks.{marks_size}
+use Rattle.pes_packet.specs.declared.marks.Marks.{Marks}
 use Rattle.pes_packet.proofs.Written.{header_sizes}
 use Rattle.stream_units.specs.Stamps.{distance, min_distance}
 use Rattle.clock27.specs.Units.{slot_units_at_1bps}
 use Rattle.stream_units.specs.Declaration.{interval_after, min_interval, max_unit_size}
 
 pub size_more : (i : ℕ) (us : List AccessUnit) (u : AccessUnit) → i < length us → u ≡ get_or us i u →
-    max_unit_size (drop i us) ≡ max (length u.bytes) (max_unit_size (drop (i + 1) us))
+    max_unit_size (drop i us) ≡ max (length u.bytes + marks_size u.marks) (max_unit_size (drop (i + 1) us))
 unfolding max_unit_size
 size_more i us u below at = rw (drop-cons us i u below, add-one i, sym at) refl
 
@@ -53,15 +54,20 @@ pub least_some : (us rest : List AccessUnit) (u : AccessUnit) → us ≡ u ∷ r
 unfolding min_interval
 least_some us rest u is = rw is refl
 
-header_most : (pts dts : ℕ) → header_size pts dts ≤ 19
-header_most pts dts = elim (cases_Bool (on_wire pts == on_wire dts)) [ inl y ↦ rw y (omega arith) | inr n ↦ rw n (omega arith) ]
+header_by : (long same : Bool) → cond long 45 (cond same 14 19) ≤ 19 + cond long 26 0
+header_by true same = omega arith
+header_by false true = omega arith
+header_by false false = omega arith
 
--- a header has at most 19 bytes
-pub bytes_most : (id base0 size : ℕ) (u : AccessUnit) → length u.bytes ≤ size → length (pes_packet_bytes id base0 u) ≤ 19 + size
+header_most : (marks : Marks) (pts dts : ℕ) → header_size marks pts dts ≤ 19 + marks_size marks
+header_most marks pts dts = header_by marks.long (on_wire pts == on_wire dts)
+
+-- a header has at most 19 bytes, and what the marks take
+pub bytes_most : (id base0 size : ℕ) (u : AccessUnit) → length u.bytes + marks_size u.marks ≤ size → length (pes_packet_bytes id base0 u) ≤ 19 + size
 unfolding pes_packet_bytes
 bytes_most id base0 size u le =
-    let head = pes_header_bytes id (length u.bytes) (u.pts + base0) (u.dts + base0) in
-    omega (arith, le, length-append head u.bytes, header_sizes id (length u.bytes) (u.pts + base0) (u.dts + base0), header_most (u.pts + base0) (u.dts + base0))
+    let head = pes_header_bytes id (length u.bytes) u.marks (u.pts + base0) (u.dts + base0) in
+    omega (arith, le, length-append head u.bytes, header_sizes id (length u.bytes) u.marks (u.pts + base0) (u.dts + base0), header_most u.marks (u.pts + base0) (u.dts + base0))
 
 -- ---- levels
 

@@ -3,6 +3,7 @@ use Rattle.std.proofs.Common.{◌≡◌, ◌≤◌, ◌<◌, ◌∙◌, ℕ, ◌
 use Rattle.std.proofs.Math.Seq.{drop-cons}
 use Rattle.std.proofs.lemmas.List.{append_assoc, append-nil, drop_all}
 use Rattle.pes_packet.specs.AccessUnits.{AccessUnit}
+use Rattle.pes_packet.specs.declared.marks.Marks.{Marks}
 use Rattle.stream_units.specs.CarriedUnits.{CarriedUnit}
 use Rattle.stream_units.specs.Stamps.{dts_at, unit_at, moved, unit_fault, fault_or, first_fault}
 use Rattle.stream_units.specs.UnitMoments as at
@@ -77,21 +78,31 @@ at_end (m ∷ ms) us none = rw none refl
 pub at_done : (all out rest : List AccessUnit) → all ≡ out ++ rest → rest ≡ [] → out ≡ all
 at_done all out rest is none = sym (is ∙ ap (λ (l : List AccessUnit). out ++ l) none ∙ append-nil out)
 
--- 3. The bytes are those of the units
+-- 3. The marks and the bytes are those of the units
 
-abbrev bytes : List CarriedUnit → List (List ℕ)
-bytes us = map (λ u. u.unit.bytes) us
+abbrev pub content : CarriedUnit → Marks × List ℕ
+content u = (u.unit.marks, u.unit.bytes)
 
-head_same : (a b : List ℕ) (more others : List (List ℕ)) → (let l : List (List ℕ) = a ∷ more in l) ≡ b ∷ others → (a ≡ b) × (more ≡ others)
+abbrev pub contents : List CarriedUnit → List (Marks × List ℕ)
+contents us = map content us
+
+head_same : (a b : Marks × List ℕ) (more others : List (Marks × List ℕ)) → (let l : List (Marks × List ℕ) = a ∷ more in l) ≡ b ∷ others → (a ≡ b) × (more ≡ others)
 head_same a b more others is = (cc, cc)
 
--- units at the moments of others with the same bytes are those
-pub at_own : (base : ℕ) (before : Option ℕ) (us vs : List CarriedUnit) → map (λ (u : CarriedUnit). u.unit.bytes) us ≡ map (λ (u : CarriedUnit). u.unit.bytes) vs →
+-- a unit with the same marks and bytes, before the same units
+same_step : (dts pts : ℕ) (m n : Marks) (a b : List ℕ) (more others : List AccessUnit) → m ≡ n → a ≡ b → more ≡ others →
+    ◌≡◌ {A = List AccessUnit} (record { dts = dts; pts = pts; marks = n; bytes = b } ∷ more) (record { dts = dts; pts = pts; marks = m; bytes = a } ∷ others)
+same_step dts pts m n a b more others em ea is = rw (em, ea, is) refl
+
+-- units at the moments of others with the same marks and bytes are those
+pub at_own : (base : ℕ) (before : Option ℕ) (us vs : List CarriedUnit) → contents us ≡ contents vs →
     units_at (map moment_of (moved base before (wire us))) vs ≡ moved base before (wire us)
 unfolding units_at moved unit_at
 at_own base before [] [] same = refl
 at_own base before [] (v ∷ vs) same = absurd cc
 at_own base before (u ∷ us) [] same = absurd cc
 at_own base before (u ∷ us) (v ∷ vs) same =
-    let two = head_same u.unit.bytes v.unit.bytes (bytes us) (bytes vs) same in
-    rw (sym two.0, at_own base (Some (dts_at base before u.unit.dts)) us vs two.1) refl
+    let two = head_same (content u) (content v) (contents us) (contents vs) same in
+    let marks : u.unit.marks ≡ v.unit.marks = ap (λ (c : Marks × List ℕ). c.0) two.0 in
+    let bytes : u.unit.bytes ≡ v.unit.bytes = ap (λ (c : Marks × List ℕ). c.1) two.0 in
+    same_step _ _ u.unit.marks v.unit.marks u.unit.bytes v.unit.bytes _ _ marks bytes (at_own base (Some (dts_at base before u.unit.dts)) us vs two.1)

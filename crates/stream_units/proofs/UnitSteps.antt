@@ -36,10 +36,10 @@ units_past split pid (Some u) b fs = whole_unit (split && unwrap_or (end_of u.st
     (with_more u (continued_by (more_bytes u.stream_id b) (continuation u.stream_id pid fs))) (units_from split pid b fs (units_in split pid fs))
 
 same_unit : (u : CarriedUnit) → with_more u [] ≡ u
-same_unit u = ap (λ (bs : List ℕ). unit_with u.packet u.stream_id u.unit.dts u.unit.pts bs) (append-nil u.unit.bytes)
+same_unit u = ap (λ (bs : List ℕ). unit_with u.packet u.stream_id u.unit.dts u.unit.pts u.unit.marks bs) (append-nil u.unit.bytes)
 
 longer_unit : (u : CarriedUnit) (body more : List ℕ) → with_more u (body ++ more) ≡ with_more (with_more u body) more
-longer_unit u body more = ap (λ (bs : List ℕ). unit_with u.packet u.stream_id u.unit.dts u.unit.pts bs) (sym (append_assoc u.unit.bytes body more))
+longer_unit u body more = ap (λ (bs : List ℕ). unit_with u.packet u.stream_id u.unit.dts u.unit.pts u.unit.marks bs) (sym (append_assoc u.unit.bytes body more))
 
 if_empty : (b : Bool) (u : CarriedUnit) (later : List CarriedUnit) → (if b then later else u ∷ later) ≡ option_to_list (if b then None else Some u) ++ later
 if_empty true u later = refl

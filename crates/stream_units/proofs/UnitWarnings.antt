@@ -2,6 +2,8 @@
 use Rattle.std.proofs.Common.{◌≡◌, ◌≤◌, ◌<◌, ℕ, suc, ◌+◌, ◌++◌, ◌==◌, ◌&&◌, Bool, true, false, ◌||◌, Option, None, List, [], ◌∷◌, length, map, drop, get_or, refl, sym, arith, add-one}
 use Rattle.std.proofs.Math.Seq.{drop-cons}
 use Rattle.std.proofs.lemmas.List.{append_assoc, drop_all, length-append}
+use Rattle.pes_packet.specs.HeaderMarks.{header_marks}
+use Rattle.pes_packet.specs.declared.marks.Marks.{Marks}
 use Rattle.pes_packet.specs.declared.time_stamps.Stamps.{Stamps}
 use Rattle.pes_packet.specs.declared.time_stamps.Stamps.TheVariants.{Absent, Pts, PtsDts}
 use Rattle.demux.specs.Laws.{has_pid}
@@ -71,13 +73,13 @@ pub none_before : {X : Type 0} (view : X → FindingView) (pid : ℕ) (fs : List
 none_before view pid fs = cut_start view pid fs None refl
 
 -- where no unit is cut, it is all the same whether units have several PES packets
-by_stamps : (a b : Bool) (pid : ℕ) (current : Option ℕ) (alone unended : Bool) (id first : ℕ) (stamps : Stamps) (body : List ℕ) (fs : List FindingView) →
-    is_start_cut pid (pes_role first id stamps body) fs ≡ false →
+by_stamps : (a b : Bool) (pid : ℕ) (current : Option ℕ) (alone unended : Bool) (id first : ℕ) (marks : Marks) (stamps : Stamps) (body : List ℕ) (fs : List FindingView) →
+    is_start_cut pid (pes_role first id marks stamps body) fs ≡ false →
     pes_cause current (a && is_cut id pid fs) alone unended id stamps (length body) ≡ pes_cause current (b && is_cut id pid fs) alone unended id stamps (length body)
 unfolding pes_cause pes_role is_start_cut
-by_stamps a b pid current alone unended id first Absent body fs whole = refl
-by_stamps a b pid current alone unended id first (Pts pts) body fs whole = rw (whole, and_false a, and_false b) refl
-by_stamps a b pid current alone unended id first (PtsDts pts dts) body fs whole = rw (whole, and_false a, and_false b) refl
+by_stamps a b pid current alone unended id first marks Absent body fs whole = refl
+by_stamps a b pid current alone unended id first marks (Pts pts) body fs whole = rw (whole, and_false a, and_false b) refl
+by_stamps a b pid current alone unended id first marks (PtsDts pts dts) body fs whole = rw (whole, and_false a, and_false b) refl
 
 by_what : (a b : Bool) (pid count packet : ℕ) (current : Option ℕ) (alone : Bool) (first : ℕ) (unstamped : Bool) (what : WhatView) (fs : List FindingView) →
     is_start_cut pid (role_of_what first unstamped what) fs ≡ false →
@@ -93,7 +95,7 @@ by_what a b pid count packet current alone first unstamped (IsBadPes error) fs w
 by_what a b pid count packet current alone first unstamped (IsBadPacket error) fs whole = refl
 by_what a b pid count packet current alone first unstamped IsErrored fs whole = refl
 by_what a b pid count packet current alone first unstamped (IsPes header unended body) fs whole =
-    by_stamps a b pid current alone unended header.id first header.stamps body fs whole
+    by_stamps a b pid current alone unended header.id first (header_marks header) header.stamps body fs whole
 
 same_cause : (a b : Bool) (pid count : ℕ) (current : Option ℕ) (f : FindingView) (fs : List FindingView) (own : Bool) → has_pid pid f.pid ≡ own →
     is_start_cut pid (role_of pid f) fs ≡ false → cause_of a pid count current f fs ≡ cause_of b pid count current f fs

@@ -3,6 +3,8 @@ use Rattle.std.specs.Prelude.{ℕ, ◌==◌, ◌&&◌, not, Bool, true, false, i
 use Rattle.std.specs.List.{list_any}
 use Rattle.std.specs.Option.{option_or}
 use Rattle.pes_packet.specs.AccessUnits.{AccessUnit}
+use Rattle.pes_packet.specs.HeaderMarks.{header_marks}
+use Rattle.pes_packet.specs.declared.marks.Marks.{Marks}
 use Rattle.pes_packet.specs.declared.time_stamps.Stamps.{Stamps}
 use Rattle.pes_packet.specs.declared.time_stamps.Stamps.TheVariants.{Absent, Pts, PtsDts}
 use Rattle.demux.specs.declared.finding.Kind.{Kind}
@@ -11,7 +13,7 @@ use Rattle.demux.specs.Views.{WhatView, IsDuplicate, IsTruncated, IsPes, IsBadPa
 use Rattle.demux.specs.Laws.{has_pid}
 
 -- a unit as a stream carries it: the packet in which its PES packet begins, its stream_id, and its bytes with the stamps on
--- the wire
+-- the wire and what its first PES packet says beside them
 pub record CarriedUnit : Type 0 where
   pub packet : ℕ
   pub stream_id : ℕ
@@ -29,14 +31,18 @@ pub data RoleView : Type 0 where
   Interruption : Bool → RoleView
 
 -- a unit is decoded when it is presented where it has no DTS (ISO/IEC 13818-1, 2.4.3.7)
-abbrev pub unit_with : ℕ → ℕ → ℕ → ℕ → List ℕ → CarriedUnit
-unit_with packet stream_id dts pts bytes = record { packet = packet; stream_id = stream_id; unit = record { dts = dts; pts = pts; bytes = bytes } }
+abbrev pub unit_with : ℕ → ℕ → ℕ → ℕ → Marks → List ℕ → CarriedUnit
+unit_with packet stream_id dts pts marks bytes = record {
+  packet = packet;
+  stream_id = stream_id;
+  unit = record { dts = dts; pts = pts; marks = marks; bytes = bytes };
+}
 
 -- the bytes of padding_stream, 0xBE, are thrown away (ISO/IEC 13818-1, 2.4.3.7)
-unfoldable pub pes_role : ℕ → ℕ → Stamps → List ℕ → RoleView
-pes_role packet stream_id Absent body = if stream_id == 0xBE then Ignored else Continuation stream_id body
-pes_role packet stream_id (Pts pts) body = Start (unit_with packet stream_id pts pts body)
-pes_role packet stream_id (PtsDts pts dts) body = Start (unit_with packet stream_id dts pts body)
+unfoldable pub pes_role : ℕ → ℕ → Marks → Stamps → List ℕ → RoleView
+pes_role packet stream_id marks Absent body = if stream_id == 0xBE then Ignored else Continuation stream_id body
+pes_role packet stream_id marks (Pts pts) body = Start (unit_with packet stream_id pts pts marks body)
+pes_role packet stream_id marks (PtsDts pts dts) body = Start (unit_with packet stream_id dts pts marks body)
 
 -- what begins is a PES packet of which no PTS was read
 unfoldable pub is_unstamped : Option (ℕ × Kind) → Bool
@@ -48,7 +54,7 @@ unfoldable pub role_of_what : ℕ → Bool → WhatView → RoleView
 role_of_what packet unstamped IsDuplicate = Ignored
 role_of_what packet unstamped (IsBadPacket error) = Ignored
 role_of_what packet unstamped IsErrored = Ignored
-role_of_what packet unstamped (IsPes header unended body) = pes_role packet header.id header.stamps body
+role_of_what packet unstamped (IsPes header unended body) = pes_role packet header.id (header_marks header) header.stamps body
 role_of_what packet unstamped (IsTruncated bytes) = Interruption unstamped
 role_of_what packet unstamped _ = Interruption false
 
@@ -116,7 +122,7 @@ is_split pid findings = list_any (λ finding. is_part (first_id pid findings) (r
 -- 3. Units
 
 abbrev pub with_more : CarriedUnit → List ℕ → CarriedUnit
-with_more u more = unit_with u.packet u.stream_id u.unit.dts u.unit.pts (u.unit.bytes ++ more)
+with_more u more = unit_with u.packet u.stream_id u.unit.dts u.unit.pts u.unit.marks (u.unit.bytes ++ more)
 
 -- a unit that has bytes, and of which no part is lost
 abbrev pub whole_unit : Bool → CarriedUnit → List CarriedUnit → List CarriedUnit

@@ -4,6 +4,7 @@ use Rattle.std.specs.Int.{div_ceil}
 use Rattle.clock27.specs.Units.{slot_units_at_1bps}
 use Rattle.pes_packet.specs.AccessUnits.{AccessUnit}
 use Rattle.pes_packet.specs.Encoding.{pes_packet_bytes}
+use Rattle.pes_packet.specs.Marks.{marks_size}
 use Rattle.unit_timing.specs.declared.allowance.Allowance.{Allowance}
 use Rattle.unit_timing.specs.declared.allowance.Allowance.TheVariants.{Groups, Pace}
 use Rattle.unit_timing.specs.PesPacket.{PesPacket, packets_of_unit, packets_of_units}
@@ -18,12 +19,12 @@ unfoldable pub min_interval : List AccessUnit → ℕ
 min_interval [] = 90_000
 min_interval (u ∷ us) = interval_after u.dts us
 
--- the size of the largest unit, in bytes
+-- the size of the largest unit in bytes, with what its marks take
 unfoldable pub max_unit_size : List AccessUnit → ℕ
 max_unit_size [] = 0
-max_unit_size (u ∷ us) = max (length u.bytes) (max_unit_size us)
+max_unit_size (u ∷ us) = max (length u.bytes + marks_size u.marks) (max_unit_size us)
 
--- the packets of one unit of `size` bytes, whose header has at most 19 bytes
+-- the packets of one unit of `size` bytes, whose header has at most 19 bytes and what its marks take
 abbrev pub max_unit_packets : ℕ → ℕ
 max_unit_packets size = (19 + size + 183) / 184
 

@@ -49,6 +49,7 @@ abbrev pub MovedByOneConstant : Type 0
 MovedByOneConstant = (base : ℕ) (before : Option ℕ) (us : List AccessUnit) →
     (map (λ u. on_wire (u.dts + base)) (moved base before us) ≡ map (λ u. on_wire u.dts) us)
     × (map (λ u. on_wire (u.pts + base)) (moved base before us) ≡ map (λ u. on_wire u.pts) us)
+    × (map (λ u. u.marks) (moved base before us) ≡ map (λ u. u.marks) us)
     × (map (λ u. u.bytes) (moved base before us) ≡ map (λ u. u.bytes) us)
 
 -- the first DTS of the streams on a clock, counted from half the range before the first stream's

@@ -80,7 +80,7 @@ abbrev pub pts_of : List CarriedUnit → List ℕ
 pts_of us = map (λ u. u.unit.pts) us
 
 unfoldable pub with_dts : List ℕ → List CarriedUnit → List CarriedUnit
-with_dts (d ∷ ds) (u ∷ us) = unit_with u.packet u.stream_id d u.unit.pts u.unit.bytes ∷ with_dts ds us
+with_dts (d ∷ ds) (u ∷ us) = unit_with u.packet u.stream_id d u.unit.pts u.unit.marks u.unit.bytes ∷ with_dts ds us
 with_dts _ _ = []
 
 abbrev pub made_units : List CarriedUnit → List CarriedUnit

@@ -7,7 +7,7 @@ use Rattle.stream_units.specs.declared.pes_role.PesRole.TheVariants as roles
 
 -- the first PES packet of a unit
 abbrev pub start_view : UnitStart → CarriedUnit
-start_view b = unit_with b.packet b.stream_id b.dts b.pts b.body.now
+start_view b = unit_with b.packet b.stream_id b.dts b.pts b.marks b.body.now
 
 abbrev pub role_view : PesRole → RoleView
 role_view roles.Ignored = Ignored

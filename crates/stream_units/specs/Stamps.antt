@@ -21,7 +21,7 @@ pts_at base dts stamp = dts + distance (dts + base) stamp
 
 -- a unit with its stamps as moments
 unfoldable pub unit_at : ℕ → Option ℕ → AccessUnit → AccessUnit
-unit_at base before u = record { dts = dts_at base before u.dts; pts = pts_at base (dts_at base before u.dts) u.pts; bytes = u.bytes }
+unit_at base before u = record { dts = dts_at base before u.dts; pts = pts_at base (dts_at base before u.dts) u.pts; marks = u.marks; bytes = u.bytes }
 
 -- units one after another, the first after a DTS or after none
 unfoldable pub moved : ℕ → Option ℕ → List AccessUnit → List AccessUnit

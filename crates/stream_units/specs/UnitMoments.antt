@@ -15,7 +15,7 @@ moment_of u = record { dts = u.dts; pts = u.pts }
 
 -- a unit at moments
 abbrev pub unit_at : UnitMoment → CarriedUnit → AccessUnit
-unit_at m u = record { dts = m.dts; pts = m.pts; bytes = u.unit.bytes }
+unit_at m u = record { dts = m.dts; pts = m.pts; marks = u.unit.marks; bytes = u.unit.bytes }
 
 -- units at moments, one after another
 unfoldable pub units_at : List UnitMoment → List CarriedUnit → List AccessUnit

@@ -1,4 +1,4 @@
-//! Copies of the units of a PID in what is found of a stream.
+//! Copies of the units of a PID in the findings of a stream.
 
 ghost use Rattle.std.specs.Prelude.{◌≡◌, IfOk, map};
 ghost use Rattle.demux.specs.Shown.{finding_view};
@@ -23,6 +23,7 @@ fn copied<A: Allocator>(
         stream_id: unit.stream_id,
         dts: unit.dts,
         pts: unit.pts,
+        marks: unit.marks,
         bytes,
     })
 }

@@ -104,7 +104,7 @@ impl<A: Allocator> CountedPackets<A> {
         })
     }
 
-    /// The most packets of `group` units in a row, or of all if they are fewer; at least as many as a unit of the largest
+    /// Returns the most packets of `group` units in a row, or of all if they are fewer; at least as many as a unit of the largest
     /// size has, whatever its header.
     pub fn of_group(&self, group: u8) -> u64
         requires { group ≤ 64 }

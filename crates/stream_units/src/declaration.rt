@@ -8,7 +8,7 @@ use crate::unit::{dts_of, size_of};
 use pes_packet::{Unit, packet_size};
 use std::alloc::Allocator;
 
-/// The least time from one DTS to the next, in units of 90 kHz: at most 90,000, and 90,000 for a single unit.
+/// Returns the least time from one DTS to the next, in units of 90 kHz: at most 90,000, and 90,000 for a single unit.
 pub fn min_interval<A: Allocator>(units: &[Unit<A>]) -> u32
     ensures value { result ≡ spec.min_interval units.now }
     ensures bound { result ≤ 90000 }
@@ -45,10 +45,10 @@ fn shorter(least: u32, time: u64) -> u32
     }
 }
 
-/// The size of the largest unit, in bytes.
+/// Returns the size of the largest unit in bytes, with what its marks take.
 pub fn max_unit_size<A: Allocator>(units: &[Unit<A>]) -> usize
     ensures value { result ≡ spec.max_unit_size units.now }
-    ensures bound { result < 2 ^ 63 }
+    ensures bound { result < 2 ^ 63 + 26 }
 {
     let mut greatest = 0;
     for unit in units {
@@ -57,7 +57,7 @@ pub fn max_unit_size<A: Allocator>(units: &[Unit<A>]) -> usize
     greatest
 }
 
-/// The packets of a unit, whatever its stream_id.
+/// Returns the packets of a unit, whatever its stream_id.
 pub(crate) fn unit_packets<A: Allocator>(base0: u64, unit: &Unit<A>) -> u64
     ensures value { (id : ℕ) → result ≡ (length (pes_packet_bytes id base0 unit.now) + 183) / 184 }
     ensures bound { result ≤ 2 ^ 56 }
@@ -65,9 +65,9 @@ pub(crate) fn unit_packets<A: Allocator>(base0: u64, unit: &Unit<A>) -> u64
     (packet_size(base0, unit) + 183) / 184
 }
 
-/// The packets of a unit of `size` bytes with the longest header.
+/// Returns the packets of a unit of `size` bytes with the longest header.
 pub(crate) fn max_unit_packets(size: usize) -> u64
-    requires { size < 2 ^ 63 }
+    requires { size < 2 ^ 63 + 26 }
     ensures { result ≡ spec.max_unit_packets size }
 {
     (19 + size as u64 + 183) / 184

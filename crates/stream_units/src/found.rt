@@ -1,4 +1,4 @@
-//! The units of a PID in what is found of a stream.
+//! The units of a PID in the findings of a stream.
 
 ghost use Rattle.std.specs.Prelude.{◌≡◌, IfOk, map};
 ghost use Rattle.demux.specs.Shown.{finding_view};
@@ -39,9 +39,9 @@ fn units_by<'f, A: Allocator + Clone>(
     Ok((units, cut))
 }
 
-/// The units of a PID in the findings of a stream: each PES packet with a PTS is one, with the bytes of those without a
-/// PTS and with its stream_id that follow it, if nothing but padding_stream is found on the PID in between. A unit of
-/// which a part is lost is left out, and one without bytes.
+/// Returns the units of a PID in the findings of a stream: each PES packet with a PTS is a unit, with the bytes of the PES
+/// packets without a PTS and with its stream_id that follow it, if the PID has only padding_stream in between. A unit that
+/// lost a part is left out, and so is a unit without bytes.
 #[tactic(auto, using(crate::proofs::UnitSteps::uncut))]
 pub fn found_units<'f, A: Allocator + Clone>(
     alloc: A,

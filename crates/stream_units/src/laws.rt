@@ -4,48 +4,47 @@ ghost use Rattle.stream_units.specs.Laws.{ConstantIsLeast, FindingsOfThePid, Mov
 ghost use Rattle.stream_units.specs.Laws.{NothingIsLost, TakenOneByOne, UnitsAreKept};
 ghost use Rattle.stream_units.specs.UnitSteps.{GivenAreCarried, GivenInTurn, UncutAreCarried};
 
-/// The units of a PID are a function of what is found of that PID.
+/// States that the units of a PID are a function of that PID's findings.
 pub fn findings_of_the_pid()
     ensures { FindingsOfThePid }
 {}
 
-/// The units that a PID's findings make whole one by one, and the last one, are its units; what later findings give
-/// changes none that was given before; and where nothing is lost after a unit, the same units are given whether units
-/// are taken to have several PES packets or one.
+/// States that the units that a PID's findings make whole one by one, and the last one, are its units; what later findings give
+/// changes none that was given before; and where nothing is lost after a unit, the same units are given whether units are taken
+/// to have several PES packets or one.
 pub fn given_as_carried()
     ensures in_turn { GivenInTurn }
     ensures carried { GivenAreCarried }
     ensures uncut { UncutAreCarried }
 {}
 
-/// Where no warning about a PID leaves out anything, the bytes of its PES packets, joined, are those of its units, joined.
+/// States that the bytes of a PID's PES packets, joined, are the bytes of its units, joined, if no warning leaves anything out.
 pub fn nothing_is_lost()
     ensures { NothingIsLost }
 {}
 
-/// The moments of a stream's units are their stamps less one constant: plus that, modulo 2^33, they are the
-/// stamps.
+/// States that the moments of a stream's units are their stamps less one constant: plus that, modulo 2^33, they are the stamps.
 pub fn moved_by_one_constant()
     ensures { MovedByOneConstant }
 {}
 
-/// Units that are moved as they come have the moments that they have in the whole stream.
+/// States that units that are moved as they come have the moments that they have in the whole stream.
 pub fn moved_in_turn()
     ensures { MovedInTurn }
 {}
 
-/// With the constant of a clock the least first DTS of its streams is at the moment that was asked for, and each
+/// States that, with the constant of a clock, the least first DTS of its streams is at the moment that was asked for, and each
 /// other one is as long after it as on the wire.
 pub fn constant_is_least()
     ensures { ConstantIsLeast }
 {}
 
-/// Units whose stamps can be moments keep what is declared of them.
+/// States that units whose stamps can be moments keep their declaration.
 pub fn units_are_kept()
     ensures { UnitsAreKept }
 {}
 
-/// A queue refuses none of them, in their order, before its first slot.
+/// States that a queue refuses none of them, in their order, before its first slot.
 pub fn taken_one_by_one()
     ensures { TakenOneByOne }
 {}

@@ -4,7 +4,7 @@
 //! the findings (`specs/TakenUnits`); their stamps of 33 bits become moments of
 //! a run by one constant for a clock (`specs/Stamps`); the least that a stream declares is counted from them
 //! (`specs/Declaration`). The laws say that the stamps on the wire are the moments with the constant modulo 2^33, and
-//! that the units keep what is declared, so that a queue accepts each.
+//! that the units keep their declaration, so that a queue accepts each.
 #![tactic(auto)]
 
 mod carried;

@@ -19,13 +19,15 @@ fn all_pts<A: Allocator>(alloc: A, found: &[FoundUnit<'_, A>]) -> Result<Vec<u64
 
 // A unit with another DTS.
 fn restamped<'f, A: Allocator>(dts: u64, unit: FoundUnit<'f, A>) -> FoundUnit<'f, A>
-    ensures { result ≡ unit_with unit.entry.packet unit.entry.stream_id dts unit.entry.unit.pts unit.entry.unit.bytes }
+    ensures { result ≡ unit_with unit.entry.packet unit.entry.stream_id dts unit.entry.unit.pts
+        unit.entry.unit.marks unit.entry.unit.bytes }
 {
     WireUnit {
         packet: unit.packet,
         stream_id: unit.stream_id,
         dts,
         pts: unit.pts,
+        marks: unit.marks,
         bytes: unit.bytes,
     }
 }
@@ -51,8 +53,8 @@ fn with_dts<'f, A: Allocator>(
     Ok(units)
 }
 
-/// The units of a stream with DTS that `made_dts` makes from their PTS, all else as it was. For streams without DTS
-/// whose pictures come in another order than they are shown, or whose DTS do not rise.
+/// Returns the units of a stream with DTS that `made_dts` makes from their PTS, all else unchanged. For streams without DTS
+/// whose pictures are in another order than they are shown, or whose DTS do not rise.
 pub fn units_with_made_dts<'f, A: Allocator + Clone>(
     alloc: A,
     found: Vec<FoundUnit<'f, A>, A>,

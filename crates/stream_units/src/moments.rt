@@ -26,7 +26,7 @@ fn nearest(moment: u128, stamp: u64) -> u128
     moment - HALF + u128::from(distance(shown, stamp))
 }
 
-/// The moments of stamps, each nearest to the one before.
+/// Returns the moments of stamps, each nearest to the one before.
 pub(crate) fn moments_of<A: Allocator>(alloc: A, stamps: &[u64]) -> Result<Vec<u128, A>, AllocError>
     ensures { IfOk result (λ moments. moments.items ≡ spec.moments_of stamps.now) }
 {
@@ -39,7 +39,7 @@ pub(crate) fn moments_of<A: Allocator>(alloc: A, stamps: &[u64]) -> Result<Vec<u
     Ok(moments)
 }
 
-/// The moments in order of time.
+/// Returns the moments in order of time.
 pub(crate) fn in_order<A: Allocator>(alloc: A, moments: &[u128]) -> Result<Vec<u128, A>, AllocError>
     ensures { IfOk result (λ order. order.items ≡ spec.in_order moments.now) }
 {

@@ -7,7 +7,7 @@ ghost use Rattle.stream_units.specs.CarriedUnits as spec;
 ghost use Rattle.stream_units.specs.Shown.{role_view};
 
 use demux::{Finding, Kind, What};
-use pes_packet::Stamps;
+use pes_packet::{Marks, Stamps};
 use std::alloc::Allocator;
 
 /// The first PES packet of a unit.
@@ -17,6 +17,7 @@ pub(crate) struct UnitStart<'f> {
     pub stream_id: u8,
     pub dts: u64,
     pub pts: u64,
+    pub marks: Marks,
     pub body: &'f [u8],
 }
 
@@ -36,10 +37,16 @@ pub(crate) enum PesRole<'f> {
 /// padding_stream (ISO/IEC 13818-1, table 2-22).
 pub(crate) const PADDING_STREAM: u8 = 0xbe;
 
-// The role of a PES packet with these stamps.
+// The role of a PES packet with these marks and stamps.
 #[tactic(auto, unfolding(crate::specs::CarriedUnits::pes_role))]
-fn pes_role<'f>(packet: u64, stream_id: u8, stamps: Stamps, body: &'f [u8]) -> PesRole<'f>
-    ensures { role_view result ≡ spec.pes_role packet stream_id stamps body.now }
+fn pes_role<'f>(
+    packet: u64,
+    stream_id: u8,
+    marks: Marks,
+    stamps: Stamps,
+    body: &'f [u8],
+) -> PesRole<'f>
+    ensures { role_view result ≡ spec.pes_role packet stream_id marks stamps body.now }
 {
     let (dts, pts) = match stamps {
         Stamps::Absent => {
@@ -56,11 +63,12 @@ fn pes_role<'f>(packet: u64, stream_id: u8, stamps: Stamps, body: &'f [u8]) -> P
         stream_id,
         dts,
         pts,
+        marks,
         body,
     })
 }
 
-/// The packet of the finding's first byte.
+/// Returns the packet of the finding's first byte.
 #[tactic(auto, unfolding(crate::specs::CarriedUnits::first_packet))]
 pub(crate) fn first_packet(packet: u64, begun: Option<(u64, Kind)>) -> u64
     ensures { result ≡ spec.first_packet packet begun }
@@ -82,7 +90,7 @@ fn is_unstamped(begun: Option<(u64, Kind)>) -> bool
     }
 }
 
-/// Whether it is a finding of a PID: one that is not is ignored among its units.
+/// Returns whether it is a finding of a PID: one that is not is ignored among its units.
 #[tactic(auto, unfolding(crate::specs::CarriedUnits::role_of))]
 pub(crate) fn is_on<A: Allocator>(pid: u16, finding: &Finding<'_, A>) -> bool
     ensures on { IsTrue result ↔ (finding.now.pid ≡ Some pid) }
@@ -92,7 +100,7 @@ pub(crate) fn is_on<A: Allocator>(pid: u16, finding: &Finding<'_, A>) -> bool
     finding.pid == Some(pid)
 }
 
-/// The role of a finding among the units of a PID.
+/// Returns the role of a finding among the units of a PID.
 #[tactic(auto, unfolding(crate::specs::CarriedUnits::role_of, crate::specs::CarriedUnits::role_of_what))]
 pub(crate) fn role_of<'f, A: Allocator>(pid: u16, finding: &'f Finding<'_, A>) -> PesRole<'f>
     ensures { role_view result ≡ spec.role_of pid (finding_view finding.now) }
@@ -107,6 +115,7 @@ pub(crate) fn role_of<'f, A: Allocator>(pid: u16, finding: &'f Finding<'_, A>) -
         What::Pes { header, body, .. } => pes_role(
             first_packet(finding.packet, finding.begun),
             header.id,
+            header.marks(),
             header.stamps,
             body.bytes(),
         ),

@@ -1,4 +1,4 @@
-//! Units of several PES packets.
+//! Units that span several PES packets.
 
 ghost use Rattle.std.specs.Prelude.{◌≡◌, ◌&&◌, ◌||◌, map, option_map};
 ghost use Rattle.demux.specs.Shown.{finding_view};
@@ -23,7 +23,7 @@ fn more_bytes<'f>(id: u8, role: PesRole<'f>) -> Option<&'f [u8]>
     }
 }
 
-/// The same of a finding that may be of another PID.
+/// Returns the same of a finding that may be of another PID.
 #[tactic(auto, unfolding(crate::specs::CarriedUnits::more_bytes))]
 pub(crate) fn more_bytes_on<'f, A: Allocator>(
     id: u8,
@@ -77,7 +77,8 @@ fn is_part(first: Option<u8>, role: PesRole<'_>) -> bool
     }
 }
 
-/// Whether units of a PID have several PES packets: then something that is lost after one may be a part of its unit.
+/// Returns whether units of a PID have several PES packets: then something that is lost after one may be a part of
+/// its unit.
 #[tactic(auto, unfolding(crate::specs::CarriedUnits::is_split, crate::specs::CarriedUnits::is_part))]
 pub(crate) fn is_split<A: Allocator>(pid: u16, findings: &[Finding<'_, A>]) -> bool
     ensures { result ≡ spec.is_split pid (map finding_view findings.now) }
@@ -141,7 +142,7 @@ fn is_cut<A: Allocator>(id: u8, pid: u16, later: &[Finding<'_, A>]) -> bool
     false
 }
 
-/// Whether a part of a unit of this stream_id may be lost after its first PES packet.
+/// Returns whether a part of a unit of this stream_id may be lost after its first PES packet.
 pub(crate) fn is_lost<A: Allocator>(split: bool, id: u8, pid: u16, later: &[Finding<'_, A>]) -> bool
     ensures { result ≡ (split && spec.is_cut id pid (map finding_view later.now)) }
 {

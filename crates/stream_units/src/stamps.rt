@@ -19,7 +19,7 @@ pub enum StampFault {
     DtsTooFar,
 }
 
-/// How long after a moment at which the clock shows one stamp it next shows another.
+/// Returns how long after a moment at which the clock shows one stamp it next shows another.
 #[tactic(auto, unfolding(crate::specs::Stamps::distance))]
 pub fn distance(from: u64, to: u64) -> u64
     ensures value { result ≡ spec.distance from to }
@@ -28,7 +28,7 @@ pub fn distance(from: u64, to: u64) -> u64
     (to % STAMP_MODULUS + STAMP_MODULUS - from % STAMP_MODULUS) % STAMP_MODULUS
 }
 
-/// The moment of a DTS after another one or after none.
+/// Returns the moment of a DTS after another one or after none.
 #[tactic(auto, unfolding(crate::specs::Stamps::dts_at))]
 pub fn dts_at(base: u64, before: Option<u64>, stamp: u64) -> u64
     requires base { base < 2 ^ 33 }
@@ -85,7 +85,7 @@ fn dts_too_far(dts: u64) -> Option<StampFault>
     }
 }
 
-/// What is wrong with the stamps of a unit after a DTS or after none.
+/// Returns what is wrong with the stamps of a unit after a DTS or after none.
 #[tactic(auto, unfolding(crate::specs::Stamps::or_fault))]
 pub(crate) fn unit_fault(base: u64, before: Option<u64>, dts: u64, pts: u64) -> Option<StampFault>
     requires base { base < 2 ^ 33 }
@@ -116,9 +116,9 @@ fn min_distance(from: u64, most: u64, stamps: &[u64]) -> u64
     least
 }
 
-/// What the clock shows at moment 0, given the first DTS of each stream that counts by it, if the least of them is to be
-/// at `earliest`. Of two stamps, which one is the earlier follows from the shorter way round the range; all are compared
-/// with `first`.
+/// Returns what the clock shows at moment 0, given the first DTS of each stream that counts by it, if the least of them
+/// is to be at `earliest`. Of two stamps, which one is the earlier follows from the shorter way round the range; all are
+/// compared with `first`.
 pub fn constant(earliest: u64, first: u64, others: &[u64]) -> u64
     requires { first < 2 ^ 33 }
     ensures value { result ≡ spec.constant_of earliest first others.now }

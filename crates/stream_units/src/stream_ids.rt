@@ -7,7 +7,7 @@ use crate::wire_unit::FoundUnit;
 use pes_packet::is_unit_id;
 use std::alloc::Allocator;
 
-/// The place of the first unit of another stream_id than this one.
+/// Returns the place of the first unit of another stream_id than this one.
 pub fn first_other<A: Allocator>(id: u8, units: &[FoundUnit<'_, A>]) -> Option<usize>
     ensures { result ≡ spec.first_other_at id 0 units.now }
 {
@@ -19,8 +19,8 @@ pub fn first_other<A: Allocator>(id: u8, units: &[FoundUnit<'_, A>]) -> Option<u
     None
 }
 
-/// The stream_id that is written for one on the wire: AC-3 that has 253, extended_stream_id, is written as
-/// private_stream_1; none for one that no unit may have.
+/// Returns the stream_id that is written for a stream_id of the input: AC-3 that has 253, extended_stream_id, is written
+/// as private_stream_1; `None` for a stream_id that no unit may have.
 #[tactic(auto, unfolding(crate::specs::StreamIds::written_id))]
 pub fn written_id(id: u8, is_ac3: bool) -> Option<u8>
     ensures { result ≡ spec.written_id id is_ac3 }

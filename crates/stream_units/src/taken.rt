@@ -1,4 +1,4 @@
-//! The units of a PID, moved out of what is found of a stream.
+//! The units of a PID, moved out of the findings of a stream.
 
 ghost use Rattle.std.specs.Prelude.{◌≡◌, ◌++◌, ◌∷◌, [], IfOk, OnOk, map};
 ghost use Rattle.std.specs.Option.{option_to_list};
@@ -52,8 +52,8 @@ fn take_next<A: Allocator + Clone>(
     push_unit(units, unit)
 }
 
-/// The units that `found_units` gives. The body of the first PES packet of each is moved out of its finding, which then
-/// is one of a packet that comes twice: no more units of this PID are found, and those of others as before.
+/// Returns the units that `found_units` gives. The body of the first PES packet of each is moved out of its finding, which
+/// then is the finding of a repeated packet: this PID has no more units, and the units of other PIDs are unchanged.
 pub fn taken_units<A: Allocator + Clone>(
     alloc: A,
     pid: u16,

@@ -9,7 +9,7 @@ use std::marker::Model;
 pub trait UnitBytes: Sized + Drop {
     ghost bytes: { Self → List ℕ };
 
-    /// Whether there are none.
+    /// Returns whether there are none.
     fn is_empty(&self) -> bool
         ensures { result ≡ (length (bytes self.now) == 0) };
 
@@ -45,7 +45,7 @@ impl<'f, A: Allocator> BodyBytes<'f, A> for Vec<u8, A> {
     }
 }
 
-/// Bytes of which those of the first PES packet stay in its finding.
+/// Bytes of a unit; the first PES packet's bytes stay in its finding.
 #[derive(Drop)]
 pub struct LentBytes<'f, A: Allocator = Global> {
     /// The body of the first PES packet.

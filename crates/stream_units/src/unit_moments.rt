@@ -48,7 +48,8 @@ fn moment(base: u64, before: Option<u64>, dts: u64, pts: u64) -> Result<UnitMome
     })
 }
 
-/// A unit at its moments, after a DTS or after none, where the clock shows `base` at moment 0; or why it can't have any.
+/// Returns a unit at its moments, after a DTS or after none, where the clock shows `base` at moment 0; or why it can't
+/// have any.
 #[tactic(auto, unfolding(crate::specs::Stamps::unit_at))]
 pub fn moved_unit<A: Allocator>(
     base: u64,
@@ -66,13 +67,15 @@ pub fn moved_unit<A: Allocator>(
         Ok(moment) => Ok(Unit {
             dts: moment.dts,
             pts: moment.pts,
+            marks: wire.marks,
             bytes: wire.bytes,
         }),
     }
 }
 
-/// The moments of units, where the clock shows `base` at moment 0: each DTS at the first moment after the DTS before at
-/// which the clock shows it, the first one at the first such moment of all, each PTS at the first from its DTS on.
+/// Returns the moments of units, where the clock shows `base` at moment 0: each DTS at the first moment after the DTS
+/// before at which the clock shows it, the first one at the first such moment of all, each PTS at the first from its DTS
+/// on.
 pub fn found_moments<A: Allocator>(
     alloc: A,
     base: u64,
@@ -108,11 +111,12 @@ fn unit_at<A: Allocator>(moment: UnitMoment, wire: WireUnit<Vec<u8, A>>) -> Unit
     Unit {
         dts: moment.dts,
         pts: moment.pts,
+        marks: wire.marks,
         bytes: wire.bytes,
     }
 }
 
-/// Units at these moments.
+/// Returns units at these moments.
 pub fn units_at<A: Allocator>(
     alloc: A,
     moments: &[UnitMoment],

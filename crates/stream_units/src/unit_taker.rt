@@ -12,12 +12,13 @@ use crate::pes_role::{PesRole, UnitStart, is_on, role_of};
 use crate::unit_bytes::{BodyBytes, UnitBytes};
 use crate::wire_unit::WireUnit;
 use demux::{Finding, Part, What};
+use pes_packet::Marks;
 use std::alloc::{AllocError, Allocator};
 use std::marker::Model;
 use std::mem;
 
-/// Takes what is found of a PID, finding by finding, and gives each unit as soon as it is whole. It holds the bytes of the
-/// one unit under way.
+/// Takes the findings of a PID one by one, and gives each unit as soon as it is whole. It holds the bytes of the
+/// current unit.
 #[derive(Drop)]
 pub struct UnitTaker<B: UnitBytes = Vec<u8>> {
     pid: u16,
@@ -47,6 +48,7 @@ fn started<'f, A, B: BodyBytes<'f, A>>(
         stream_id: first.stream_id,
         dts: first.dts,
         pts: first.pts,
+        marks: first.marks,
         bytes,
     })
 }
@@ -67,16 +69,22 @@ fn moved_body<A: Allocator>(alloc: A, what: What<'_, A>) -> Result<Vec<u8, A>, A
 
 // The first PES packet of a unit, if a finding is one: all but its body.
 #[tactic(auto, using(crate::proofs::TakenUnits::start_body))]
-fn start_in<A: Allocator>(pid: u16, finding: &Finding<'_, A>) -> Option<(u64, u8, u64, u64)>
+fn start_in<A: Allocator>(pid: u16, finding: &Finding<'_, A>) -> Option<(u64, u8, u64, u64, Marks)>
     ensures start { IfSome result (λ s. units.role_of pid (finding_view finding.now)
-        ≡ units.Start (units.unit_with s.0 s.1 s.2 s.3 (taken.body_of (what_view finding.now.what)))) }
+        ≡ units.Start (units.unit_with s.0 s.1 s.2 s.3 s.4 (taken.body_of (what_view finding.now.what)))) }
     ensures on { IfSome result (λ s. finding.now.pid ≡ Some pid) }
 {
     if !is_on(pid, finding) {
         return None;
     }
     match role_of(pid, finding) {
-        PesRole::Start(first) => Some((first.packet, first.stream_id, first.dts, first.pts)),
+        PesRole::Start(first) => Some((
+            first.packet,
+            first.stream_id,
+            first.dts,
+            first.pts,
+            first.marks,
+        )),
         _ => None,
     }
 }
@@ -93,7 +101,7 @@ fn moved_start<A: Allocator + Clone>(
     ensures none { IfOk result (λ unit. unit ≡ None → finding.new ≡ finding.old) }
     ensures others { OnOk result (OthersStay pid (finding_view finding.old ∷ []) (finding_view finding.new ∷ [])) }
 {
-    let Some((packet, stream_id, dts, pts)) = start_in(pid, finding) else {
+    let Some((packet, stream_id, dts, pts, marks)) = start_in(pid, finding) else {
         return Ok(None);
     };
     let empty = alloc.clone()?;
@@ -104,6 +112,7 @@ fn moved_start<A: Allocator + Clone>(
         stream_id,
         dts,
         pts,
+        marks,
         bytes,
     }))
 }
@@ -152,8 +161,8 @@ fn lengthen<B: UnitBytes>(
 }
 
 impl<B: UnitBytes> UnitTaker<B> {
-    /// Before the first finding of a PID. `split`: whether its units may have several PES packets, so that of one after
-    /// which something is lost a part may be, and it is left out.
+    /// Returns the state before the first finding of a PID. `split`: whether its units may have several PES packets; then a
+    /// loss after a unit may be a part of the unit, and the unit is left out.
     pub fn new(pid: u16, split: bool) -> UnitTaker<B>
         ensures { result ≡ spec.none_so_far pid split }
     {
@@ -164,7 +173,7 @@ impl<B: UnitBytes> UnitTaker<B> {
         }
     }
 
-    /// The PID.
+    /// Returns the PID.
     pub(crate) fn pid(&self) -> u16
         ensures { result ≡ self.now.pid }
     {
@@ -230,7 +239,7 @@ impl<B: UnitBytes> UnitTaker<B> {
         self.take_role(alloc, role_of(self.pid, finding))
     }
 
-    /// The packet in which the unit under way begins, and its DTS as it stands in the header, modulo 2^33.
+    /// Returns the packet where the current unit begins, and its DTS as its header has it, modulo 2^33.
     #[tactic(auto, unfolding(crate::specs::UnitSteps::start_of))]
     pub fn under_way(&self) -> Option<(u64, u64)>
         ensures { result ≡ spec.start_of self.now.unit }
@@ -241,7 +250,7 @@ impl<B: UnitBytes> UnitTaker<B> {
         }
     }
 
-    /// The stream_id of the unit under way.
+    /// Returns the stream_id of the unit under way.
     pub(crate) fn stream_id(&self) -> Option<u8>
         ensures { result ≡ option_map (λ u. u.stream_id) self.now.unit }
     {
@@ -251,7 +260,7 @@ impl<B: UnitBytes> UnitTaker<B> {
         }
     }
 
-    /// The unit under way ends here, if there is one.
+    /// Ends the current unit, if there is one.
     pub fn end(&mut self) -> Option<WireUnit<B>>
         ensures given { result ≡ spec.ended_unit false self.old.unit }
         ensures kept { self.new ≡ record self.old { unit = None } }
@@ -259,7 +268,7 @@ impl<B: UnitBytes> UnitTaker<B> {
         ended(false, self.unit.take())
     }
 
-    /// The findings end: the last unit, if there is one.
+    /// Ends the findings, and returns the last unit, if there is one.
     pub fn finish(self) -> Option<WireUnit<B>>
         ensures { result ≡ spec.ended_unit false self.unit }
     {
@@ -268,8 +277,8 @@ impl<B: UnitBytes> UnitTaker<B> {
 }
 
 impl<A: Allocator + Clone> UnitTaker<Vec<u8, A>> {
-    /// The same as `take`, where the body of a PES packet with which a unit starts is moved out of its finding: of this
-    /// nothing is left then but a packet that comes twice.
+    /// Returns the same as `take`, where the body of a PES packet with which a unit starts is moved out of its finding: of
+    /// this nothing is left then but a packet that comes twice.
     #[tactic(auto, unfolding(crate::specs::UnitSteps::made_whole, crate::specs::UnitSteps::goes_on_as))]
     pub(crate) fn take_moved(
         &mut self,

@@ -1,4 +1,4 @@
-//! Warnings about what is found on the PID of a stream.
+//! Warnings about findings on the PID of a stream.
 
 ghost use Rattle.std.specs.Prelude.{◌≡◌};
 ghost use Rattle.stream_units.specs.Damage.{is_damage, is_scrambled};
@@ -6,7 +6,7 @@ ghost use Rattle.stream_units.specs.Damage.{is_damage, is_scrambled};
 use pes_packet::PesError;
 use psi_tables::SectionError;
 
-/// Why something is in no unit, or what is not known of a PES packet that is in one.
+/// Why something is in no unit, or what a unit's PES packet leaves unknown.
 #[derive(Clone, Copy, PartialEq, Eq)]
 pub enum UnitWarningCause {
     /// A continuity_counter that does not follow the one before.
@@ -36,7 +36,8 @@ pub enum UnitWarningCause {
 }
 
 impl UnitWarningCause {
-    /// Whether it says that the stream is damaged, or may be: each capture ends somewhere, and a unit may be empty.
+    /// Returns whether it says that the stream is damaged, or may be: each capture ends somewhere, and a unit may
+    /// be empty.
     pub fn is_damage(self) -> bool
         ensures { result ≡ is_damage self }
     {
@@ -49,7 +50,7 @@ impl UnitWarningCause {
         }
     }
 
-    /// Whether it is of a scrambled packet.
+    /// Returns whether it is of a scrambled packet.
     pub fn is_scrambled(self) -> bool
         ensures { result ≡ is_scrambled self }
     {
@@ -60,7 +61,7 @@ impl UnitWarningCause {
     }
 }
 
-/// A warning about what is found on the PID of a stream.
+/// A warning about a finding on the PID of a stream.
 #[derive(Clone, Copy, PartialEq, Eq)]
 pub struct UnitWarning {
     /// The packet of its first byte.

@@ -1,4 +1,4 @@
-//! What is found on a PID and is in no unit.
+//! Findings of a PID that are in no unit.
 
 ghost use Rattle.std.specs.Prelude.{◌≡◌, ◌==◌, ◌&&◌, ◌++◌, IfOk, OnOk, None, length, map};
 ghost use Rattle.demux.specs.Shown.{finding_view, what_view};
@@ -267,8 +267,8 @@ fn warnings_by<A: Allocator>(
     Ok((out, cut))
 }
 
-/// What of the findings of a PID is in no unit that is carried, with the packet of its first byte and the cause, and
-/// which PES packet is taken without a known end; `count` is the number of whole packets of the stream.
+/// Returns what of the findings of a PID is in no unit that is carried, with the packet of its first byte and the
+/// cause, and which PES packet is taken without a known end; `count` is the number of whole packets of the stream.
 #[tactic(auto, using(crate::proofs::UnitWarnings::uncut_warnings))]
 pub fn unit_warnings<A: Allocator + Clone>(
     alloc: A,

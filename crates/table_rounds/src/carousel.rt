@@ -12,7 +12,7 @@ use arrayvec::ArrayVec;
 use clock27::{Rate, SLOT_SECONDS_AT_1BPS};
 use std::marker::Model;
 
-/// A table between two of its own slots: the place that comes next, the moment of the round, and the section under way.
+/// A table between two of its own slots: the place that comes next, the moment of the round, and the current section.
 #[derive(Drop)]
 pub struct TableCarousel {
     pid: u16,
@@ -75,7 +75,7 @@ fn moment_at(rate: Rate, start: u32, slot: u64) -> u64
 }
 
 impl TableCarousel {
-    /// A table before slot 0 of an output of this rate, which begins at the moment `start`, in seconds since
+    /// Returns a table before slot 0 of an output of this rate, which begins at the moment `start`, in seconds since
     /// 1970-01-01T00:00:00 UTC. `lengths` has the greatest length of each section over all moments, in bytes.
     pub fn new(pid: u16, rate: Rate, start: u32, lengths: &[u16]) -> TableCarousel
         requires pid { pid < 2 ^ 13 }
@@ -95,7 +95,7 @@ impl TableCarousel {
         }
     }
 
-    /// The packet of an own slot: a part of the section under way, or the null packet where the section is shorter than
+    /// Returns the packet of an own slot: a part of the current section, or the null packet if the section is shorter than
     /// its places.
     pub fn next<T: SectionSource>(&mut self, source: &T, slot: u64) -> [u8; 188]
         requires { slot < 2 ^ 40 }
@@ -107,7 +107,7 @@ impl TableCarousel {
         packet
     }
 
-    /// The same, written over the bytes of `packet`.
+    /// Writes the same over the bytes of `packet`.
     pub fn write_next<T: SectionSource>(&mut self, source: &T, slot: u64, packet: &mut [u8; 188])
         requires { slot < 2 ^ 40 }
         ensures packet { packet.new ≡ packet_of (spec.carousel_content (T.bytes source.now) slot self.old) }

@@ -2,48 +2,48 @@
 ghost use Rattle.table_rounds.specs.Payloads.{TableCarriedLaw, BeginsLaw, FirstPartLaw, PartFitsLaw};
 ghost use Rattle.table_rounds.specs.Laws.{FirstCarouselLaw, TableSlotLaw, OtherTableSlotLaw, PlaceLaw, PlaceFoundLaw};
 
-/// A new state stands for its table before slot 0.
+/// States that a new state represents its table before slot 0.
 pub fn first_carousel()
     ensures { FirstCarouselLaw }
 {}
 
-/// At an own slot the state gives what the table carries there, and stands for the table in the next slot.
+/// States that the state gives, at an own slot, what the table carries there, and represents the table in the next slot.
 pub fn own_slot()
     ensures { TableSlotLaw }
 {}
 
-/// In a slot that is not the table's the state stays as it is.
+/// States that in a slot that is not the table's the state stays as it is.
 pub fn other_slot()
     ensures { OtherTableSlotLaw }
 {}
 
-/// Part q of a section is in place q after those of the sections before it.
+/// States that part q of a section is in place q after the places of the sections before it.
 pub fn places()
     ensures { PlaceLaw }
 {}
 
-/// Each place of a round has one part of one section.
+/// States that each place of a round has one part of one section.
 pub fn place_found()
     ensures { PlaceFoundLaw }
 {}
 
-/// In the bytes of an output the packets of a table carry the parts of its sections in their places, with counters that
-/// count on.
+/// States that the packets of a table carry, in the bytes of an output, the parts of its sections in their places, with
+/// counters that count on.
 pub fn table_carried()
     ensures { TableCarriedLaw }
 {}
 
-/// A section begins in the slot of its first place: it is never too short for that.
+/// States that a section begins in the slot of its first place: it is never too short for that.
 pub fn first_part()
     ensures { FirstPartLaw }
 {}
 
-/// What an own slot carries can be a packet.
+/// States that what an own slot carries can be a packet.
 pub fn part_fits()
     ensures { PartFitsLaw }
 {}
 
-/// In the bytes of an output a section begins in each slot that is its first place.
+/// States that in the bytes of an output a section begins in each slot that is its first place.
 pub fn begins()
     ensures { BeginsLaw }
 {}

@@ -2,7 +2,7 @@
 //!
 //! - [`after_word`]: the text after a word.
 //! - [`number_before`], [`field_at`], [`after_number`]: decimal numbers without leading zeros, alone, after a word, and
-//!   one that is known.
+//!   a given number.
 //! - `specs/Words` has the readers and what they read; `proofs/Readers` that each accepts exactly that.
 #![tactic(auto)]
 

@@ -6,14 +6,14 @@ ghost use Rattle.text_words.specs.Words.{after_word, more_digits, number_before,
 /// Each number of a field is below this.
 pub const NUMBER_LIMIT: u64 = 1_000_000_000_000_000_000;
 
-/// The text after a word.
+/// Returns the text after a word.
 pub fn after_word<'a>(word: &[u8], text: &'a [u8]) -> Option<&'a [u8]>
     ensures { option_map (λ rest. rest.now) result ≡ after_word word.now text.now }
 {
     text.strip_prefix(word)
 }
 
-/// A number below `limit`, without a leading zero, and the text after the byte that ends it.
+/// Returns a number below `limit`, without a leading zero, and the text after the byte that ends it.
 pub fn number_before(ending: u8, limit: u64, text: &[u8]) -> Option<(u64, &[u8])>
     requires { limit ≤ 10 ^ 18 }
     ensures read { option_map (λ read. (read.0, read.1.now)) result ≡ number_before ending limit text.now }
@@ -31,7 +31,7 @@ pub fn number_before(ending: u8, limit: u64, text: &[u8]) -> Option<(u64, &[u8])
     }
 }
 
-/// The number whose first digits make `number`, and the text after the byte that ends it.
+/// Returns the number whose first digits make `number`, and the text after the byte that ends it.
 fn more_digits(ending: u8, limit: u64, mut number: u64, text: &[u8]) -> Option<(u64, &[u8])>
     requires limit { limit ≤ 10 ^ 18 }
     requires below { number < limit }
@@ -54,14 +54,14 @@ fn more_digits(ending: u8, limit: u64, mut number: u64, text: &[u8]) -> Option<(
     None
 }
 
-/// A word with its space, a number below 10^18, and the text after the byte that ends it.
+/// Returns a word with its space, a number below 10^18, and the text after the byte that ends it.
 pub fn field_at<'a>(word: &[u8], ending: u8, text: &'a [u8]) -> Option<(u64, &'a [u8])>
     ensures { option_map (λ read. (read.0, read.1.now)) result ≡ field_at word.now ending text.now }
 {
     number_before(ending, NUMBER_LIMIT, after_word(word, text)?)
 }
 
-/// A word with its space, the number given, and the text after the space after it.
+/// Returns a word with its space, the number given, and the text after the space after it.
 pub fn after_number<'a>(word: &[u8], number: u64, text: &'a [u8]) -> Option<&'a [u8]>
     ensures { option_map (λ rest. rest.now) result ≡ after_number word.now number text.now }
 {

@@ -3,7 +3,7 @@ ghost use Rattle.std.specs.Prelude.{◌≡◌};
 
 use clock27::Pcr;
 
-/// The fields of a clock reference as they stand in a packet: program_clock_reference_base, 33 bits in units of 90 kHz,
+/// The fields of a clock reference as a packet carries them: program_clock_reference_base, 33 bits in units of 90 kHz,
 /// and program_clock_reference_extension, 9 bits in ticks of 27 MHz. A clock's own `Pcr` is made into one by `from`.
 #[derive(Clone, Copy, Debug, PartialEq, Eq)]
 pub struct ClockReference {

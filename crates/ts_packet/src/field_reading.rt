@@ -143,7 +143,7 @@ fn adaptation_at(bytes: &[u8]) -> Result<Adaptation<'_>, PacketError>
     }
 }
 
-/// An adaptation field of at most `most` bytes after its length, and the bytes after it.
+/// Returns an adaptation field of at most `most` bytes after its length, and the bytes after it.
 #[tactic(auto, unfolding(crate::specs::Reading::field_at))]
 pub fn field_at(most: usize, bytes: &[u8]) -> Result<(Adaptation<'_>, &[u8]), PacketError>
     requires { most < length bytes.now }

@@ -142,8 +142,8 @@ fn payload_size(payload: Option<&[u8]>) -> u128
     }
 }
 
-/// Whether `write_packet` can write them: they make 188 bytes, each number fits its field, each stuffing byte is 0xFF,
-/// and a payload has at least one byte.
+/// Returns whether `write_packet` can write them: they make 188 bytes, each number fits its field, each stuffing byte
+/// is 0xFF, and a payload has at least one byte.
 pub fn fits(header: Header, adaptation: Option<&Adaptation<'_>>, payload: Option<&[u8]>) -> bool
     ensures { IsTrue result ↔ PacketFits (packet_of header adaptation.entry payload.entry) }
 {

@@ -16,7 +16,7 @@ fn bit(flag: bool) -> u8
     if flag { 1 } else { 0 }
 }
 
-/// The four bytes of a header.
+/// Returns the four bytes of a header.
 #[tactic(auto, unfolding(crate::specs::Writing::header_bytes))]
 pub fn header_bytes(header: Header, control: u8) -> [u8; 4]
     requires fits { HeaderFits header }
@@ -32,7 +32,7 @@ pub fn header_bytes(header: Header, control: u8) -> [u8; 4]
     [0x47, first, low, controls << 4 | header.continuity_counter]
 }
 
-/// The six bytes of a clock reference.
+/// Returns the six bytes of a clock reference.
 #[tactic(auto, unfolding(crate::specs::Writing::reference_bytes))]
 pub fn reference_bytes(reference: ClockReference) -> [u8; 6]
     requires { ReferenceFits (reference_view reference) }
@@ -70,7 +70,7 @@ fn eight_bits(first: u8, second: u8, third: u8) -> u8
     (first << 2 | second) << 3 | third
 }
 
-/// The byte of flags.
+/// Returns the byte of flags.
 #[tactic(auto, unfolding(crate::specs::Writing::flags_of), using(crate::proofs::Flagging::announced))]
 pub fn flags_of(parts: &AdaptationField<'_>) -> u8
     ensures { result ≡ flags_of (field_view parts.now) }

@@ -3,42 +3,45 @@ ghost use Rattle.ts_packet.specs.PcrBytes.{PcrStands};
 ghost use Rattle.ts_packet.specs.Laws.{ReadOnce, PacketsAgain, PayloadsAgain, PcrsAgain, NullAgain};
 ghost use Rattle.ts_packet.specs.Laws.{FirstCut, PiecesListed};
 
-/// The bytes of a packet say one thing, and it is read.
+/// States that the bytes of a packet say one thing, and it is read.
 pub fn read_once()
     ensures { ReadOnce }
 {}
 
-/// What can be written is written in 188 bytes, which say it, and is read again.
+/// States that a writable packet is written in 188 bytes, which say it, and is read again.
 pub fn packets_again()
     ensures { PacketsAgain }
 {}
 
-/// The packet of a payload is read again as that payload, with a plain header and the adaptation field of stuffing.
+/// States that the packet of a payload is read again as that payload, with a plain header and the adaptation field
+/// of stuffing.
 pub fn payloads_again()
     ensures { PayloadsAgain }
 {}
 
-/// The packet of a program clock reference is read again as that reference, without a payload and with counter 15.
+/// States that the packet of a program clock reference is read again as that reference, without a payload and with
+/// counter 15.
 pub fn pcrs_again()
     ensures { PcrsAgain }
 {}
 
-/// The null packet is read again.
+/// States that the null packet is read again.
 pub fn null_again()
     ensures { NullAgain }
 {}
 
-/// A byte stream is cut into packets of 188 bytes from its first byte on: a whole packet in front is its first.
+/// States that a byte stream is cut into packets of 188 bytes from its first byte on: a whole packet in front is
+/// its first.
 pub fn first_cut()
     ensures { FirstCut }
 {}
 
-/// The packets of payloads on one PID, read back from their bytes, are those payloads in order.
+/// States that packets of payloads on one PID, read back from their bytes, give these payloads in order.
 pub fn pieces_listed()
     ensures { PiecesListed }
 {}
 
-/// In a packet with a program clock reference, it is bytes 6 to 11.
+/// States that in a packet with a program clock reference, it is bytes 6 to 11.
 pub fn pcr_stands()
     ensures { PcrStands }
 {}

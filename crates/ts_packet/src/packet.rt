@@ -29,7 +29,7 @@ pub enum PacketError {
 impl PacketError {
     ghost use Rattle.ts_packet.specs.Codes.{code_of};
 
-    /// The refusal's number, from 1 in the order in which they are given.
+    /// Returns the refusal's number, from 1 in the order of the checks.
     pub fn code(self) -> u8
         ensures { result ≡ code_of self }
     {

@@ -50,7 +50,7 @@ fn append_payload(packet: &mut ArrayVec<u8, 188>, payload: Option<&[u8]>)
     }
 }
 
-/// The packet of a header, an adaptation field and a payload that `fits` accepts.
+/// Returns the packet of a header, an adaptation field and a payload that `fits` accepts.
 #[tactic(auto, unfolding(crate::specs::Writing::packet_bytes))]
 pub fn write_packet(
     header: Header,

@@ -13,7 +13,7 @@ const OFFSET: usize = 6;
 /// The number of its bytes.
 const SIZE: usize = 6;
 
-/// Whether a packet has a program clock reference.
+/// Returns whether a packet has a program clock reference.
 pub fn has_pcr(packet: &Packet<'_>) -> bool
     ensures { result ≡ pcr_bytes.has_pcr (packet_view packet.now).adaptation }
 {
@@ -23,8 +23,8 @@ pub fn has_pcr(packet: &Packet<'_>) -> bool
     }
 }
 
-/// Whether two packets, each with or without a program clock reference, have the same bytes apart from it: what a
-/// duplicate repeats.
+/// Returns whether two packets, each with or without a program clock reference, have the same bytes apart from
+/// it: what a duplicate repeats.
 #[tactic(auto, unfolding(crate::specs::PcrBytes::without_pcr), using(crate::proofs::PcrBytes::forms_differ))]
 pub fn is_same_without_pcr(
     bytes: &[u8; 188],

@@ -78,8 +78,8 @@ fn write_header_and_stuffing(front: &mut [u8], pid: u16, start: bool, counter: u
     write_stuffing_field(field);
 }
 
-/// Writes the packet of one payload of 1 to 184 bytes into `packet`. Where the payload is shorter than 184 bytes an
-/// adaptation field of stuffing stands before it.
+/// Writes the packet of one payload of 1 to 184 bytes into `packet`. If the payload is shorter than 184 bytes, an
+/// adaptation field of stuffing precedes it.
 #[tactic(auto, unfolding(crate::specs::Packets::payload_packet, crate::specs::Writing::packet_bytes))]
 pub fn write_payload_into(
     packet: &mut [u8; 188],
@@ -99,7 +99,7 @@ pub fn write_payload_into(
     room.copy_from_slice(payload);
 }
 
-/// The same of a payload in two parts, one after the other.
+/// Writes the packet of a payload in two parts, the second after the first.
 #[tactic(auto, unfolding(crate::specs::Packets::payload_packet, crate::specs::Writing::packet_bytes))]
 pub fn write_split_payload_into(
     packet: &mut [u8; 188],
@@ -123,7 +123,7 @@ pub fn write_split_payload_into(
     after.copy_from_slice(rest);
 }
 
-/// The packet of one payload of 1 to 184 bytes.
+/// Returns the packet of one payload of 1 to 184 bytes.
 pub fn write_payload(pid: u16, start: bool, counter: u8, payload: &[u8]) -> [u8; 188]
     requires pid { pid < 2 ^ 13 }
     requires counter { counter < 2 ^ 4 }
@@ -152,7 +152,7 @@ pub fn write_pcr_into(packet: &mut [u8; 188], pid: u16, pcr: Pcr)
     stuffing.copy_from_slice(&STUFFING[..176]);
 }
 
-/// A packet of a PID that carries program clock references alone.
+/// Returns a packet of a PID that carries program clock references alone.
 pub fn write_pcr(pid: u16, pcr: Pcr) -> [u8; 188]
     requires { pid < 2 ^ 13 }
     ensures { result ≡ pcr_packet pid pcr }
@@ -172,7 +172,7 @@ pub fn write_null_packet_into(packet: &mut [u8; 188])
     payload.copy_from_slice(&STUFFING);
 }
 
-/// The null packet.
+/// Returns the null packet.
 pub fn null_packet() -> [u8; 188]
     ensures { result ≡ null_packet }
 {

@@ -6,6 +6,7 @@ use Rattle.std.proofs.lemmas.Bool.{and_parts}
 use Rattle.std.proofs.lemmas.List.{drop_all, length-append}
 use Rattle.std.proofs.lemmas.List.Sums.{sum_by-cons}
 use Rattle.pes_packet.specs.AccessUnits.{AccessUnit}
+use Rattle.pes_packet.specs.declared.marks.Marks.{Marks}
 use Rattle.pes_packet.specs.Encoding.{on_wire, pes_header_bytes, pes_packet_bytes}
 use Rattle.decoder_buffers.specs.DepartureWalk.{given}
 use Rattle.pes_packet.specs.Units.{units_of, pes_packets_of}
@@ -15,9 +16,9 @@ use Rattle.tstd.specs.Carried.{timed_pes_packets}
 wire_again : (a : ℕ) → on_wire (on_wire a) ≡ on_wire a
 wire_again a = omega arith
 
-pub header_wire : (id size pts dts : ℕ) → pes_header_bytes id size (on_wire pts) (on_wire dts) ≡ pes_header_bytes id size pts dts
+pub header_wire : (id size : ℕ) (marks : Marks) (pts dts : ℕ) → pes_header_bytes id size marks (on_wire pts) (on_wire dts) ≡ pes_header_bytes id size marks pts dts
 unfolding pes_header_bytes
-header_wire id size pts dts = rw (wire_again pts, wire_again dts) refl
+header_wire id size marks pts dts = rw (wire_again pts, wire_again dts) refl
 
 -- an entry of the stream, or of another
 pub texts_first : (id base0 number i : ℕ) (units : List (ℕ × AccessUnit)) (u : ℕ × AccessUnit) → i < length units → u ≡ get_or units i u → (u.0 == number) ≡ true →

@@ -13,7 +13,7 @@ use description::Description;
 use pes_packet::Unit;
 use std::alloc::{AllocError, Allocator};
 
-/// Whether each stream carries a beginning of its units.
+/// Returns whether each stream carries a beginning of its units.
 pub fn all_carried<B: Allocator>(
     description: &Description,
     units: &[(u8, Unit<B>)],
@@ -51,7 +51,7 @@ fn first_of(late: Option<LateUnit>, stream: u8, number: Option<u64>) -> Option<L
     }
 }
 
-/// The buffers of each stream, and the first late unit.
+/// Returns the buffers of each stream, and the first late unit.
 pub fn measure_streams<A: Allocator + Clone, B: Allocator>(
     alloc: &A,
     description: &Description,
@@ -82,7 +82,7 @@ pub fn measure_streams<A: Allocator + Clone, B: Allocator>(
     Ok((streams, late))
 }
 
-/// The buffers of each program's tables.
+/// Returns the buffers of each program's tables.
 pub fn measure_systems<A: Allocator + Clone>(
     alloc: &A,
     description: &Description,

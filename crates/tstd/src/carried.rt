@@ -16,13 +16,15 @@ use std::alloc::Allocator;
 
 // The header of a unit's PES packet.
 #[tactic(auto, using(crate::proofs::CarriedBytes::header_wire))]
-fn header_of<B: Allocator>(id: u8, base0: u64, unit: &Unit<B>) -> ArrayVec<u8, 19>
+fn header_of<B: Allocator>(id: u8, base0: u64, unit: &Unit<B>) -> ArrayVec<u8, 45>
     requires { IsTrue (fits_packet id (length unit.now.bytes)) }
-    ensures { result.items ≡ pes_header_bytes id (length unit.now.bytes) (unit.now.pts + base0) (unit.now.dts + base0) }
+    ensures { result.items ≡ pes_header_bytes id (length unit.now.bytes) unit.now.marks
+        (unit.now.pts + base0) (unit.now.dts + base0) }
 {
     write_header(
         id,
         unit.bytes.len(),
+        unit.marks,
         on_wire(base0, unit.pts),
         on_wire(base0, unit.dts),
     )
@@ -63,7 +65,7 @@ fn entry_agrees<B: Allocator>(
     unit_agrees(payloads, id, base0, &entry.1)
 }
 
-/// Whether the payloads of a PID are a beginning of the PES packets of a stream's units.
+/// Returns whether the payloads of a PID are a beginning of the PES packets of a stream's units.
 #[tactic(auto, unfolding(crate::specs::PayloadWalk::bytes_ahead))]
 pub fn carries<B: Allocator>(
     pid: u16,

@@ -25,7 +25,7 @@ fn is_declared<B: Allocator>(streams: &[StreamDescription], entry: &(u8, Unit<B>
     }
 }
 
-/// Whether each unit is within the declaration of its stream.
+/// Returns whether each unit is within the declaration of its stream.
 pub fn are_declared<B: Allocator>(streams: &[StreamDescription], units: &[(u8, Unit<B>)]) -> bool
     ensures { result ≡ list_all (λ unit. is_within (length unit.1.bytes) (slice_get streams.now unit.0)) units.now }
 {

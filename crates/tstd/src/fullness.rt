@@ -1,4 +1,4 @@
-//! What is measured.
+//! The measured values.
 
 use std::alloc::{Allocator, Global};
 use std::marker::Model;

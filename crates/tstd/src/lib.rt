@@ -5,8 +5,8 @@
 //! `specs/Refusals` what it refuses. The modules, from the bottom up: `fullness` and `refusal` are its results;
 //! `packets` reads what a packet carries; `units` and `streams` measure the units of a stream in its two buffers, or in the
 //! three of video, one after another (`unit_arrival`, over the buffers of `decoder_buffers`); `tables` are a program's two buffers;
-//! `payloads` and `carried` compare payloads with units; `unreadable` and `declared` are the other tests of what is
-//! given; `all_streams` goes through the streams and programs of a description.
+//! `payloads` and `carried` compare payloads with units; `unreadable` and `declared` test the
+//! input; `all_streams` goes through the streams and programs of a description.
 #![tactic(auto)]
 
 mod all_streams;

@@ -5,7 +5,7 @@ ghost use Rattle.tstd.specs.PacketLists.{payload_in, is_of_tables};
 
 use ts_packet::read_packet;
 
-/// The payload of a packet, no bytes if it is none of this PID.
+/// Returns the payload of a packet, no bytes if it is not a packet of this PID.
 #[tactic(auto, unfolding(crate::specs::PacketLists::payload_in))]
 pub fn payload_on(pid: u16, packet: &[u8; 188]) -> &[u8]
     ensures { result.now ≡ payload_in pid (packet_at packet.now) }
@@ -18,7 +18,7 @@ pub fn payload_on(pid: u16, packet: &[u8; 188]) -> &[u8]
     }
 }
 
-/// Whether a packet enters the buffers of the tables of the program with this PMT.
+/// Returns whether a packet enters the buffers of the tables of the program with this PMT.
 #[tactic(auto, unfolding(crate::specs::PacketLists::is_of_tables))]
 pub fn is_of_tables(pmt_pid: u16, packet: &[u8; 188]) -> bool
     ensures { result ≡ is_of_tables pmt_pid (packet_at packet.now) }

@@ -11,7 +11,7 @@ use crate::packets::payload_on;
 #[derive(Drop)]
 pub struct Payloads<'a> {
     pub pid: u16,
-    /// What is left of the packet under way, and the packets ahead.
+    /// The rest of the current packet, and the packets ahead.
     pub rest: &'a [u8],
     pub packets: &'a [[u8; 188]],
 }
@@ -33,7 +33,7 @@ impl Payloads<'_> {
         true
     }
 
-    /// The next byte, if there is one.
+    /// Returns the next byte, if there is one.
     #[tactic(auto, unfolding(crate::specs::PayloadWalk::bytes_ahead))]
     pub fn next(&mut self) -> Option<u8>
         ensures ahead { bytes_ahead self.old ≡ given result (bytes_ahead self.new) }
@@ -51,7 +51,7 @@ impl Payloads<'_> {
     }
 }
 
-/// Whether the bytes of a walk begin with the expected ones, or end inside them and agree so far.
+/// Returns whether the bytes of a walk begin with the expected ones, or end inside them and agree so far.
 pub fn agrees(payloads: &mut Payloads<'_>, expected: &[u8]) -> bool
     ensures { (more : List ℕ) → starts_with nat_eq (expected.now ++ more) (bytes_ahead payloads.old)
         ≡ (result && starts_with nat_eq more (bytes_ahead payloads.new)) }

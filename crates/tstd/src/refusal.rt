@@ -26,7 +26,7 @@ pub enum MeasureError {
 impl MeasureError {
     ghost use Rattle.tstd.specs.Codes.{code_of};
 
-    /// The refusal's number, from 1 in the order in which they are given; out of memory has none.
+    /// Returns the refusal's number, from 1 in the order of the checks; out of memory has none.
     pub fn code(self) -> Option<u8>
         ensures { result ≡ code_of self }
     {

@@ -89,8 +89,8 @@ fn measure_video<A: Allocator, B: Allocator>(
     Ok((fullness, late))
 }
 
-/// The greatest numbers of bytes in the buffers of a stream, and the number of its first late unit, of packets that
-/// carry its units.
+/// Returns the greatest numbers of bytes in the buffers of a stream, and the number of its first late unit, for packets
+/// that carry its units.
 #[tactic(auto, unfolding(crate::specs::Measured::HasVideoFullness, crate::specs::Measured::late_in))]
 pub fn measure_stream<A: Allocator + Clone, B: Allocator>(
     alloc: &A,

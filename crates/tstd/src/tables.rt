@@ -33,7 +33,7 @@ fn pass_packet(transport: &mut Queue, system: &mut Queue, from: u64)
     }
 }
 
-/// The greatest numbers of bytes in the buffers of the tables of the program with this PMT.
+/// Returns the greatest numbers of bytes in the buffers of the tables of the program with this PMT.
 pub fn measure_tables(rate: u64, pmt_pid: u16, packets: &[[u8; 188]]) -> SystemFullness
     requires low { 100000 ≤ rate }
     requires high { rate ≤ 100000000 }

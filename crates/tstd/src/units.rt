@@ -15,7 +15,7 @@ use pes_packet::{Unit, packet_size};
 use std::alloc::{AllocError, Allocator};
 use unit_arrival::measure_unit;
 
-/// Whether a unit is one of this stream.
+/// Returns whether a unit is a unit of this stream.
 pub fn is_of<B: Allocator>(entry: &(u8, Unit<B>), stream: u8) -> bool
     ensures { result ≡ (entry.now.0 == stream) }
 {
@@ -47,8 +47,8 @@ fn first_of(late: Option<u64>, is_late: bool, number: u64) -> Option<u64>
     }
 }
 
-/// Measures the units of a stream, which go from one buffer into the other, in a run of `slots` slots; the number of
-/// the first late one.
+/// Measures the units of a stream, which pass its buffers in turn, in a run of `slots` slots; returns the number of
+/// the first late unit.
 pub fn measure_units<A: Allocator, B: Allocator>(
     walk: &mut PayloadBytes<'_>,
     buffer: &mut MainBuffer<A>,

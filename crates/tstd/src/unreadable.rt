@@ -5,7 +5,7 @@ ghost use Rattle.tstd.specs.Refusals.{first_unreadable};
 use crate::refusal::MeasureError;
 use ts_packet::read_packet;
 
-/// The first packet that can't be read, if there is one.
+/// Returns the first packet that can't be read, if there is one.
 #[tactic(auto, unfolding(crate::specs::Refusals::first_unreadable))]
 pub fn first_unreadable(packets: &[[u8; 188]]) -> Option<MeasureError>
     ensures { result ≡ first_unreadable 0 packets.now }

@@ -1,6 +1,7 @@
 -- Units that two constants move.
 use Rattle.std.proofs.Common.{◌≡◌, ◌∙◌, ◌<◌, ◌≤◌, ℕ, ◌+◌, ◌-◌, ◌%◌, ◌++◌, ◌^◌, false, Some, None, Ok, Err, List, [], ◌∷◌, length, map, slice_get, refl, sym, ap, ap₂, arith}
 use Rattle.pes_packet.specs.AccessUnits.{AccessUnit}
+use Rattle.pes_packet.specs.declared.marks.Marks.{Marks}
 use Rattle.demux.specs.Views.{FindingView}
 use Rattle.stream_units.specs.CarriedUnits.{wire_units}
 use Rattle.stream_units.specs.Stamps.{distance, dts_at, moved, unit_at}
@@ -20,9 +21,9 @@ same_distance a b w same = ap (λ (n : ℕ). (w % 2 ^ 33 + 2 ^ 33 - n) % 2 ^ 33)
 on_by_distance : (a b d : ℕ) → a % 2 ^ 33 ≡ b % 2 ^ 33 → (a + d) % 2 ^ 33 ≡ (b + d) % 2 ^ 33
 on_by_distance a b d same = omega (arith, same)
 
-unit_is : (dts pts other_dts other_pts : ℕ) (bytes : List ℕ) → dts ≡ other_dts → pts ≡ other_pts →
-    (let u : AccessUnit = record { dts = dts; pts = pts; bytes = bytes } in u) ≡ record { dts = other_dts; pts = other_pts; bytes = bytes }
-unit_is dts pts other_dts other_pts bytes one two = ap₂ (λ (d p : ℕ). (let u : AccessUnit = record { dts = d; pts = p; bytes = bytes } in u)) one two
+unit_is : (dts pts other_dts other_pts : ℕ) (marks : Marks) (bytes : List ℕ) → dts ≡ other_dts → pts ≡ other_pts →
+    (let u : AccessUnit = record { dts = dts; pts = pts; marks = marks; bytes = bytes } in u) ≡ record { dts = other_dts; pts = other_pts; marks = marks; bytes = bytes }
+unit_is dts pts other_dts other_pts marks bytes one two = ap₂ (λ (d p : ℕ). (let u : AccessUnit = record { dts = d; pts = p; marks = marks; bytes = bytes } in u)) one two
 
 -- the PTS of a unit at its DTS
 pts_too : (b c p q x y pts : ℕ) → x + p ≡ y + q → (x + b) % 2 ^ 33 ≡ (y + c) % 2 ^ 33 → x + distance (x + b) pts + p ≡ y + distance (y + c) pts + q
@@ -45,7 +46,7 @@ moved_on b c p q x y (u ∷ us) same clock =
     let next : x + d + p ≡ y + e + q = omega (arith, same, de) in
     let on = next_clock b c x y d e de clock in
     ap₂ (λ (v : AccessUnit) (vs : List AccessUnit). v ∷ vs)
-    (unit_is (x + d + p) (x + d + distance (x + d + b) u.pts + p) (y + e + q) (y + e + distance (y + e + c) u.pts + q) u.bytes next (pts_too b c p q (x + d) (y + e) u.pts next on))
+    (unit_is (x + d + p) (x + d + distance (x + d + b) u.pts + p) (y + e + q) (y + e + distance (y + e + c) u.pts + q) u.marks u.bytes next (pts_too b c p q (x + d) (y + e) u.pts next on))
     (moved_on b c p q (x + d) (y + e) us next on)
 
 shows_first : (b w : ℕ) → (distance b w + b) % 2 ^ 33 ≡ w % 2 ^ 33
@@ -63,7 +64,7 @@ all_apart b c p q (u ∷ us) first =
     let same : x + p ≡ y + q = first u us refl in
     let clock : (x + b) % 2 ^ 33 ≡ (y + c) % 2 ^ 33 = shows_first b u.dts ∙ sym (shows_first c u.dts) in
     ap₂ (λ (v : AccessUnit) (vs : List AccessUnit). v ∷ vs)
-    (unit_is (x + p) (x + distance (x + b) u.pts + p) (y + q) (y + distance (y + c) u.pts + q) u.bytes same (pts_too b c p q x y u.pts same clock))
+    (unit_is (x + p) (x + distance (x + b) u.pts + p) (y + q) (y + distance (y + c) u.pts + q) u.marks u.bytes same (pts_too b c p q x y u.pts same clock))
     (moved_on b c p q x y us same clock)
 
 -- 2. Streams that begin near one another

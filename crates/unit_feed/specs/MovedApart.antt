@@ -11,7 +11,7 @@ use Rattle.unit_feed.specs.declared.fed_map.FedMap.{FedMap}
 
 -- a unit that is due so much later
 abbrev pub after_time : ℕ → AccessUnit → AccessUnit
-after_time time u = record { dts = u.dts + time; pts = u.pts + time; bytes = u.bytes }
+after_time time u = record { dts = u.dts + time; pts = u.pts + time; marks = u.marks; bytes = u.bytes }
 
 -- of units on the wire, on a clock that shows `base` at moment 0: the first of one stream is due no later than this after the first of another
 abbrev pub BeginNear : ℕ → ℕ → List AccessUnit → List AccessUnit → Type 0

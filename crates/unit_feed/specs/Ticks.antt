@@ -9,6 +9,7 @@ use Rattle.demux.specs.Views.{FindingView}
 use Rattle.stream_units.specs.CarriedUnits.{CarriedUnit}
 use Rattle.stream_units.specs.Stamps.{distance, dts_at}
 use Rattle.stream_units.specs.UnitSteps.{ended_unit}
+use Rattle.pes_packet.specs.Marks.{no_marks}
 use Rattle.unit_feed.specs.declared.feed_fault.ClockJump.{ClockJump}
 use Rattle.unit_feed.specs.declared.feed_fault.FeedFault.TheVariants.{Clock}
 use Rattle.unit_feed.specs.declared.found_pcr.FoundPcr.{FoundPcr}
@@ -85,7 +86,7 @@ abbrev pub with_tick : FeedView → ℕ → FeedView
 with_tick feed t = record { earliest = feed.earliest; origin = feed.origin; shown = feed.shown; ticked = t; maps = feed.maps; streams = feed.streams }
 
 abbrev pub tick : ℕ → Fed
-tick t = (255, Ok (record { dts = t; pts = t; bytes = [] }))
+tick t = (255, Ok (record { dts = t; pts = t; marks = no_marks; bytes = [] }))
 
 abbrev pub after_tick : FeedView → ℕ → FeedView
 after_tick feed late = if is_tick (greatest_of feed) late then with_tick feed late else feed

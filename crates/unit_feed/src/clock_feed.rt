@@ -9,7 +9,7 @@ use crate::feed_fault::{ClockJump, FeedFault};
 use crate::found_pcr::FoundPcr;
 use crate::late::late_of;
 use crate::unit_feed::{NO_STREAM, UnitFeed, push_fed};
-use pes_packet::Unit;
+use pes_packet::{Marks, Unit};
 use std::alloc::{AllocError, Global};
 
 // The latest DTS of a unit.
@@ -33,6 +33,7 @@ fn tick(alloc: &Global, moment: u64) -> (u8, Result<Unit, FeedFault>)
     let unit = Unit {
         dts: moment,
         pts: moment,
+        marks: Marks::NONE,
         bytes: Vec::new(*alloc),
     };
     (NO_STREAM, Ok(unit))

@@ -13,7 +13,7 @@ use stream_programs::last_program_map;
 /// The table_id of a program map table (ISO/IEC 13818-1, table 2-31).
 const MAP_TABLE: u8 = 2;
 
-/// What is kept of a program map table.
+/// The state of a program map table.
 #[derive(Clone, Copy)]
 pub struct CurrentMap {
     /// version_number.

@@ -19,7 +19,7 @@ use std::alloc::{AllocError, Global};
 use std::marker::Model;
 use stream_units::{UnitTaker, dts_at};
 
-/// A stream: its number, its PID, its unit under way, the DTS of its last unit, and whether its units follow one another.
+/// A stream: its number, its PID, its current unit, the DTS of its last unit, and whether its units follow one another.
 #[derive(Drop)]
 pub struct FedStream {
     number: u8,
@@ -34,7 +34,7 @@ pub struct FedStream {
 pub(crate) struct FedFound {
     /// The unit that it makes whole at its moment, or why it can't have one.
     pub unit: Option<(u8, Result<Unit, FeedFault>)>,
-    /// What is told of it.
+    /// The report on it.
     pub told: Option<(u8, Result<Unit, FeedFault>)>,
 }
 
@@ -144,7 +144,7 @@ fn told_of(number: u8, fault: Option<FeedFault>) -> Option<(u8, Result<Unit, Fee
 }
 
 impl FedStream {
-    /// A stream of a PID before its first unit, with its number in the description. Of a unit after which something is
+    /// Returns a stream of a PID before its first unit, with its number in the description. Of a unit after which something is
     /// lost a part may be, so it is left out.
     pub fn new(number: u8, pid: u16) -> FedStream
         ensures { result ≡ record { number = number; before = None; units = none_so_far pid true; follow = false } }
@@ -158,7 +158,7 @@ impl FedStream {
         }
     }
 
-    /// Whether a finding is of its PID.
+    /// Returns whether a finding is of its PID.
     #[tactic(auto, unfolding(crate::specs::Feeding::place_from))]
     pub(crate) fn is_of(&self, pid: Option<u16>) -> bool
         ensures { result ≡ has_pid self.now.units.pid pid }
@@ -220,7 +220,7 @@ impl FedStream {
         })
     }
 
-    /// The DTS of its last unit that was fed; 0 before the first.
+    /// Returns the DTS of its last unit that was fed; 0 before the first.
     #[tactic(auto, unfolding(crate::specs::Feeding::dts_or_0))]
     pub(crate) fn last_dts(&self) -> u64
         ensures value { result ≡ spec.dts_or_0 self.now.before }
@@ -247,7 +247,7 @@ impl FedStream {
         }
     }
 
-    /// Whether its unit under way is due by a moment.
+    /// Returns whether its unit under way is due by a moment.
     #[tactic(auto, unfolding(crate::specs::Ticks::is_passed_by))]
     pub(crate) fn is_passed(&self, origin: Origin, late: u64) -> bool
         requires { IsOrigin origin }
@@ -259,7 +259,7 @@ impl FedStream {
         }
     }
 
-    /// Its unit under way ends here: at its moment, or why it can't have one.
+    /// Ends its current unit: at its moment, or why it can't have one.
     pub(crate) fn end(
         &mut self,
         due: Due,

@@ -15,7 +15,7 @@ use demux::Finding;
 use pes_packet::Unit;
 use std::alloc::{AllocError, Global};
 
-/// The first stream of a PID.
+/// Returns the first stream of a PID.
 pub(crate) fn place_of(pid: Option<u16>, streams: &[FedStream]) -> Option<usize>
     ensures value { result ≡ spec.place_from pid 0 streams.now }
     ensures bound { IfSome result (λ k. k < length streams.now) }
@@ -28,7 +28,7 @@ pub(crate) fn place_of(pid: Option<u16>, streams: &[FedStream]) -> Option<usize>
     None
 }
 
-/// The greatest DTS of units that were fed and of ticks.
+/// Returns the greatest DTS of units that were fed and of ticks.
 pub(crate) fn greatest_of(ticked: u64, streams: &[FedStream]) -> u64
     requires { ticked ≤ 2 ^ 52 }
     ensures value { result ≡ spec.greatest_from ticked streams.now }
@@ -41,7 +41,7 @@ pub(crate) fn greatest_of(ticked: u64, streams: &[FedStream]) -> u64
     greatest
 }
 
-/// The first stream whose unit under way is due by a moment.
+/// Returns the first stream whose unit under way is due by a moment.
 pub(crate) fn passed_place(origin: Origin, late: u64, streams: &[FedStream]) -> Option<usize>
     requires { IsOrigin origin }
     ensures value { result ≡ ticks.passed_from origin late 0 streams.now }

@@ -1,4 +1,4 @@
-//! What is told of a stream in place of a unit.
+//! Reports on a stream in place of a unit.
 
 use stream_units::StampFault;
 
@@ -9,7 +9,7 @@ pub struct Loss {
     pub packet: u64,
     /// The continuity_counter that was to come.
     pub expected: u8,
-    /// The one that came.
+    /// The counter that the packet has.
     pub found: u8,
 }
 
@@ -28,7 +28,7 @@ pub enum CutCause {
     NoPts,
 }
 
-/// The units of a PID are cut: the one under way is left out, and so is what comes before the next one starts.
+/// The units of a PID are cut: the current unit is left out, and so is everything before the next unit starts.
 #[derive(Clone, Copy, PartialEq, Eq)]
 pub struct CutUnits {
     /// The packet of the first byte of what cuts them.
@@ -46,7 +46,7 @@ pub struct NewMap {
     pub packet: u64,
     /// The version_number before.
     pub before: u8,
-    /// The one that came.
+    /// The version that the new map has.
     pub version: u8,
 }
 
@@ -63,7 +63,7 @@ pub struct ClockJump {
     pub after: u64,
 }
 
-/// What is told in place of a unit.
+/// A report in place of a unit.
 #[derive(Clone, Copy, PartialEq, Eq)]
 pub enum FeedFault {
     /// A unit can't have a moment.

@@ -52,7 +52,7 @@ fn pcr_in(packet: u64, pid: u16, adaptation: &Option<Adaptation<'_>>) -> Option<
     }
 }
 
-/// The clock reference of a packet, as it was read.
+/// Returns the clock reference of a packet, as it was read.
 #[tactic(auto, unfolding(crate::specs::Clocks::pcr_read))]
 pub(crate) fn found_pcr(index: u64, read: &Result<Packet<'_>, PacketError>) -> Option<FoundPcr>
     ensures { (packet : Result PacketView PacketError) → Gives packet_view read.now packet →
@@ -70,7 +70,7 @@ pub(crate) fn found_pcr(index: u64, read: &Result<Packet<'_>, PacketError>) -> O
 }
 
 impl FoundPcr {
-    /// Whether it is one of the clock on a PID.
+    /// Returns whether it is one of the clock on a PID.
     #[tactic(auto, unfolding(crate::specs::Clocks::is_on))]
     pub(crate) fn is_on(self, pid: Option<u16>) -> bool
         ensures { result ≡ spec.is_on self.pid pid }
@@ -81,7 +81,7 @@ impl FoundPcr {
         }
     }
 
-    /// Whether the clock jumps to it from what it showed before.
+    /// Returns whether the clock jumps to it from what it showed before.
     #[tactic(auto, unfolding(crate::specs::Clocks::jumps))]
     pub(crate) fn is_jump(self, before: Option<u64>) -> bool
         ensures { result ≡ spec.jumps before self.base }
@@ -92,7 +92,7 @@ impl FoundPcr {
         }
     }
 
-    /// What is told of it after what the clock showed before.
+    /// Returns what is told of it after what the clock showed before.
     #[tactic(auto, unfolding(crate::specs::Clocks::jump_of))]
     pub(crate) fn jump(self, before: Option<u64>) -> Option<ClockJump>
         ensures { result ≡ spec.jump_of before self }

@@ -36,7 +36,7 @@ fn late_by(greatest: u64, ahead: u64) -> Option<u64>
     )
 }
 
-/// The moment a second behind the clock, which shows `shown`, by the constant and the greatest DTS so far.
+/// Returns the moment a second behind the clock, which shows `shown`, by the constant and the greatest DTS so far.
 #[tactic(auto, unfolding(crate::specs::Ticks::late_of))]
 pub(crate) fn late_of(base: Option<u64>, greatest: u64, shown: u64) -> Option<u64>
     requires base { IfSome base (λ base. base < 2 ^ 33) }

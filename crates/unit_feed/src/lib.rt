@@ -1,12 +1,12 @@
-//! The units of a description's streams, while a stream comes: each at its moment as soon as it is whole.
+//! The units of a description's streams, while a stream arrives: each at its moment as soon as it is whole.
 //!
-//! A [`UnitFeed`] takes what is found of a stream finding by finding (`specs/Feeding`), in constant memory: one unit of
-//! each stream. The first unit of all fixes the constant by which stamps of 33 bits become moments of the run (`specs/Origins`).
-//! `laws` say that what later findings feed comes after what was fed before and changes none of it, and that the units fed of
-//! each stream are those that its PID carries, at their moments by that constant, in the order of their DTS (`specs/EachStream`,
-//! `specs/MovedApart`). Clock references move time on where streams are silent, and tell of a clock that jumps (`specs/Clocks`,
-//! `specs/Ticks`). A [`StreamFeed`] takes the bytes of a stream in pieces of any size, those that stand in step
-//! (`specs/StreamFeeding`): at its end it has fed what the whole stream feeds, and at each moment a beginning of that.
+//! A [`UnitFeed`] takes the findings of a stream one by one (`specs/Feeding`), in constant memory: one unit of each stream.
+//! The first unit of all fixes the constant that makes stamps of 33 bits moments of the run (`specs/Origins`). `laws` say
+//! that later findings feed after earlier ones and change none of them, and that the fed units of each stream are the units
+//! that its PID carries, at their moments by that constant, in the order of their DTS (`specs/EachStream`,
+//! `specs/MovedApart`). Clock references advance time while streams are silent, and show a clock that jumps (`specs/Clocks`,
+//! `specs/Ticks`). A [`StreamFeed`] takes the bytes of a stream in pieces of any size, the packets in step
+//! (`specs/StreamFeeding`): at its end it has fed what the whole stream feeds, and at each moment a beginning of it.
 #![tactic(auto)]
 
 // What is fed.

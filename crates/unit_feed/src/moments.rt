@@ -85,7 +85,7 @@ fn at_moment(
     }
 }
 
-/// A unit that is whole at its moment, if one is.
+/// Returns a unit that is whole at its moment, if one is.
 #[tactic(auto, unfolding(crate::specs::Feeding::origin_after, crate::specs::Feeding::before_with, crate::specs::Feeding::fed_with, crate::specs::Feeding::last_dts))]
 pub(crate) fn feed(
     number: u8,

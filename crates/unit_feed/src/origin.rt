@@ -5,19 +5,19 @@ ghost use Rattle.unit_feed.specs.Origins as spec;
 
 use stream_units::distance;
 
-/// The constants by which stamps become moments, in units of 90 kHz, once they are fixed.
+/// The constants that make stamps moments, in units of 90 kHz, once they are fixed.
 #[derive(Clone, Copy)]
 pub struct Origin {
-    /// That of the units that begin in the packet `since` or later.
+    /// The constant of the units that begin in the packet `since` or later.
     pub now: Option<u64>,
     /// The packet at which the clock jumped last; 0 where it has not.
     pub since: u64,
-    /// That of the units that begin before it.
+    /// The constant of the units that begin before it.
     pub before: Option<u64>,
 }
 
 impl Origin {
-    /// Before the first unit.
+    /// Returns the state before the first unit.
     pub(crate) fn new() -> Origin
         ensures value { result ≡ spec.no_origin }
         ensures bound { spec.IsOrigin result }
@@ -66,7 +66,7 @@ impl Origin {
         }
     }
 
-    /// The clock jumps at a packet: it is taken to show `shown` at a moment.
+    /// Returns the clock jumps at a packet: it is taken to show `shown` at a moment.
     #[tactic(auto, unfolding(crate::specs::Origins::origin_jumped, crate::specs::Origins::jumped_base))]
     pub(crate) fn jumped(self, packet: u64, moment: u64, shown: u64) -> Origin
         requires { spec.IsOrigin self }

@@ -38,7 +38,7 @@ impl Model for PacketFeed {
 }
 
 impl PacketFeed {
-    /// A stream before its first packet.
+    /// Returns a stream before its first packet.
     pub fn new(alloc: Global, feed: UnitFeed) -> PacketFeed
         ensures { result ≡ spec.no_packets feed }
     {
@@ -143,7 +143,7 @@ impl PacketFeed {
         Ok(at)
     }
 
-    /// The packets end, with these bytes of the next one: what that decides is fed, and then the last unit of each stream, in
+    /// Ends the packets, with these bytes of the next one: feeds what the end decides, and then the last unit of each stream, in
     /// the order of the streams.
     pub fn finish(
         self,

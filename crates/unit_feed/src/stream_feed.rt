@@ -12,8 +12,8 @@ use pes_packet::Unit;
 use std::alloc::{AllocError, Global};
 use std::marker::Model;
 
-/// A stream of which the bytes come piece by piece. It holds at most 1,127 bytes of the stream beside what the demultiplexer
-/// and the units under way have.
+/// A stream whose bytes arrive piece by piece. It holds at most 1,127 bytes of the stream beside the bytes of the demultiplexer
+/// and of the current units.
 #[derive(Drop)]
 pub struct StreamFeed {
     alloc: Global,
@@ -64,7 +64,7 @@ fn take_decided(
 }
 
 impl StreamFeed {
-    /// A stream before its first byte.
+    /// Returns a stream before its first byte.
     pub fn new(alloc: Global, feed: UnitFeed) -> StreamFeed
         ensures { result ≡ spec.at_first feed }
     {
@@ -76,8 +76,8 @@ impl StreamFeed {
     }
 
     /// Takes a piece of the stream, of any size; each unit that is whole then goes to `fed`, at its moment with the number of
-    /// its stream, or why it can't have one, ticks, and what is lost, changes or jumps. The caller may take these away as they
-    /// come: `gone` went before.
+    /// its stream, or why it can't have one, and so do ticks, losses, changes and jumps. The caller may take these away at any
+    /// time: `gone` went before.
     pub fn push(
         &mut self,
         piece: &[u8],
@@ -97,7 +97,7 @@ impl StreamFeed {
         Ok(())
     }
 
-    /// The stream ends: what that decides is fed, and then the last unit of each stream, in the order of the streams.
+    /// Ends the stream: feeds what the end decides, and then the last unit of each stream, in the order of the streams.
     pub fn finish(self, fed: &mut Vec<(u8, Result<Unit, FeedFault>)>) -> Result<(), AllocError>
         ensures { (first : FeedView) (stream : List ℕ) (gone : List Fed) →
             spec.IsFedBy first stream false self (gone ++ fed.old.items) →

@@ -20,7 +20,7 @@ use std::marker::Model;
 /// The number that stands where there is no stream, and that of a tick.
 pub(crate) const NO_STREAM: u8 = 255;
 
-/// The maps of a description's programs, its streams with their units under way, and the clock.
+/// The maps of a description's programs, its streams with their current units, and the clock.
 #[derive(Drop)]
 pub struct UnitFeed {
     pub(crate) earliest: u64,
@@ -90,8 +90,8 @@ fn greatest_if(shown: Option<u64>, greatest: u64) -> Option<u64>
 }
 
 impl UnitFeed {
-    /// The programs' maps and the streams of a description before the first packet, each stream with its number and a PID
-    /// of its own; the first unit of all is to be due at `earliest`. The clock is that of the first program.
+    /// Returns the programs' maps and the streams of a description before the first packet, each stream with its number and
+    /// its own PID; the first unit of all is to be due at `earliest`. The clock is the first program's clock.
     pub fn new(earliest: u64, maps: Vec<FedMap>, streams: Vec<FedStream>) -> UnitFeed
         ensures { result ≡ spec.feed_first earliest maps.items streams.items }
     {
@@ -105,7 +105,7 @@ impl UnitFeed {
         }
     }
 
-    /// The greatest DTS of units that were fed and of ticks.
+    /// Returns the greatest DTS of units that were fed and of ticks.
     pub(crate) fn greatest(&self) -> u64
         ensures value { result ≡ spec.greatest_of self.now }
         ensures bound { result ≤ 2 ^ 52 }
@@ -113,7 +113,7 @@ impl UnitFeed {
         greatest_of(self.ticked, &self.streams)
     }
 
-    /// When units may be due.
+    /// Returns when units may be due.
     pub(crate) fn due(&self) -> Due
         ensures value { result ≡ spec.due_of self.now }
         ensures bound { IfSome result.greatest (λ greatest. greatest ≤ 2 ^ 52) }
@@ -145,7 +145,7 @@ impl UnitFeed {
     }
 
     /// Takes a finding; the unit that it makes whole goes to `fed`, at its moment with the number of its stream, or why it
-    /// can't have one, and the loss of packets of a stream, what cuts its units or the new version of a map that it tells of.
+    /// can't have one, and so does a loss of packets of a stream, a cut of its units, or the new version of a map.
     pub fn take(
         &mut self,
         alloc: &Global,
@@ -176,7 +176,7 @@ impl UnitFeed {
         Ok(())
     }
 
-    /// The findings end: the last unit of each stream, in the order of the streams.
+    /// Ends the findings: feeds the last unit of each stream, in the order of the streams.
     pub fn finish(self, fed: &mut Vec<(u8, Result<Unit, FeedFault>)>) -> Result<(), AllocError>
         ensures { OnOk result (fed.new.items ≡ fed.old.items ++ spec.fed_ends self) }
     {

@@ -166,9 +166,9 @@ fn pass_all<R: Source, W: Sink, E: Sink>(
     }
 }
 
-/// Reads a stream as it comes, writes the record of each unit and tick that it feeds before the next read, reports each unit
+/// Reads a stream as it arrives, writes the record of each unit and tick that it feeds before the next read, reports each unit
 /// that has no moment, each loss of packets, whatever else cuts units, each new map and each jump of the clock, and returns the
-/// status: 0 all went out, 1 one of these was reported, 3 a device failed or out of memory.
+/// status: 0 all went out, 1 any of these was reported, 3 a device failed or out of memory.
 pub fn pass_stream<R: Source, W: Sink, E: Sink>(
     alloc: Global,
     feed: UnitFeed,

@@ -37,7 +37,7 @@ fn overwrite(room: &mut [u8], at: usize, part: &[u8])
 }
 
 impl PendingBytes {
-    /// None.
+    /// Returns no excesses.
     pub(crate) fn new() -> PendingBytes
         ensures { result.items ≡ [] }
     {
@@ -47,14 +47,14 @@ impl PendingBytes {
         }
     }
 
-    /// How many further bytes there is room for.
+    /// Returns how many further bytes there is room for.
     pub(crate) fn free(&self) -> usize
         ensures { result + length self.now.items ≡ 65536 }
     {
         ROOM - self.size
     }
 
-    /// The bytes.
+    /// Returns the bytes.
     pub(crate) fn as_slice(&self) -> &[u8]
         ensures { result.now ≡ self.now.items }
     {

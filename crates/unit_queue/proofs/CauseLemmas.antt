@@ -4,6 +4,7 @@ use Rattle.std.proofs.lemmas.Bool.{cases_Bool, cases_lt, lt-ltb, le-leb}
 use Rattle.std.proofs.lemmas.List.{length-append}
 use Rattle.pes_packet.specs.AccessUnits.{AccessUnit}
 use Rattle.pes_packet.specs.Encoding.{pes_packet_bytes, pes_header_bytes}
+use Rattle.pes_packet.specs.Marks.{marks_size}
 use Rattle.pes_packet.specs.StreamIds.{is_video, greatest_size, fits_packet}
 use Rattle.unit_queue.specs.declared.parameters.StreamParameters.{StreamParameters}
 use Rattle.unit_queue.specs.declared.refusal.FeedError.{FeedError}
@@ -54,7 +55,7 @@ or_false false b is = (refl, is)
 
 pub record OwnFacts (largest min_next_dts : ℕ) (u : AccessUnit) : Type 0 where
   pub some : 1 ≤ length u.bytes
-  pub most : length u.bytes ≤ largest
+  pub most : length u.bytes + marks_size u.marks ≤ largest
   pub spaced : min_next_dts ≤ u.dts
   pub later : u.dts ≤ u.pts
   pub soon : u.pts ≤ u.dts + 90_000
@@ -63,13 +64,13 @@ pub own_facts : (largest min_next_dts : ℕ) (u : AccessUnit) → own_cause larg
 unfolding own_cause
 own_facts largest min_next_dts u is =
     let a = test_none (length u.bytes == 0) Empty _ is in
-    let b = test_none (nat_lt largest (length u.bytes)) TooLarge _ a.1 in
+    let b = test_none (nat_lt largest (length u.bytes + marks_size u.marks)) TooLarge _ a.1 in
     let c = test_none (nat_lt u.dts min_next_dts) TooSoon _ b.1 in
     let d = test_none (is_bad_pts u.dts u.pts) BadPts None c.1 in
     let e = or_false (nat_lt u.pts u.dts) (nat_lt (u.dts + 90_000) u.pts) d.0 in
     record {
       some = some_size (length u.bytes) a.0;
-      most = not_lt largest (length u.bytes) b.0;
+      most = not_lt largest (length u.bytes + marks_size u.marks) b.0;
       spaced = not_lt u.dts min_next_dts c.0;
       later = not_lt u.pts u.dts e.0;
       soon = not_lt (u.dts + 90_000) u.pts e.1;
@@ -100,10 +101,13 @@ unit_is r min_next_dts late u is =
 greatest_most : (id : ℕ) → greatest_size id ≤ 4_000_000
 greatest_most id = elim (cases_Bool (is_video id)) [ inl v ↦ rw v (omega arith) | inr o ↦ rw o (omega arith) ]
 
-pub fits_unit : (r : StreamParameters) (u : AccessUnit) → ParametersInRange r → IsUnit r u → IsTrue (fits_packet r.stream_id (length u.bytes))
-fits_unit r u rules unit = search (rules, arith)
+unit_fits : (r : StreamParameters) (u : AccessUnit) → ParametersInRange r → IsUnit r u → length u.bytes ≤ r.size → IsTrue (fits_packet r.stream_id (length u.bytes))
+unit_fits r u rules unit most = search (rules, arith)
 
-pub size_few : (r : StreamParameters) (u : AccessUnit) (header : ℕ) → ParametersInRange r → IsUnit r u → header ≤ 19 → header + length u.bytes < 2 ^ 63
+pub fits_unit : (r : StreamParameters) (u : AccessUnit) → ParametersInRange r → IsUnit r u → IsTrue (fits_packet r.stream_id (length u.bytes))
+fits_unit r u rules unit = unit_fits r u rules unit (omega (arith, unit.most))
+
+pub size_few : (r : StreamParameters) (u : AccessUnit) (header : ℕ) → ParametersInRange r → IsUnit r u → header ≤ 45 → header + length u.bytes < 2 ^ 63
 size_few r u header rules unit few = omega (arith, few, unit.most, rules.size, greatest_most r.stream_id)
 
 pub not_le : (a b : ℕ) → nat_le a b ≡ false → b < a
@@ -114,10 +118,10 @@ not_le a b is = elim (cases_lt b a) [
 
 -- what is found of a unit is its DTS and size, and why it is refused
 pub timed_is : (r s : StreamParameters) (u : AccessUnit) (d size : ℕ) (header : List ℕ) → s ≡ r → d ≡ u.dts → size ≡ length header + length u.bytes →
-    header ≡ pes_header_bytes s.stream_id (length u.bytes) (u.pts + s.base0) (u.dts + s.base0) → record { dts = d; size = size } ≡ timed_by r u
+    header ≡ pes_header_bytes s.stream_id (length u.bytes) u.marks (u.pts + s.base0) (u.dts + s.base0) → record { dts = d; size = size } ≡ timed_by r u
 unfolding pes_packet_bytes
 timed_is r s u d size header same due parts is =
-    rw (due, parts, is, same, length-append (pes_header_bytes r.stream_id (length u.bytes) (u.pts + r.base0) (u.dts + r.base0)) u.bytes) refl
+    rw (due, parts, is, same, length-append (pes_header_bytes r.stream_id (length u.bytes) u.marks (u.pts + r.base0) (u.dts + r.base0)) u.bytes) refl
 
 pub room_is : (q : Queue) (slots : ℕ) (u : AccessUnit) (unit : PesPacket) (cause : Option FeedError) → unit ≡ timed_by q.parameters u →
     None ≡ or_cause (own_cause q.parameters.size q.min_next_dts u) (time_cause (late_at q.parameters slots u.dts) u.dts) →
@@ -126,7 +130,7 @@ room_is q slots u unit cause timed none is = (rw timed at is) ∙ sym (or_rest _
 
 -- with which it is taken
 pub queued_is : (r s : StreamParameters) (u : AccessUnit) (slot : ℕ) (header : List ℕ) → s ≡ r → slot ≡ release r.rate r.lead u.dts →
-    header ≡ pes_header_bytes s.stream_id (length u.bytes) (u.pts + s.base0) (u.dts + s.base0) → record { release = slot; header = header; bytes = u.bytes } ≡ queued r u
+    header ≡ pes_header_bytes s.stream_id (length u.bytes) u.marks (u.pts + s.base0) (u.dts + s.base0) → record { release = slot; header = header; bytes = u.bytes } ≡ queued r u
 queued_is r s u slot header same a b = rw (a, b, same) refl
 
 pub accepted_is : (q : Queue) (u : AccessUnit) (unit : PesPacket) (x : Queued) → unit ≡ timed_by q.parameters u → x ≡ queued q.parameters u → joined q unit x ≡ accepted q u

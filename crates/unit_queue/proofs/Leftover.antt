@@ -1,35 +1,42 @@
 -- What own slots carry, and what is left before them.
-use Rattle.std.proofs.Common.{◌≡◌, ℕ, ◌+◌, ◌-◌, ◌<◌, ◌≤◌, ◌==◌, Some, None, List, [], ◌∷◌, ◌++◌, length, refl, sym, ◌∙◌, inl, inr, arith}
-use Rattle.std.proofs.lemmas.Bool.{cases_lt, cases_Bool, lt-ltb, le-ltb}
+use Rattle.std.proofs.Common.{◌≡◌, ℕ, ◌+◌, ◌-◌, ◌<◌, ◌≤◌, ◌==◌, Bool, true, false, cond, Some, None, List, [], ◌∷◌, ◌++◌, length, refl, sym, ◌∙◌, inl, inr, arith}
+use Rattle.std.proofs.lemmas.Bool.{cases_lt, lt-ltb, le-ltb}
 use Rattle.std.proofs.lemmas.List.{length-append}
 use Rattle.clock27.specs.Release.{release}
 use Rattle.own_slots.specs.Slots.{own_before}
 use Rattle.pes_packet.specs.AccessUnits.{AccessUnit}
 use Rattle.pes_packet.specs.Encoding.{pes_packet_bytes, pes_header_bytes, header_size, on_wire}
+use Rattle.pes_packet.specs.Marks.{marks_size}
+use Rattle.pes_packet.specs.declared.marks.Marks.{Marks}
 use Rattle.pes_packet.proofs.Written.{header_sizes}
 use Rattle.unit_timing.specs.Schedule.{first_slot as first_own_slot}
 use Rattle.unit_queue.specs.OwnedStreams.{OwnedStream, pes_bytes, packet_count, first_slot, end_slot}
 use Rattle.unit_queue.specs.Places.{place_at, left_at}
 
 -- a header has 14 bytes or more, so that each unit has a packet
-header_some : (pts dts : ℕ) → 14 ≤ header_size pts dts
-header_some pts dts = elim (cases_Bool (on_wire pts == on_wire dts)) [
-  | inl same ↦ rw same (omega arith)
-  | inr other ↦ rw other (omega arith)
-]
+some_by : (long same : Bool) → 14 ≤ cond long 45 (cond same 14 19)
+some_by true same = omega arith
+some_by false true = omega arith
+some_by false false = omega arith
 
-pub header_most : (id size pts dts : ℕ) → length (pes_header_bytes id size pts dts) ≤ 19
-header_most id size pts dts = rw (header_sizes id size pts dts) (elim (cases_Bool (on_wire pts == on_wire dts)) [
-  | inl same ↦ rw same (omega arith)
-  | inr other ↦ rw other (omega arith)
-])
+header_some : (marks : Marks) (pts dts : ℕ) → 14 ≤ header_size marks pts dts
+header_some marks pts dts = some_by marks.long (on_wire pts == on_wire dts)
+
+most_by : (long same : Bool) → cond long 45 (cond same 14 19) ≤ 19 + cond long 26 0
+most_by true same = omega arith
+most_by false true = omega arith
+most_by false false = omega arith
+
+-- it has at most 19 bytes, and what the marks take
+pub header_most : (id size : ℕ) (marks : Marks) (pts dts : ℕ) → length (pes_header_bytes id size marks pts dts) ≤ 19 + marks_size marks
+header_most id size marks pts dts = rw (header_sizes id size marks pts dts) (most_by marks.long (on_wire pts == on_wire dts))
 
 pub text_some : (l : OwnedStream) (u : AccessUnit) → 14 ≤ length (pes_bytes l u)
 unfolding pes_packet_bytes
 text_some l u =
-    let header = pes_header_bytes l.parameters.stream_id (length u.bytes) (u.pts + l.parameters.base0) (u.dts + l.parameters.base0) in
-    let size = header_sizes l.parameters.stream_id (length u.bytes) (u.pts + l.parameters.base0) (u.dts + l.parameters.base0) in
-    omega (arith, length-append header u.bytes, size, header_some (u.pts + l.parameters.base0) (u.dts + l.parameters.base0))
+    let header = pes_header_bytes l.parameters.stream_id (length u.bytes) u.marks (u.pts + l.parameters.base0) (u.dts + l.parameters.base0) in
+    let size = header_sizes l.parameters.stream_id (length u.bytes) u.marks (u.pts + l.parameters.base0) (u.dts + l.parameters.base0) in
+    omega (arith, length-append header u.bytes, size, header_some u.marks (u.pts + l.parameters.base0) (u.dts + l.parameters.base0))
 
 pub count_some : (l : OwnedStream) (u : AccessUnit) → 0 < packet_count l u
 count_some l u = omega (arith, text_some l u)

@@ -7,6 +7,7 @@ use Rattle.own_slots.specs.Slots.{own_before}
 use Rattle.own_slots.proofs.Counts.{own_before_own, own_before_other, own_before_le, own_before_lt}
 use Rattle.pes_packet.specs.AccessUnits.{AccessUnit}
 use Rattle.pes_packet.specs.Encoding.{pes_packet_bytes, pes_header_bytes}
+use Rattle.pes_packet.specs.Marks.{marks_size}
 use Rattle.unit_timing.specs.declared.allowance.Allowance.{Allowance}
 use Rattle.unit_timing.specs.declared.allowance.Allowance.TheVariants.{Groups, Pace}
 use Rattle.unit_timing.specs.PesPacket.{PesPacket, Spaced, Sized, GroupsWithin, next_due}
@@ -151,11 +152,11 @@ accepted_facts l slots capacity us u none =
     }
 
 -- it stays within the declaration
-text_most : (l : OwnedStream) (u : AccessUnit) → length u.bytes ≤ l.parameters.size → length (pes_bytes l u) ≤ 19 + l.parameters.size
+text_most : (l : OwnedStream) (u : AccessUnit) → length u.bytes + marks_size u.marks ≤ l.parameters.size → length (pes_bytes l u) ≤ 19 + l.parameters.size
 unfolding pes_packet_bytes
 text_most l u most =
-    let header = pes_header_bytes l.parameters.stream_id (length u.bytes) (u.pts + l.parameters.base0) (u.dts + l.parameters.base0) in
-    omega (arith, most, length-append header u.bytes, header_most l.parameters.stream_id (length u.bytes) (u.pts + l.parameters.base0) (u.dts + l.parameters.base0))
+    let header = pes_header_bytes l.parameters.stream_id (length u.bytes) u.marks (u.pts + l.parameters.base0) (u.dts + l.parameters.base0) in
+    omega (arith, most, length-append header u.bytes, header_most l.parameters.stream_id (length u.bytes) u.marks (u.pts + l.parameters.base0) (u.dts + l.parameters.base0))
 
 pub kept_law : KeptLaw
 kept_law l slots capacity us u rules none kept =

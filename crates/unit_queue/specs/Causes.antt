@@ -2,6 +2,7 @@
 use Rattle.std.specs.Prelude.{ℕ, ◌+◌, ◌^◌, ◌==◌, ◌||◌, nat_lt, nat_le, Bool, if◌then◌else◌, Option, Some, None, Result, Ok, Err, List, length, map}
 use Rattle.clock27.specs.Release.{release}
 use Rattle.pes_packet.specs.AccessUnits.{AccessUnit}
+use Rattle.pes_packet.specs.Marks.{marks_size}
 use Rattle.unit_timing.specs.declared.allowance.Allowance.{Allowance}
 use Rattle.unit_timing.specs.declared.allowance.Allowance.TheVariants.{Groups, Pace}
 use Rattle.unit_timing.specs.PesPacket.{next_due}
@@ -20,11 +21,11 @@ or_cause None next = next
 abbrev pub is_bad_pts : ℕ → ℕ → Bool
 is_bad_pts dts pts = nat_lt pts dts || nat_lt (dts + 90_000) pts
 
--- of the unit by itself and its distance from the one before: it has at most `largest` bytes, and no DTS below `min_next_dts` is accepted
+-- of the unit by itself and its distance from the one before: with what its marks take it has at most `largest` bytes, and no DTS below `min_next_dts` is accepted
 unfoldable pub own_cause : ℕ → ℕ → AccessUnit → Option FeedError
 own_cause largest min_next_dts u =
     if length u.bytes == 0 then Some Empty
-    else (if nat_lt largest (length u.bytes) then Some TooLarge
+    else (if nat_lt largest (length u.bytes + marks_size u.marks) then Some TooLarge
     else (if nat_lt u.dts min_next_dts then Some TooSoon
     else (if is_bad_pts u.dts u.pts then Some BadPts
     else None)))

@@ -3,6 +3,7 @@ use Rattle.std.specs.Prelude.{◌≡◌, ◌≤◌, ◌<◌, ℕ, ◌+◌, ◌*�
 use Rattle.clock27.specs.Release.{release}
 use Rattle.pes_packet.specs.AccessUnits.{AccessUnit}
 use Rattle.pes_packet.specs.Encoding.{pes_header_bytes}
+use Rattle.pes_packet.specs.Marks.{marks_size}
 use Rattle.pes_packet.specs.StreamIds.{is_unit_id, greatest_size}
 use Rattle.unit_timing.specs.PesPacket.{Spaced, Sized}
 use Rattle.unit_timing.specs.Allowances.{KeepsAllowance, allowance_rows}
@@ -20,14 +21,14 @@ pub record ParametersInRange (r : StreamParameters) : Type 0 where
   pub size : r.size ≤ greatest_size r.stream_id
   pub rows : 0 < allowance_rows r.allowance
 
--- the maximum number of packets of a unit, whose header has at most 19 bytes
+-- the maximum number of packets of a unit, whose header has at most 19 bytes and what its marks take
 abbrev pub max_packets_per_unit : StreamParameters → ℕ
 max_packets_per_unit r = (19 + r.size + 183) / 184
 
--- the units that a stream accepts: each by itself, their distances, their sizes and the number of their packets
+-- the units that a stream accepts: each by itself, with what its marks take, their distances, their sizes and the number of their packets
 pub record IsUnit (r : StreamParameters) (u : AccessUnit) : Type 0 where
   pub some : 1 ≤ length u.bytes
-  pub most : length u.bytes ≤ r.size
+  pub most : length u.bytes + marks_size u.marks ≤ r.size
   pub later : u.dts ≤ u.pts
   pub soon : u.pts ≤ u.dts + 90_000
   pub last : u.dts ≤ 2 ^ 52
@@ -59,7 +60,7 @@ pub record Queue : Type 0 where
 abbrev pub queued : StreamParameters → AccessUnit → Queued
 queued r u = record {
   release = release r.rate r.lead u.dts;
-  header = pes_header_bytes r.stream_id (length u.bytes) (u.pts + r.base0) (u.dts + r.base0);
+  header = pes_header_bytes r.stream_id (length u.bytes) u.marks (u.pts + r.base0) (u.dts + r.base0);
   bytes = u.bytes;
 }
 

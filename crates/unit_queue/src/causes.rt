@@ -11,8 +11,9 @@ use unit_timing::allowance::Allowance;
 // No DTS over this is accepted.
 const MAX_DTS: u64 = 1 << 52;
 
-/// The first cause that lies in the unit by itself and in its distance from the one before: it has 1 to `largest`
-/// bytes, its DTS is `min_next_dts` or later, and its PTS at most 90,000 after its DTS.
+/// Returns the first cause that lies in the unit by itself and in its distance from the one before: it has a byte, and
+/// with what its marks take at most `largest`, its DTS is `min_next_dts` or later, and its PTS at most 90,000 after its
+/// DTS.
 #[tactic(auto, unfolding(crate::specs::Causes::own_cause))]
 pub fn own_cause<A: Allocator>(
     largest: usize,
@@ -24,7 +25,7 @@ pub fn own_cause<A: Allocator>(
     let size = unit.bytes.len();
     if size == 0 {
         Some(FeedError::Empty)
-    } else if size > largest {
+    } else if size + unit.marks.size() > largest {
         Some(FeedError::TooLarge)
     } else if unit.dts < min_next_dts {
         Some(FeedError::TooSoon)
@@ -35,7 +36,7 @@ pub fn own_cause<A: Allocator>(
     }
 }
 
-/// The first cause that lies in its time: it is late, or its DTS is over 2^52.
+/// Returns the first cause that lies in its time: it is late, or its DTS is over 2^52.
 #[tactic(auto, unfolding(crate::specs::Causes::time_cause))]
 pub fn time_cause(late: bool, dts: u64) -> Option<FeedError>
     ensures { result ≡ time_cause late dts }
@@ -49,7 +50,7 @@ pub fn time_cause(late: bool, dts: u64) -> Option<FeedError>
     }
 }
 
-/// The cause that lies in its packets: they are over what its stream declares by groups or by pace.
+/// Returns the cause that lies in its packets: they are over what its stream declares by groups or by pace.
 pub(crate) fn packets_cause(allowance: Allowance, over: bool) -> Option<FeedError>
     ensures { result ≡ packets_cause allowance over }
 {
@@ -60,7 +61,7 @@ pub(crate) fn packets_cause(allowance: Allowance, over: bool) -> Option<FeedErro
     }
 }
 
-/// The first cause that lies in the room for it: the queue is full, or that of its packets.
+/// Returns the first cause that lies in the room for it: the queue is full, or that of its packets.
 #[tactic(auto, unfolding(crate::specs::Causes::room_cause))]
 pub(crate) fn room_cause(full: bool, over: Option<FeedError>) -> Option<FeedError>
     ensures { result ≡ room_cause full over }

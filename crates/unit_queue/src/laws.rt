@@ -4,48 +4,48 @@ ghost use Rattle.unit_queue.specs.Laws.{FirstLaw, StreamSlotLaw, OtherStreamSlot
 ghost use Rattle.unit_queue.specs.Laws.{LaterUnitLaw};
 ghost use Rattle.unit_queue.specs.Laws.{ContentLaw, CarriedLaw};
 
-/// A queue that is made stands for a stream that has accepted no unit.
+/// States that a new queue represents a stream that has accepted no unit.
 pub fn first_unit()
     ensures { FirstLaw }
 {}
 
-/// In an own slot a queue gives the packet that the stream's units have there, and stands for one slot more.
+/// States that a queue gives, in an own slot, the packet that the stream's units have there, and then represents one slot more.
 pub fn own_slot()
     ensures { StreamSlotLaw }
 {}
 
-/// A slot that is not the stream's own changes nothing.
+/// States that a slot that is not the stream's own changes nothing.
 pub fn other_slot()
     ensures { OtherStreamSlotLaw }
 {}
 
-/// A queue refuses a unit for the cause that its history has.
+/// States that a queue refuses a unit for the cause that its history has.
 pub fn cause_of_refusal()
     ensures { CauseLaw }
 {}
 
-/// With an accepted unit a queue stands for one unit more.
+/// States that a queue represents one unit more after it accepts a unit.
 pub fn accepted_unit()
     ensures { FedLaw }
 {}
 
-/// Accepted units stay within what the stream declares.
+/// States that accepted units stay within what the stream declares.
 pub fn kept_units()
     ensures { KeptLaw }
 {}
 
-/// An accepted unit changes nothing in the slots that are written.
+/// States that an accepted unit changes nothing in the slots that are written.
 pub fn later_unit()
     ensures { LaterUnitLaw }
 {}
 
-/// What an own slot carries can be a packet.
+/// States that what an own slot carries can be a packet.
 pub fn slot_contents()
     ensures { ContentLaw }
 {}
 
-/// Where a stream has its PID for itself, the finished bytes carry its units: counters, payloads in order, none early,
-/// and the packets that the timing speaks of.
+/// States that, if a stream has its PID for itself, the finished bytes carry its units: counters, payloads in order, none
+/// early, and the packets that the timing speaks of.
 pub fn carried_units()
     ensures { CarriedLaw }
 {}

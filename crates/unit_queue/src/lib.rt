@@ -4,11 +4,11 @@
 //! release, DTS less lead, and then takes own slots one after another: its PES packet, 184 bytes a slot. A queue takes
 //! its memory once; feeding a unit and sending a packet take none.
 //!
-//! Definitions stand in `specs/`: `OwnedStreams` is a stream with its own slots, `Places` says which own slot carries
-//! which piece of which unit, `Causes` why a unit is refused, `Queues` what the state of a queue stands for, `Tallies`
-//! what it counts of the units accepted, `Payloads` what is then found in the finished bytes. None but `QueueSteps`
-//! speaks of the queue's fields. The modules in reading order: what a stream declares, why a unit is refused, the pieces
-//! of a PES packet, a waiting unit, what is counted of accepted units, the queue, the laws.
+//! Definitions are in `specs/`: `OwnedStreams` is a stream with its own slots, `Places` says which own slot carries
+//! which piece of a unit, `Causes` why a unit is refused, `Queues` what the state of a queue represents, `Tallies`
+//! what it counts of the accepted units, `Payloads` what the finished bytes then hold. Only `QueueSteps` speaks of the
+//! queue's fields. The modules in reading order: a stream's declaration, why a unit is refused, the pieces of a PES
+//! packet, a waiting unit, the counts of accepted units, the queue, the laws.
 #![tactic(auto)]
 
 mod causes;

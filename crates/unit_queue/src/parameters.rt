@@ -15,7 +15,7 @@ use unit_timing::allowance::Allowance;
 pub struct StreamParameters {
     /// The rate of the output.
     pub rate: Rate,
-    /// The clock's value at slot 0, by which stamps are moved: below 2^33.
+    /// The clock's value at slot 0, which is added to stamps: below 2^33.
     pub base0: u64,
     /// The PID of its packets.
     pub pid: u16,
@@ -25,7 +25,7 @@ pub struct StreamParameters {
     pub lead: u32,
     /// The minimum time from one DTS to the next.
     pub interval: u32,
-    /// The maximum size of a unit in bytes.
+    /// The maximum size of a unit in bytes, with what its marks take.
     pub size: u32,
     /// The most packets of units in a row: of groups of 1 unit or more, or by pace.
     pub allowance: Allowance,
@@ -33,17 +33,18 @@ pub struct StreamParameters {
 
 impl StreamParameters {
     // The PES header of a unit.
-    pub(crate) fn header<A: Allocator>(&self, unit: &Unit<A>) -> ArrayVec<u8, 19>
+    pub(crate) fn header<A: Allocator>(&self, unit: &Unit<A>) -> ArrayVec<u8, 45>
         requires base0 { self.now.base0 < 2 ^ 33 }
         requires fits { IsTrue (fits_packet self.now.stream_id (length unit.now.bytes)) }
         requires dts { unit.now.dts < 2 ^ 63 }
         requires pts { unit.now.pts < 2 ^ 63 }
-        ensures { result.items ≡ pes_header_bytes self.now.stream_id (length unit.now.bytes)
+        ensures { result.items ≡ pes_header_bytes self.now.stream_id (length unit.now.bytes) unit.now.marks
             (unit.now.pts + self.now.base0) (unit.now.dts + self.now.base0) }
     {
         write_header(
             self.stream_id,
             unit.bytes.len(),
+            unit.marks,
             unit.pts + self.base0,
             unit.dts + self.base0,
         )

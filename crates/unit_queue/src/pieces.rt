@@ -21,7 +21,7 @@ pub fn write_piece(
     sent: usize,
 ) -> bool
     requires pid { pid < 2 ^ 13 }
-    requires header { length header.now ≤ 19 }
+    requires header { length header.now ≤ 45 }
     ensures packet { packet.new ≡ packet_of (payload_or_null pid counter (sent == 0)
         (take 184 (drop sent (header.now ++ bytes.now)))) }
     ensures more { result ≡ nat_lt 184 (length (drop sent (header.now ++ bytes.now))) }
@@ -40,7 +40,7 @@ pub fn write_piece(
     }
 }
 
-/// The number of packets that `size` bytes need.
+/// Returns the number of packets that `size` bytes need.
 pub(crate) fn packet_count(size: usize) -> u64
     requires { size < 2 ^ 63 }
     ensures { result ≡ piece_count size }
@@ -68,7 +68,7 @@ fn write_front(
 )
     requires pid { pid < 2 ^ 13 }
     requires lower { 0 < length header.now }
-    requires upper { length header.now ≤ 19 }
+    requires upper { length header.now ≤ 45 }
     ensures { packet.new ≡ packet_of (payload_or_null pid counter start (take 184 (header.now ++ bytes.now))) }
 {
     let room = MAX_PAYLOAD - header.len();

@@ -60,7 +60,7 @@ impl<A: Allocator> Model for UnitQueue<A> {
 }
 
 impl<A: Allocator + Clone> UnitQueue<A> {
-    /// A queue for `capacity` units, with no unit in it.
+    /// Returns a queue for `capacity` units, with no unit in it.
     pub fn new(
         alloc: A,
         parameters: StreamParameters,
@@ -171,8 +171,8 @@ impl<A: Allocator> UnitQueue<A> {
             .saturating_sub(u64::from(self.parameters.interval))
     }
 
-    /// The packet of an own slot: the next piece of the unit under way, else the first of the next unit, where the slot
-    /// of its release is `slot` or before; else the null packet.
+    /// Returns the packet of an own slot: the next piece of the current unit; or the first piece of the next unit, if the
+    /// slot of its release is `slot` or before; or the null packet.
     pub fn next(&mut self, slot: u64) -> [u8; 188]
         // Of any stream and its units that the queue stands for: their packet in this slot, and one slot more.
         ensures stands { (l : OwnedStream) (capacity : ℕ) (us : List AccessUnit) → l.own slot ≡ true →
@@ -187,7 +187,7 @@ impl<A: Allocator> UnitQueue<A> {
         packet
     }
 
-    /// The same, written over the bytes of `packet`: no byte of it is copied again.
+    /// Writes the same over the bytes of `packet`: no byte of it is copied again.
     #[tactic(auto, unfolding(crate::specs::QueueSteps::front_content, crate::specs::QueueSteps::front_sent, slot_contents::specs::Contents::packet_of))]
     pub fn write_next(&mut self, slot: u64, packet: &mut [u8; 188])
         ensures packet { packet.new ≡ packet_of (queue_content slot self.old) }
@@ -216,7 +216,7 @@ impl<A: Allocator> UnitQueue<A> {
         }
     }
 
-    /// The number of units that are not sent whole.
+    /// Returns the number of units that are not sent whole.
     pub fn waiting(&self) -> usize
         ensures state { result ≡ length self.now.units }
     {

@@ -14,7 +14,7 @@ use std::marker::Model;
 #[derive(Drop)]
 pub(crate) struct QueuedUnit<A: Allocator> {
     pub release: u64,
-    header: ArrayVec<u8, 19>,
+    header: ArrayVec<u8, 45>,
     bytes: Vec<u8, A>,
 }
 
@@ -27,8 +27,8 @@ impl<A: Allocator> Model for QueuedUnit<A> {
 }
 
 impl<A: Allocator> QueuedUnit<A> {
-    /// A unit with the slot of its release and its header.
-    pub fn new(release: u64, header: ArrayVec<u8, 19>, unit: Unit<A>) -> QueuedUnit<A>
+    /// Returns a unit with the slot of its release and its header.
+    pub fn new(release: u64, header: ArrayVec<u8, 45>, unit: Unit<A>) -> QueuedUnit<A>
         ensures { result ≡ record { release = release; header = header.items; bytes = unit.bytes } }
     {
         QueuedUnit {

@@ -41,7 +41,7 @@ pub enum FeedError {
 }
 
 impl FeedError {
-    /// The number of this refusal in fault lines.
+    /// Returns the number of this refusal in fault lines.
     pub fn code(self) -> u8
         ensures { result ≡ feed_code self }
     {

@@ -1,4 +1,4 @@
-//! What is counted of the packets of accepted units, by which those of the next unit are judged.
+//! Counts of the packets of accepted units, which judge the packets of the next unit.
 
 ghost use Rattle.std.specs.Prelude.{◌≡◌, ◌<◌, ◌+◌, ◌^◌, nat_lt, false, sum, IfOk};
 ghost use Rattle.unit_timing.specs.Allowances.{allowance_rows};
@@ -31,7 +31,7 @@ impl<A: Allocator> Model for PacketTally<A> {
 }
 
 impl<A: Allocator> PacketTally<A> {
-    /// The tally of a stream with no unit.
+    /// Returns the tally of a stream with no unit.
     pub fn new(alloc: A, allowance: Allowance) -> Result<PacketTally<A>, AllocError>
         requires { 0 < allowance_rows allowance }
         ensures { IfOk result (λ tally. tally ≡ empty_tally allowance) }
@@ -40,8 +40,8 @@ impl<A: Allocator> PacketTally<A> {
         Ok(PacketTally { recent, level: 0 })
     }
 
-    /// Whether a unit of this DTS and size in bytes has more packets than are allowed, where the unit before is due at
-    /// `last`.
+    /// Returns whether a unit of this DTS and size in bytes has more packets than are allowed, where the unit before
+    /// is due at `last`.
     pub fn exceeds(&self, allowance: Allowance, last: u64, dts: u64, size: usize) -> bool
         requires { size < 2 ^ 63 }
         ensures { result ≡ exceeds allowance self.now last (record { dts = dts; size = size }) }
@@ -54,7 +54,7 @@ impl<A: Allocator> PacketTally<A> {
         }
     }
 
-    /// Counts a unit that is within what is allowed.
+    /// Counts a unit that is within the allowance.
     pub fn add(&mut self, allowance: Allowance, last: u64, dts: u64, size: usize)
         requires size { size < 2 ^ 63 }
         requires within { exceeds allowance self.old last (record { dts = dts; size = size }) ≡ false }

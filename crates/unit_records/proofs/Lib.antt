@@ -1,3 +1,4 @@
+pub mod RecordWords
 pub mod RecordReading
 pub mod RecordBytes
 pub mod RecordTaking

@@ -1,12 +1,13 @@
 -- A record whose bytes come one after another is the record at the front of them all.
-use Rattle.std.proofs.Common.{◌≡◌, ◌==◌, Bool, true, false, not, ℕ, suc, ◌+◌, ◌-◌, ◌<◌, ◌≤◌, List, [], ◌∷◌, ◌++◌, length, take, drop, min, slice_index, Some, Ok, Err, refl, sym, ap, ap₂, subst, ◌∙◌, arith, append_assoc, take_at, drop_at, take_all, inl, inr}
+use Rattle.std.proofs.Common.{◌≡◌, ◌==◌, Bool, true, false, not, ℕ, suc, ◌+◌, ◌-◌, ◌/◌, ◌^◌, ◌<◌, ◌≤◌, List, [], ◌∷◌, ◌++◌, length, take, drop, min, slice_index, Some, Ok, Err, refl, sym, ap, ap₂, subst, ◌∙◌, arith, append_assoc, take_at, drop_at, take_all, inl, inr}
 use Rattle.std.proofs.lemmas.Bool.{cases_lt, eqb-true}
 use Rattle.std.proofs.lemmas.List.{append-nil, length-append, length-drop, length-take-le, drop-append-le, drop-drop, take-append-drop, take-append-le}
 use Rattle.byteorder.specs.Endian.{big_from, big_number}
 use Rattle.byteorder.specs.Numbers.{big_from-take}
 use Rattle.pes_packet.specs.AccessUnits.{AccessUnit}
+use Rattle.pes_packet.specs.declared.marks.Marks.{Marks}
 use Rattle.unit_records.specs.OpenRecords.{EndsRecord, IsOpen, IsPart, NamesSize, StaysRefused, come_of, entry_of}
-use Rattle.unit_records.specs.Records.{after_record, max_unit_size, record_at, size_at, unit_at}
+use Rattle.unit_records.specs.Records.{after_record, marks_at, marks_in, max_unit_size, record_at, size_at, size_in, unit_at}
 use Rattle.unit_records.specs.declared.taking.OpenRecord.{OpenRecord}
 use Rattle.unit_records.specs.declared.reading.UnitFileError.{UnitFileError}
 use Rattle.unit_records.specs.declared.reading.UnitFileError.TheVariants.{Cut, Size, Device, Memory}
@@ -25,7 +26,10 @@ number_after at n xs more h =
     ap (λ (ys : List ℕ). big_number n ys) (drop-append-le at xs more (omega (arith, h))) ∙ number_front n (drop at xs) more (omega (arith, h, left))
 
 size_front : (head more : List ℕ) → 5 ≤ length head → size_at (head ++ more) ≡ size_at head
-size_front head more h = number_after 1 4 head more (omega (arith, h))
+size_front head more h = ap size_in (number_after 1 4 head more (omega (arith, h)))
+
+marks_front : (head more : List ℕ) → 5 ≤ length head → marks_at (head ++ more) ≡ marks_at head
+marks_front head more h = ap (λ (n : ℕ). marks_in (n / 2 ^ 24)) (number_after 1 4 head more (omega (arith, h)))
 
 first_front : (head more : List ℕ) → 0 < length head → slice_index (head ++ more) 0 ≡ slice_index head 0
 first_front [] more h = absurd (omega (arith, h))
@@ -112,6 +116,10 @@ spread head unit bytes more n m f =
     ∙ ap (λ (xs : List ℕ). (head ++ take n bytes) ++ (unit ++ (take m (drop n bytes) ++ (xs ++ more)))) (drop-drop m n bytes)
     ∙ ap (λ (xs : List ℕ). (head ++ take n bytes) ++ xs) (sym (append_assoc unit (take m (drop n bytes)) (drop (n + m) bytes ++ more)))
 
+unit_same : (dts pts : ℕ) (marks : Marks) (bytes : List ℕ) (dts2 pts2 : ℕ) (marks2 : Marks) (bytes2 : List ℕ) → dts ≡ dts2 → pts ≡ pts2 → marks ≡ marks2 → bytes ≡ bytes2
+    → ◌≡◌ {A = AccessUnit} (record { dts = dts; pts = pts; marks = marks; bytes = bytes }) (record { dts = dts2; pts = pts2; marks = marks2; bytes = bytes2 })
+unit_same dts pts marks bytes dts2 pts2 marks2 bytes2 d p m b = rw (d, p, m, b) refl
+
 -- a whole head and a unit of the size that it names, whatever follows
 whole_front : (head unit rest : List ℕ) → length head ≡ 21 → size_at head ≡ length unit → length unit ≤ max_unit_size →
     (record_at (head ++ (unit ++ rest)) ≡ Ok (Some (entry_of head unit))) × (after_record (head ++ (unit ++ rest)) ≡ rest)
@@ -123,7 +131,8 @@ whole_front head unit rest full s max =
     ap (λ (k : ℕ). take k (drop 21 all)) size ∙ ap (take {A = ℕ} (length unit)) after ∙ take_at unit rest (length unit) refl in
     let dts : big_number 8 (drop 5 all) ≡ big_number 8 (drop 5 head) = number_after 5 8 head (unit ++ rest) (omega (arith, full)) in
     let pts : big_number 8 (drop 13 all) ≡ big_number 8 (drop 13 head) = number_after 13 8 head (unit ++ rest) (omega (arith, full)) in
-    let unit_is : unit_at all ≡ (entry_of head unit).1 = rw (dts, pts, body) refl in
+    let marks : marks_at all ≡ marks_at head = marks_front head (unit ++ rest) (omega (arith, full)) in
+    let unit_is : unit_at all ≡ (entry_of head unit).1 = unit_same _ _ _ _ _ _ _ _ dts pts marks body in
     let count = length-append head (unit ++ rest) in
     record_of all (slice_index head 0) (entry_of head unit).1 rest (first_front head (unit ++ rest) (omega (arith, full))) size unit_is after (omega (arith, count, full)) max
 

@@ -2,7 +2,7 @@
 use Rattle.std.specs.Prelude.{◌≡◌, ◌≤◌, ◌<◌, ℕ, ◌+◌, List, [], ◌++◌, length, drop, slice_index, Option, Some, None, Result, Ok, Err, ⊤}
 use Rattle.byteorder.specs.Endian.{big_number}
 use Rattle.pes_packet.specs.AccessUnits.{AccessUnit}
-use Rattle.unit_records.specs.Records.{after_record, head_size, max_unit_size, record_at, size_at}
+use Rattle.unit_records.specs.Records.{after_record, head_size, marks_at, max_unit_size, record_at, size_at}
 use Rattle.unit_records.specs.declared.reading.UnitFileError.{UnitFileError}
 use Rattle.unit_records.specs.declared.reading.UnitFileError.TheVariants.{Cut, Size, Device, Memory}
 use Rattle.unit_records.specs.declared.taking.OpenRecord.{OpenRecord}
@@ -48,7 +48,8 @@ NamesSize head (Err Memory) = ⊥
 
 -- the entry of a whole head and a unit
 abbrev pub entry_of : List ℕ → List ℕ → ℕ × AccessUnit
-entry_of head unit = (slice_index head 0, record { dts = big_number 8 (drop 5 head); pts = big_number 8 (drop 13 head); bytes = unit })
+entry_of head unit =
+    (slice_index head 0, record { dts = big_number 8 (drop 5 head); pts = big_number 8 (drop 13 head); marks = marks_at head; bytes = unit })
 
 -- the entry was taken out, or its unit still lacks bytes
 abbrev pub ClosesRecord : ℕ → OpenRecord → OpenRecord → Option (ℕ × AccessUnit) → Type 0

@@ -1,7 +1,8 @@
 -- The parts of a record, as they are read one by one.
 use Rattle.std.specs.Prelude.{◌≡◌, ◌≤◌, ◌<◌, ℕ, List, [], length, take, drop, slice_index, Option, Some, None, Result, Ok, Err}
 use Rattle.byteorder.specs.Endian.{big_number}
-use Rattle.unit_records.specs.Records.{StopsWithin, max_unit_size, size_at}
+use Rattle.pes_packet.specs.declared.marks.Marks.{Marks}
+use Rattle.unit_records.specs.Records.{StopsWithin, marks_at, max_unit_size, size_at}
 use Rattle.unit_records.specs.declared.reading.UnitFileError.{UnitFileError}
 use Rattle.unit_records.specs.declared.reading.UnitFileError.TheVariants.{Cut, Size, Device, Memory}
 
@@ -13,11 +14,11 @@ FillsWhole xs left part (Err Size) = ⊥
 FillsWhole xs left part (Err Device) = StopsWithin (length part) xs left
 FillsWhole xs left part (Err Memory) = ⊥
 
--- the stream and the size
-abbrev pub ReadsStart : List ℕ → Option (List ℕ) → Result (Option (ℕ × ℕ)) UnitFileError → Type 0
+-- the stream, the marks and the size
+abbrev pub ReadsStart : List ℕ → Option (List ℕ) → Result (Option (ℕ × Marks × ℕ)) UnitFileError → Type 0
 ReadsStart xs left (Ok None) = (xs ≡ []) × (left ≡ Some [])
 ReadsStart xs left (Ok (Some start)) =
-    (5 ≤ length xs) × (start.0 ≡ slice_index xs 0) × (start.1 ≡ size_at xs) × (start.1 ≤ max_unit_size) × (left ≡ Some (drop 5 xs))
+    (5 ≤ length xs) × (start ≡ (slice_index xs 0, marks_at xs, size_at xs)) × (size_at xs ≤ max_unit_size) × (left ≡ Some (drop 5 xs))
 ReadsStart xs left (Err Cut) = (0 < length xs) × (length xs < 5) × (left ≡ Some [])
 ReadsStart xs left (Err Size) = (5 ≤ length xs) × (max_unit_size < size_at xs) × (left ≡ Some (drop 5 xs))
 ReadsStart xs left (Err Device) = StopsWithin 5 xs left

@@ -1,7 +1,10 @@
--- Records of access units: stream 1 byte, size 4, DTS 8, PTS 8, the highest byte first, then the unit's bytes.
-use Rattle.std.specs.Prelude.{◌≡◌, ◌≤◌, ◌<◌, ℕ, ◌+◌, ◌==◌, nat_lt, if◌then◌else◌, List, [], ◌∷◌, ◌++◌, length, take, drop, slice_index, Option, Some, None, Result, Ok, Err}
+-- Records of access units: stream 1 byte, marks 1, size 3, DTS 8, PTS 8, the highest byte first, then the unit's bytes.
+use Rattle.std.specs.Prelude.{◌≡◌, ◌≤◌, ◌<◌, ℕ, ◌+◌, ◌-◌, ◌*◌, ◌/◌, ◌%◌, ◌^◌, ◌==◌, ◌&&◌, not, nat_lt, Bool, if◌then◌else◌, List, [], ◌∷◌, ◌++◌, length, take, drop, slice_index, Option, Some, None, Result, Ok, Err}
 use Rattle.byteorder.specs.Endian.{big_number, big_bytes}
 use Rattle.counted_io.specs.Device.{Failed}
+use Rattle.bit_fields.specs.Fields.{bit, flag}
+use Rattle.pes_packet.specs.Marks.{flag_bits, flags_in}
+use Rattle.pes_packet.specs.declared.marks.Marks.{Marks}
 use Rattle.pes_packet.specs.AccessUnits.{AccessUnit}
 use Rattle.unit_records.specs.declared.reading.UnitFileError.{UnitFileError}
 use Rattle.unit_records.specs.declared.reading.UnitFileError.TheVariants.{Cut, Size, Device, Memory}
@@ -14,15 +17,44 @@ head_size = 21
 abbrev pub max_unit_size : ℕ
 max_unit_size = 4_000_000
 
+-- the marks of a unit in one byte: 0x10 a header of 45 bytes, the four flags as in the first flag byte of a PES header
+abbrev pub marks_byte : Marks → ℕ
+marks_byte marks = bit marks.long * 16 + flag_bits marks.flags
+
+-- the marks that a byte names
+unfoldable pub marks_in : ℕ → Marks
+marks_in byte = record { flags = flags_in byte; long = flag byte 16 }
+
+-- the word of a record: a byte of marks and three bytes of size; where three bytes do not name the size, a word that no reader takes
+abbrev pub word_of : Marks → ℕ → ℕ
+word_of marks size = if nat_lt size (2 ^ 24) then marks_byte marks * 2 ^ 24 + size else 2 ^ 32 - 1
+
+-- each bit of the byte of marks that is set says something, and the unit has bytes
+abbrev pub is_known : ℕ → Bool
+is_known word = nat_lt (word / 2 ^ 24) 32 && not (word % 2 ^ 24 == 0)
+
+-- the size in a word; the whole word, which is 0 or over each size, if a bit that says nothing is set or the unit has no bytes
+unfoldable pub size_in : ℕ → ℕ
+size_in word = if is_known word then word % 2 ^ 24 else word
+
+-- the word of a record
+abbrev pub word_at : List ℕ → ℕ
+word_at xs = big_number 4 (drop 1 xs)
+
 -- the size that a record names
 abbrev pub size_at : List ℕ → ℕ
-size_at xs = big_number 4 (drop 1 xs)
+size_at xs = size_in (word_at xs)
+
+-- the marks that a record names
+abbrev pub marks_at : List ℕ → Marks
+marks_at xs = marks_in (word_at xs / 2 ^ 24)
 
 -- the unit of a record that is whole
 abbrev pub unit_at : List ℕ → AccessUnit
 unit_at xs = record {
   dts = big_number 8 (drop 5 xs);
   pts = big_number 8 (drop 13 xs);
+  marks = marks_at xs;
   bytes = take (size_at xs) (drop head_size xs);
 }
 
@@ -41,12 +73,12 @@ abbrev pub after_record : List ℕ → List ℕ
 after_record xs = drop (head_size + size_at xs) xs
 
 -- the bytes of a record before those of its unit
-unfoldable pub record_head : ℕ → ℕ → ℕ → ℕ → List ℕ
-record_head stream size dts pts = stream ∷ (big_bytes 4 size ++ (big_bytes 8 dts ++ big_bytes 8 pts))
+unfoldable pub record_head : ℕ → Marks → ℕ → ℕ → ℕ → List ℕ
+record_head stream marks size dts pts = stream ∷ (big_bytes 4 (word_of marks size) ++ (big_bytes 8 dts ++ big_bytes 8 pts))
 
 -- a record as it is written
 abbrev pub record_bytes : ℕ → AccessUnit → List ℕ
-record_bytes stream unit = record_head stream (length unit.bytes) unit.dts unit.pts ++ unit.bytes
+record_bytes stream unit = record_head stream unit.marks (length unit.bytes) unit.dts unit.pts ++ unit.bytes
 
 -- fewer than `size` bytes of an input were read, and the rest is left
 pub record StopsWithin (size : ℕ) (xs : List ℕ) (left : Option (List ℕ)) : Type 0 where

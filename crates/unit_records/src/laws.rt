@@ -2,8 +2,8 @@
 
 ghost use Rattle.unit_records.specs.Laws.{RecordsAreRead};
 
-/// A record that is written, whatever follows it, is read by `read_unit` as its stream and its unit, and what follows
-/// it is left.
+/// States that a record that is written, whatever follows it, is read by `read_unit` as its stream and its unit, and
+/// what follows it is left.
 pub fn records_are_read()
     ensures { RecordsAreRead }
 {}

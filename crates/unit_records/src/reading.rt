@@ -6,9 +6,10 @@ ghost use Rattle.unit_records.specs.Codes.{file_code};
 ghost use Rattle.unit_records.specs.Records.{ReadsRecord, NamesReader};
 ghost use Rattle.unit_records.specs.RecordParts.{FillsWhole, ReadsBytes, ReadsStart, ReadsStamps};
 
+use crate::words::{marks_in, size_in};
 use byteorder::{BigEndian, ByteOrder};
 use counted_io::{Source, read_part};
-use pes_packet::Unit;
+use pes_packet::{Marks, Unit};
 use std::alloc::Allocator;
 use thiserror::Error;
 
@@ -18,7 +19,7 @@ pub enum UnitFileError {
     /// The input ends inside a record.
     #[error("the input ends inside a record")]
     Cut,
-    /// The record names a size over 4,000,000 bytes.
+    /// The record names a size over 4,000,000 bytes, or marks that are not known.
     #[error("the record names a size over 4,000,000 bytes")]
     Size,
     /// A call of the reader failed.
@@ -30,7 +31,7 @@ pub enum UnitFileError {
 }
 
 impl UnitFileError {
-    /// The number of this refusal in fault lines.
+    /// Returns the number of this refusal in fault lines.
     pub fn code(self) -> u8
         ensures { result ≡ file_code self }
     {
@@ -46,9 +47,9 @@ impl UnitFileError {
 // The maximum size of a unit in a record, in bytes.
 pub(crate) const MAX_UNIT_SIZE: usize = 4_000_000;
 
-/// Reads the record at the front of the input: the number of its stream and its unit, or `None` where no byte is left.
-/// A record is stream (1 byte), size (4), DTS (8) and PTS (8), the highest byte first, then the unit's bytes. After a
-/// refusal the reader stands inside the record.
+/// Reads the record at the front of the input: the number of its stream and its unit, or `None` if no byte is left.
+/// A record is stream (1 byte), marks (1), size (3), DTS (8) and PTS (8), the highest byte first, then the unit's bytes.
+/// After a refusal the reader is inside the record.
 pub fn read_unit<A: Allocator, R: Source>(
     alloc: A,
     from: &mut R,
@@ -60,7 +61,7 @@ pub fn read_unit<A: Allocator, R: Source>(
     ensures fault { NamesReader result (R.fault_count from.old) (R.fault_count from.new) }
     ensures later { R.fault_count from.old ≤ R.fault_count from.new }
 {
-    let (stream, size) = match read_start(from) {
+    let (stream, marks, size) = match read_start(from) {
         Ok(Some(start)) => start,
         Ok(None) => return Ok(None),
         Err(refusal) => return Err(refusal),
@@ -70,7 +71,15 @@ pub fn read_unit<A: Allocator, R: Source>(
         Err(refusal) => return Err(refusal),
     };
     match read_bytes(alloc, from, size) {
-        Ok(bytes) => Ok(Some((stream, Unit { dts, pts, bytes }))),
+        Ok(bytes) => {
+            let unit = Unit {
+                dts,
+                pts,
+                marks,
+                bytes,
+            };
+            Ok(Some((stream, unit)))
+        }
         Err(refusal) => Err(refusal),
     }
 }
@@ -92,8 +101,8 @@ fn fill<R: Source>(from: &mut R, part: &mut [u8]) -> Result<(), UnitFileError>
     }
 }
 
-// The stream and the size, or None where no byte is left.
-fn read_start<R: Source>(from: &mut R) -> Result<Option<(u8, usize)>, UnitFileError>
+// The stream, the marks and the size, or None where no byte is left.
+fn read_start<R: Source>(from: &mut R) -> Result<Option<(u8, Marks, usize)>, UnitFileError>
     ensures known { (xs : List ℕ) → R.remaining from.old ≡ Some xs → ReadsStart xs (R.remaining from.new) result }
     ensures fault { NamesReader result (R.fault_count from.old) (R.fault_count from.new) }
     ensures later { R.fault_count from.old ≤ R.fault_count from.new }
@@ -105,11 +114,12 @@ fn read_start<R: Source>(from: &mut R) -> Result<Option<(u8, usize)>, UnitFileEr
             if n < 5 {
                 return Err(UnitFileError::Cut);
             }
-            let size = BigEndian::read_u32(&start[1..]) as usize;
+            let word = BigEndian::read_u32(&start[1..]);
+            let size = size_in(word);
             if size > MAX_UNIT_SIZE {
                 return Err(UnitFileError::Size);
             }
-            Ok(Some((start[0], size)))
+            Ok(Some((start[0], marks_in(word), size)))
         }
         Err(_) => Err(UnitFileError::Device),
     }

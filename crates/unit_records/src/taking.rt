@@ -5,6 +5,7 @@ ghost use Rattle.unit_records.specs.OpenRecords.{ClosesRecord, IsOpen, NamesSize
 ghost use Rattle.unit_records.specs.Records.{record_at};
 
 use crate::reading::{MAX_UNIT_SIZE, UnitFileError};
+use crate::words::{marks_in, size_in};
 use arrayvec::ArrayVec;
 use bit_fields::append;
 use byteorder::{BigEndian, ByteOrder};
@@ -15,11 +16,11 @@ use std::mem;
 /// The bytes of a record before those of its unit.
 const HEAD: usize = 21;
 
-/// A record of which some bytes have come. Its unit's bytes are put into a room of their size as they come.
+/// A record that is not whole yet. Its unit's bytes are put into a room of their size as they arrive.
 #[derive(Drop)]
 pub struct OpenRecord {
     alloc: Global,
-    /// The bytes before those of the unit: stream (1 byte), size (4), DTS and PTS (8 each).
+    /// The bytes before those of the unit: stream and marks (1 byte each), size (3), DTS and PTS (8 each).
     head: ArrayVec<u8, HEAD>,
     /// The bytes of the unit.
     unit: Vec<u8>,
@@ -35,14 +36,14 @@ fn take_head(head: &mut ArrayVec<u8, HEAD>, bytes: &[u8]) -> usize
     n
 }
 
-/// The size of the unit that a head names, if the head is whole; or why it is refused.
+/// Returns the size of the unit that a head names, if the head is whole; or why it is refused.
 fn named_size(head: &[u8]) -> Result<Option<usize>, UnitFileError>
     ensures { NamesSize head.now result }
 {
     if head.len() < 5 {
         return Ok(None);
     }
-    let size = BigEndian::read_u32(&head[1..]) as usize;
+    let size = size_in(BigEndian::read_u32(&head[1..]));
     if size > MAX_UNIT_SIZE {
         return Err(UnitFileError::Size);
     }
@@ -70,7 +71,7 @@ fn take_unit(unit: &mut Vec<u8>, size: usize, bytes: &[u8]) -> Result<usize, Uni
 }
 
 impl OpenRecord {
-    /// A record of which no byte has come.
+    /// Returns a record without a byte yet.
     pub fn new(alloc: Global) -> OpenRecord
         ensures come { come_of result ≡ [] }
         ensures open { IsOpen result }
@@ -92,11 +93,18 @@ impl OpenRecord {
         }
         let head = self.head.as_slice();
         let stream = head[0];
+        let marks = marks_in(BigEndian::read_u32(&head[1..]));
         let dts = BigEndian::read_u64(&head[5..]);
         let pts = BigEndian::read_u64(&head[13..]);
         let bytes = mem::replace(&mut self.unit, Vec::new(self.alloc));
         self.head.clear();
-        Some((stream, Unit { dts, pts, bytes }))
+        let unit = Unit {
+            dts,
+            pts,
+            marks,
+            bytes,
+        };
+        Some((stream, unit))
     }
 
     /// Takes the next bytes. Where the record ends among them, it returns how many of them belong to it, with the number
@@ -125,7 +133,7 @@ impl OpenRecord {
         }
     }
 
-    /// Whether a byte of it has come: then an input that ends here is cut inside a record.
+    /// Returns whether a byte of it has come: then an input that ends here is cut inside a record.
     pub fn is_begun(&self) -> bool
         ensures none { IsOpen self.now → result ≡ false → come_of self.now ≡ [] }
         ensures cut { IsOpen self.now → result ≡ true → record_at (come_of self.now) ≡ Err UnitFileError.Cut }

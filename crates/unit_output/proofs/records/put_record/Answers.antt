@@ -11,7 +11,7 @@ returns-in-Ok g c =
     let mid : Port = record { bytes = g.W.Write.contents c.put.new.to; failed = g.W.Sink.fault_count c.put.new.to } in
     let new : Port = record { bytes = g.W.Write.contents c.put-in-Ok.new.to; failed = g.W.Sink.fault_count c.put-in-Ok.new.to } in
     let unit = c.args.unit.now in
-    let head = record_head c.args.stream (length unit.bytes) unit.dts unit.pts in
+    let head = record_head c.args.stream unit.marks (length unit.bytes) unit.dts unit.pts in
     let first : Puts (between old mid) (c.args.pending.now.items ++ head) c.put.new.pending.items (Ok tt) =
     subst (λ (x : List ℕ). Puts (between old mid) (c.args.pending.now.items ++ x) c.put.new.pending.items (Ok tt)) (c.as_slice.ensures.value ∙ c.record_head.ensures) c.in-Ok.ensures in
     let second : Puts (between mid new) (c.put.new.pending.items ++ unit.bytes) c.put-in-Ok.new.pending.items c.put-in-Ok.result =
@@ -24,7 +24,7 @@ returns-in-Err g c =
     let old : Port = record { bytes = g.W.Write.contents c.args.to.now; failed = g.W.Sink.fault_count c.args.to.now } in
     let new : Port = record { bytes = g.W.Write.contents c.put.new.to; failed = g.W.Sink.fault_count c.put.new.to } in
     let unit = c.args.unit.now in
-    let head = record_head c.args.stream (length unit.bytes) unit.dts unit.pts in
+    let head = record_head c.args.stream unit.marks (length unit.bytes) unit.dts unit.pts in
     let first : Puts (between old new) (c.args.pending.now.items ++ head) c.put.new.pending.items (Err c.in-Err.halt) =
     subst (λ (x : List ℕ). Puts (between old new) (c.args.pending.now.items ++ x) c.put.new.pending.items (Err c.in-Err.halt)) (c.as_slice.ensures.value ∙ c.record_head.ensures) c.in-Err.ensures in
     puts_grouped (between old new) c.args.pending.now.items head unit.bytes c.put.new.pending.items (Err c.in-Err.halt)

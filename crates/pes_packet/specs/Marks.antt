@@ -1,0 +1,33 @@
+-- What the packets of a unit say of it beside its stamps (ISO/IEC 13818-1, 2.4.3.6 and 2.4.3.7).
+use Rattle.std.specs.Prelude.{ℕ, ◌+◌, ◌-◌, ◌*◌, false, if◌then◌else◌, List, [], replicate}
+use Rattle.bit_fields.specs.Fields.{bit, flag}
+use Rattle.pes_packet.specs.declared.marks.PesFlags.{PesFlags}
+use Rattle.pes_packet.specs.declared.marks.Marks.{Marks}
+
+-- none of the flags
+abbrev pub no_flags : PesFlags
+no_flags = record { priority = false; aligned = false; copyright = false; original = false }
+
+-- nothing beside the stamps
+abbrev pub no_marks : Marks
+no_marks = record { flags = no_flags; long = false }
+
+-- the flags in the lowest four bits of the first flag byte: PES_priority, data_alignment_indicator, copyright, original_or_copy
+abbrev pub flags_in : ℕ → PesFlags
+flags_in byte = record { priority = flag byte 8; aligned = flag byte 4; copyright = flag byte 2; original = flag byte 1 }
+
+-- the same flags as the number that those bits make
+abbrev pub flag_bits : PesFlags → ℕ
+flag_bits flags = bit flags.priority * 8 + bit flags.aligned * 4 + bit flags.copyright * 2 + bit flags.original
+
+-- PES_header_data_length after n bytes of stamps: 36 in a header of 45 bytes (EN 300 472, 4.2: 0x24)
+abbrev pub data_length : Marks → ℕ → ℕ
+data_length marks n = if marks.long then 36 else n
+
+-- the stuffing bytes after n bytes of stamps
+abbrev pub stuffing : Marks → ℕ → List ℕ
+stuffing marks n = if marks.long then replicate (36 - n) 0xFF else []
+
+-- the bytes that marks take beyond the 19 of the greatest header without them
+abbrev pub marks_size : Marks → ℕ
+marks_size marks = if marks.long then 26 else 0
