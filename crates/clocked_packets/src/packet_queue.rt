@@ -17,7 +17,7 @@ use ts_packet::{Packet, PacketError, read_packet};
 /// The most packets that wait.
 pub const MOST_WAITING: usize = 65_536;
 
-/// The PID of the clock references by which a stream arrives.
+/// The PID of the clock references that time a stream's arrival.
 #[derive(Clone, Copy)]
 pub enum ClockPid {
     /// That of the first reference, before one has come.
@@ -111,7 +111,7 @@ fn arrival_by(before: Option<ClockLine>, line: Option<ClockLine>) -> Arrival
 }
 
 impl PacketQueue {
-    /// No packet has come of a stream that arrives by the references of that PID.
+    /// Returns an empty queue for a stream that arrives by the references of that PID.
     pub fn new(alloc: Global, pid: ClockPid) -> PacketQueue
         ensures { result ≡ spec.no_packet pid }
     {
@@ -125,7 +125,7 @@ impl PacketQueue {
         }
     }
 
-    /// The packets that wait.
+    /// Returns the packets that wait.
     pub fn held(&self) -> &[[u8; 188]]
         ensures { result.now ≡ self.now.held }
     {
@@ -186,7 +186,7 @@ impl PacketQueue {
         Ok(())
     }
 
-    /// The next packet comes: how those that wait arrive, if it is known now. Then they are to be taken, and the packet is to wait.
+    /// Takes the next packet, and returns how the waiting packets arrive, if that is known now. The caller then takes them, and lets the packet wait.
     pub fn take(&mut self, bytes: &[u8; 188]) -> Result<Option<Arrival>, AllocError>
         ensures arrival { IfOk result (λ arrival. arrival ≡ spec.released self.old bytes.now) }
         ensures queue { OnOk result (self.new ≡ spec.stepped self.old bytes.now) }
@@ -198,14 +198,14 @@ impl PacketQueue {
         Ok(arrival)
     }
 
-    /// Those that wait are taken.
+    /// Forgets the waiting packets.
     pub fn clear(&mut self)
         ensures { self.new ≡ spec.with_held self.old [] }
     {
         self.held.clear();
     }
 
-    /// A packet waits.
+    /// Appends a packet that waits.
     pub fn push(&mut self, bytes: &[u8; 188]) -> Result<(), AllocError>
         ensures { OnOk result (self.new ≡ spec.with_held self.old (self.old.held ++ bytes.now ∷ [])) }
     {
@@ -213,7 +213,7 @@ impl PacketQueue {
         Ok(())
     }
 
-    /// How those that wait arrive where the stream ends: on the last line.
+    /// Returns how the waiting packets arrive at the end of the stream: on the last line.
     pub fn last_arrival(&self) -> Arrival
         ensures { result ≡ spec.last_arrival self.now }
     {

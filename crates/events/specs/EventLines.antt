@@ -4,7 +4,7 @@ use Rattle.events.specs.declared.event.BufferExcess.{BufferExcess}
 use Rattle.events.specs.declared.event.ClockFault.{ClockFault}
 use Rattle.events.specs.declared.event.ClockTotals.{ClockTotals}
 use Rattle.events.specs.declared.event.Event.{Event}
-use Rattle.events.specs.declared.event.Event.TheVariants.{Stream, Window, Held, Units, Excess, MainExcess, SystemExcess, SystemMainExcess, Late, Ahead, PcrRepetition, PcrDiscontinuity, PcrAccuracy, TableRepetition, Unclocked, Transport, Main, System, Clock, Table, Pid, Unreferenced, Missing, End}
+use Rattle.events.specs.declared.event.Event.TheVariants.{Stream, Window, Held, Units, Excess, MainExcess, MultiplexingExcess, ElementaryExcess, SystemExcess, SystemMainExcess, Late, ElementaryLate, Ahead, PcrRepetition, PcrDiscontinuity, PcrAccuracy, TableRepetition, Unclocked, Transport, Main, Multiplexing, Elementary, System, Clock, Table, Pid, Unreferenced, Missing, End}
 use Rattle.events.specs.declared.event.FarAhead.{FarAhead}
 use Rattle.events.specs.declared.event.HeldFigures.{HeldFigures}
 use Rattle.events.specs.declared.event.LateUnit.{LateUnit}
@@ -22,6 +22,7 @@ use Rattle.events.specs.declared.event.UnitFigures.{UnitFigures}
 use Rattle.events.specs.FieldViews.{FieldView}
 use Rattle.events.specs.PidNames.{line_word}
 use Rattle.events.specs.ReportLines.{field_text, first_text, last_text, line_of, name_text, number_field, quoted, word_field}
+use Rattle.events.specs.VideoLines.{elementary_late_line, elementary_line, multiplexing_line}
 use Rattle.events.specs.Windows.{WindowView}
 
 -- 1. What comes of a PID in a window
@@ -147,9 +148,12 @@ event_line json (Held e) = held_line json e
 event_line json (Units e) = units_line json e
 event_line json (Excess e) = excess_line json (codes "excess") e
 event_line json (MainExcess e) = excess_line json (codes "main_excess") e
+event_line json (MultiplexingExcess e) = excess_line json (codes "multiplexing_excess") e
+event_line json (ElementaryExcess e) = excess_line json (codes "elementary_excess") e
 event_line json (SystemExcess e) = program_excess_line json (codes "system_excess") e
 event_line json (SystemMainExcess e) = program_excess_line json (codes "system_main_excess") e
 event_line json (Late e) = late_line json e
+event_line json (ElementaryLate e) = elementary_late_line json e
 event_line json (Ahead e) = ahead_line json e
 event_line json (PcrRepetition e) = clock_fault_line json (codes "pcr_repetition") e
 event_line json (PcrDiscontinuity e) = clock_fault_line json (codes "pcr_discontinuity") e
@@ -158,6 +162,8 @@ event_line json (TableRepetition e) = table_fault_line json e
 event_line json (Unclocked e) = unclocked_line json e
 event_line json (Transport e) = transport_line json e
 event_line json (Main e) = main_line json e
+event_line json (Multiplexing e) = multiplexing_line json e
+event_line json (Elementary e) = elementary_line json e
 event_line json (System e) = system_line json e
 event_line json (Clock e) = clock_line json e
 event_line json (Table e) = table_line json e

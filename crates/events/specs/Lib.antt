@@ -3,3 +3,4 @@ pub mod Windows
 pub mod FieldViews
 pub mod ReportLines
 pub mod EventLines
+pub mod VideoLines

@@ -1,8 +1,9 @@
-//! What is found in a transport stream, as plain data.
+//! Events of a transport stream, as plain data.
 //!
 //! Times are in ticks of 27 MHz, moments from the stream's first byte on; numbers of packets and of windows begin with 0; sizes and
 //! fullness are in bytes, rates in bits a second.
 use crate::pid_name::PidName;
+use crate::video_event::{ElementaryLate, ElementaryTotals, MultiplexingTotals};
 use std::marker::Model;
 
 /// The buffers of a stream that the tables name begin with a packet.
@@ -188,7 +189,7 @@ pub struct SystemTotals {
 pub struct ClockTotals {
     pub pid: u16,
     pub references: u64,
-    /// Those with which the clock begins anew by their discontinuity_indicator.
+    /// References that restart the clock by their discontinuity_indicator.
     pub announced: u64,
     pub rate: u128,
     /// The greatest time between two.
@@ -221,7 +222,7 @@ pub struct PidTotals {
     pub pcrs: u64,
 }
 
-/// The end of a stream: all its packets, those refused, and the bytes left after the last whole one.
+/// The end of a stream: all its packets, the refused packets, and the bytes left after the last whole packet.
 #[derive(Clone, Copy)]
 pub struct ReportEnd {
     pub packets: u64,
@@ -229,7 +230,7 @@ pub struct ReportEnd {
     pub left: u64,
 }
 
-/// What is found in a stream, by the word of its line.
+/// An event of a stream, by the word of its line.
 #[derive(Drop)]
 pub enum Event {
     Stream(StreamBegin),
@@ -238,9 +239,13 @@ pub enum Event {
     Units(UnitFigures),
     Excess(BufferExcess),
     MainExcess(BufferExcess),
+    /// Of the multiplexing buffer and of the elementary stream buffer of video.
+    MultiplexingExcess(BufferExcess),
+    ElementaryExcess(BufferExcess),
     SystemExcess(ProgramExcess),
     SystemMainExcess(ProgramExcess),
     Late(LateUnit),
+    ElementaryLate(ElementaryLate),
     Ahead(FarAhead),
     PcrRepetition(ClockFault),
     PcrDiscontinuity(ClockFault),
@@ -249,6 +254,8 @@ pub enum Event {
     Unclocked(UnclockedPackets),
     Transport(TransportTotals),
     Main(MainTotals),
+    Multiplexing(MultiplexingTotals),
+    Elementary(ElementaryTotals),
     System(SystemTotals),
     Clock(ClockTotals),
     Table(TableTotals),

@@ -12,6 +12,7 @@ use crate::packet_lines::{
     write_ahead, write_clock_fault, write_excess, write_late, write_program_excess, write_stream,
     write_table_fault, write_unclocked,
 };
+use crate::video_lines::{write_elementary, write_elementary_late, write_multiplexing};
 use crate::window_line::write_window;
 use std::alloc::{AllocError, Global};
 
@@ -38,9 +39,12 @@ fn write_event(
         Event::Units(e) => write_units(text, json, e),
         Event::Excess(e) => write_excess(text, json, "excess", e),
         Event::MainExcess(e) => write_excess(text, json, "main_excess", e),
+        Event::MultiplexingExcess(e) => write_excess(text, json, "multiplexing_excess", e),
+        Event::ElementaryExcess(e) => write_excess(text, json, "elementary_excess", e),
         Event::SystemExcess(e) => write_program_excess(text, json, "system_excess", e),
         Event::SystemMainExcess(e) => write_program_excess(text, json, "system_main_excess", e),
         Event::Late(e) => write_late(text, json, e),
+        Event::ElementaryLate(e) => write_elementary_late(text, json, e),
         Event::Ahead(e) => write_ahead(text, json, e),
         Event::PcrRepetition(e) => write_clock_fault(text, json, "pcr_repetition", e),
         Event::PcrDiscontinuity(e) => write_clock_fault(text, json, "pcr_discontinuity", e),
@@ -49,6 +53,8 @@ fn write_event(
         Event::Unclocked(e) => write_unclocked(text, json, e),
         Event::Transport(e) => write_transport(text, json, e),
         Event::Main(e) => write_main(text, json, e),
+        Event::Multiplexing(e) => write_multiplexing(text, json, e),
+        Event::Elementary(e) => write_elementary(text, json, e),
         Event::System(e) => write_system(text, json, e),
         Event::Clock(e) => write_clock(text, json, e),
         Event::Table(e) => write_table(text, json, e),

@@ -1,6 +1,6 @@
-//! What is found in a transport stream, as plain data, and an event as a line of text or a JSON object.
+//! Events of a transport stream, as plain data, and an event as a line of text or a JSON object.
 //!
-//! - [`Event`]: what is found: at a packet, in a window, or at the end of the stream (docs/VIEW.md has the lines and their fields).
+//! - [`Event`]: an event at a packet, in a window, or at the end of the stream (docs/VIEW.md has the lines and their fields).
 //! - [`PidName`]: what the packets of a PID carry: a table by its PID, the map of a program, or a stream of a coding.
 //! - [`write_events`]: appends the lines of events to a text, plain or as JSON objects.
 #![tactic(auto)]
@@ -11,6 +11,8 @@ mod figure_lines;
 mod lines;
 mod packet_lines;
 mod pid_name;
+mod video_event;
+mod video_lines;
 mod window_line;
 
 pub use event::{
@@ -20,3 +22,4 @@ pub use event::{
 };
 pub use event_lines::write_events;
 pub use pid_name::PidName;
+pub use video_event::{ElementaryLate, ElementaryTotals, MultiplexingTotals};

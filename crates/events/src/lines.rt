@@ -30,7 +30,7 @@ impl Model for Field {
     ghost view = { λ f. record { name = f.name.now; value = value_view f.value } };
 }
 
-/// A field with a number.
+/// Returns a field with a number.
 #[tactic(auto, unfolding(crate::specs::FieldViews::value_view))]
 pub(crate) fn number(name: &'static str, value: u128) -> Field
     ensures { result ≡ spec.number_field name.now value }
@@ -41,7 +41,7 @@ pub(crate) fn number(name: &'static str, value: u128) -> Field
     }
 }
 
-/// A field with a word.
+/// Returns a field with a word.
 #[tactic(auto, unfolding(crate::specs::FieldViews::value_view))]
 pub(crate) fn word(name: &'static str, value: &'static str) -> Field
     ensures { result ≡ spec.word_field name.now value.now }

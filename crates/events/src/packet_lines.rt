@@ -1,4 +1,4 @@
-//! The lines of what is found at a packet.
+//! The lines of events at a packet.
 ghost use Rattle.std.specs.Prelude.{◌≡◌, ◌++◌, OnOk, string_bytes};
 ghost use Rattle.events.specs.EventLines as spec;
 

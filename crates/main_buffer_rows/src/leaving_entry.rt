@@ -15,13 +15,13 @@ use transport_buffer::Leaving;
 /// What bytes found in the main buffer as they entered it.
 #[derive(Clone, Copy)]
 pub struct MainFound {
-    /// The most bytes that were there when one of them entered, itself counted.
+    /// The most bytes that were there when any of them entered, itself counted.
     pub most: u64,
-    /// The least that one of them found, itself not counted; none where none entered.
+    /// The least that any of them found, itself not counted; `None` if none entered.
     pub least: Option<u64>,
 }
 
-/// The bytes of the unit under way that leave the transport buffer enter the main buffer: what they found there.
+/// Takes the current unit's bytes, which leave the transport buffer, into the main buffer; returns what they found there.
 pub fn enter_leaving<A: Allocator>(buffer: &mut MainBuffer<A>, leaving: &Leaving) -> MainFound
     requires sound { IsSound buffer.old }
     requires timed { IsTimed leaving.now.waiting × IsTimed leaving.now.free }

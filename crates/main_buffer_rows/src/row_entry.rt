@@ -29,7 +29,7 @@ fn add<A: Allocator>(buffer: &mut MainBuffer<A>, count: u64)
     buffer.peak = buffer.peak.max(buffer.fullness);
 }
 
-/// The least of the numbers so far, where there are some, and of one more.
+/// Returns the least of the numbers so far, where there are some, and of one more.
 #[tactic(auto, unfolding(crate::specs::Least::lesser))]
 pub fn lesser(least: Option<u64>, number: u64) -> Option<u64>
     ensures { result ≡ lesser least number }
@@ -107,8 +107,8 @@ fn enter_first<A: Allocator>(buffer: &mut MainBuffer<A>, row: &Row) -> FirstFoun
     FirstFound { found, others }
 }
 
-/// The bytes of a row of the unit under way enter the buffer, each at its time, or come too late for it: the least that one of
-/// them finds there, itself not counted, and that so far.
+/// Takes the bytes of a row of the current unit into the buffer, each at its time, unless it is too late for it. Returns the least
+/// that any of them finds there, itself not counted, or the least so far.
 pub fn enter_row<A: Allocator>(
     buffer: &mut MainBuffer<A>,
     row: &Row,

@@ -2,8 +2,8 @@
 //! `specs/` alone. A caller may cite it.
 ghost use Rattle.named_streams.specs.Laws.{FirstLaw};
 
-/// The streams are those that the first packets name by which each program of the association table has a map, or the
-/// first 32,768.
+/// States that the streams are the streams named by the first packets after which each program of the association table
+/// has a map, or by the first 32,768 packets.
 pub fn first_tables()
     ensures { FirstLaw }
 {}

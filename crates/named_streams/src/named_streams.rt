@@ -19,8 +19,8 @@ use stream_programs::{
 /// The number of packets that are looked at at most.
 pub const FIRST_PACKETS: u32 = 32_768;
 
-/// The streams of the programs that the first packets of a stream name: those of the first packets by which each program
-/// of the association table has a map, or of the first 32,768.
+/// The streams of the programs that the first packets of a stream name: the first packets after which each program of the
+/// association table has a map, or the first 32,768.
 ///
 /// After an `AllocError` no packet was taken.
 #[derive(Drop)]
@@ -177,7 +177,7 @@ fn clock_in(number: u16, programs: &[FoundProgram]) -> u16
 }
 
 impl NamedStreams {
-    /// Before the first packet.
+    /// Returns the state before the first packet.
     pub fn new(alloc: Global) -> NamedStreams
         ensures { result ≡ spec.none_taken }
     {
@@ -214,7 +214,7 @@ impl NamedStreams {
         }
     }
 
-    /// The next packet. Once the streams are known, nothing more is looked at.
+    /// Takes the next packet. Once the streams are known, it looks at nothing more.
     #[tactic(auto, unfolding(crate::specs::NamedStreams::taken_if))]
     pub fn take(&mut self, bytes: &[u8; 188]) -> Result<(), AllocError>
         ensures taken { OnOk result (self.new ≡ spec.taken self.old bytes.now) }
@@ -226,21 +226,21 @@ impl NamedStreams {
         self.look(bytes)
     }
 
-    /// What is found of the packets that were looked at.
+    /// Returns the findings of the packets that were looked at.
     pub fn findings(&self) -> &[Finding<'static>]
         ensures { map finding_view result.now ≡ self.now.demux.found }
     {
         self.demux.findings()
     }
 
-    /// The programs and their streams, once these are known.
+    /// Returns the programs and their streams, once these are known.
     pub fn found(&self) -> Option<&FoundPrograms>
         ensures { option_map (λ found. found.now) result ≡ self.now.streams }
     {
         self.found.as_ref()
     }
 
-    /// The stream of a PID, once the streams are known.
+    /// Returns the stream of a PID, once the streams are known.
     #[tactic(auto, unfolding(crate::specs::NamedStreams::stream_by))]
     pub fn stream(&self, pid: u16) -> Option<&FoundStream>
         ensures { option_map (λ s. s.now) result ≡ spec.stream_of self.now pid }
@@ -251,7 +251,7 @@ impl NamedStreams {
         }
     }
 
-    /// PCR_PID of a program: 8191, which is that of no clock reference, where it is not known.
+    /// Returns PCR_PID of a program; 8191, which carries no clock reference, if it is not known.
     #[tactic(auto, unfolding(crate::specs::NamedStreams::clock_by))]
     pub fn clock_pid(&self, number: u16) -> u16
         ensures { result ≡ spec.clock_of self.now number }

@@ -16,7 +16,7 @@ pub struct Unmapped {
     pub program: Program,
 }
 
-/// The first program that has no map, where all before a place have one.
+/// Returns the first program that has no map, where all before a place have one.
 pub fn first_unmapped(
     place: usize,
     findings: &[Finding<'_>],
@@ -35,7 +35,7 @@ pub fn first_unmapped(
     None
 }
 
-/// Whether findings have what is wanting: the map of a program, or an association table.
+/// Returns whether findings have the missing table: the map of a program, or an association table.
 #[tactic(auto, unfolding(crate::specs::Wanting::has_wanting))]
 pub fn has_wanting(
     alloc: Global,
@@ -50,7 +50,7 @@ pub fn has_wanting(
     }
 }
 
-/// The place of that program.
+/// Returns the place of that program.
 #[tactic(auto, unfolding(crate::specs::Wanting::place_of))]
 pub fn place_of(first: Option<Unmapped>) -> usize
     ensures { result ≡ spec.place_of first }

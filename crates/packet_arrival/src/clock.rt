@@ -43,8 +43,8 @@ pub struct TimedSample {
     pub moment: u64,
 }
 
-/// What a reference is to the one before it, and the line of the bytes between both: the one on which the clock goes on,
-/// else that before, which goes on; none where there is neither.
+/// What a reference is to the reference before it, and the line of the bytes between both: the line on which the clock
+/// continues, or the line before, continued; `None` if there is neither.
 #[derive(Clone, Copy)]
 pub struct Passed {
     pub step: ClockStep,
@@ -162,7 +162,7 @@ fn line_in(step: &ClockStep) -> Option<Line>
 }
 
 impl ProgramClock {
-    /// No reference has come.
+    /// Returns the state before the first reference.
     pub fn new() -> ProgramClock
         ensures { result ≡ record { last = None; line = None } }
     {
@@ -172,14 +172,14 @@ impl ProgramClock {
         }
     }
 
-    /// The last reference.
+    /// Returns the last reference.
     pub fn last(&self) -> Option<TimedSample>
         ensures { result ≡ self.now.last }
     {
         self.last
     }
 
-    /// The line that ends there, if the clock went on to it.
+    /// Returns the line that ends there, if the clock went on to it.
     pub fn line(&self) -> Option<Line>
         ensures line { result ≡ self.now.line }
         ensures clock { IfSome result IsClockLine }
@@ -187,7 +187,7 @@ impl ProgramClock {
         self.line
     }
 
-    /// The next reference comes.
+    /// Takes the next reference.
     pub fn take(&mut self, sample: PcrSample) -> Passed
         requires { IsInRange sample }
         ensures step { result.step ≡ step_after self.old.last sample }

@@ -4,15 +4,15 @@ ghost use Rattle.packet_arrival.specs.Laws.{ConstantMoments, ConstantRow, Consta
 ghost use Rattle.packet_arrival.specs.Laws.{LineBegins, LineEnds, LinesMeet, LineRises, Rounded, ReachLaw};
 ghost use Rattle.packet_arrival.specs.Laws.{MomentLaw, HeldLaw, StateLaw};
 
-/// A stream of constant rate: its line gives the moments of `clock27`, and its rows the arrivals.
+/// States for a stream of constant rate that its line gives the moments of `clock27`, and its rows the arrivals.
 pub fn constant_rate()
     ensures moments { ConstantMoments }
     ensures rows { ConstantRow }
     ensures scale { ConstantScale }
 {}
 
-/// A line goes through both its references, so that the next line begins where it ends; no byte arrives before an earlier
-/// one; and an arrival is less than a unit early.
+/// States that a line goes through both its references, so that the next line begins where it ends; no byte arrives before an
+/// earlier one; and an arrival is less than a unit early.
 pub fn lines()
     ensures begins { LineBegins }
     ensures ends { LineEnds }
@@ -22,12 +22,12 @@ pub fn lines()
     ensures reaches { ReachLaw }
 {}
 
-/// Where a clock goes on or begins anew, its moments are its references.
+/// States that a clock's moments are its references, where it continues and where it restarts.
 pub fn moments()
     ensures { MomentLaw }
 {}
 
-/// The line of a byte is known once the reference after it has come.
+/// States that the line of a byte is known once the reference after it has come.
 pub fn held()
     ensures line { HeldLaw }
     ensures state { StateLaw }

@@ -3,8 +3,8 @@
 //!
 //! - [`Row`]: bytes that arrive one after another at an even pace, in whole units of time.
 //! - [`Line`]: the clock between two references, which is the time of each byte that lies on it.
-//! - [`ProgramClock`]: the references of a program as they come, and where they begin anew.
-//! - [`laws`]: the arrivals of a constant rate, and what holds of each line.
+//! - [`ProgramClock`]: the references of a program in their order, and where they restart.
+//! - [`laws`]: the arrivals of a constant rate, and facts about each line.
 //!
 //! A moment is a number of ticks of 27 MHz. At a buffer that is drained at `r` bits a second times are counted in units
 //! of `1 / (27,000,000 * r)` seconds, so that a byte takes 216,000,000 to leave it; each arrival is rounded down to a

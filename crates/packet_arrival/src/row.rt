@@ -13,7 +13,7 @@ fn are_all_below(room: u128, gain: u128, count: u64) -> bool
     }
 }
 
-/// How many of the first `count` multiples of `gain`, from 0 on, are below `room`.
+/// Returns how many of the first `count` multiples of `gain`, from 0 on, are below `room`.
 #[tactic(auto, using(crate::proofs::Rows::all_below))]
 pub fn multiples_below(room: u128, gain: u128, count: u64) -> u64
     requires room { room < 2 ^ 128 }
@@ -43,9 +43,9 @@ pub struct Row {
 }
 
 impl Row {
-    /// The arrivals of `count` bytes from byte `byte` on of a stream of constant rate `R`, at a buffer that is drained at
-    /// `drain` bits a second, in units of `8 / (R * drain)` seconds: there a byte takes `R` to leave, and nothing is
-    /// rounded.
+    /// Returns the arrivals of `count` bytes from byte `byte` on of a stream of constant rate `R`, at a buffer that is
+    /// drained at `drain` bits a second, in units of `8 / (R * drain)` seconds: there a byte takes `R` to leave, and
+    /// nothing is rounded.
     #[tactic(auto, using(crate::proofs::Rows::constant_row))]
     pub fn at_constant_rate(drain: u64, byte: u64, count: u64) -> Row
         requires drain { drain ≤ 200000000 }
@@ -63,7 +63,7 @@ impl Row {
         }
     }
 
-    /// The time of byte number `j`.
+    /// Returns the time of byte number `j`.
     pub fn time(&self, j: u64) -> u128
         requires timed { IsTimed self.now }
         requires j { j ≤ self.now.bytes }
@@ -79,7 +79,7 @@ impl Row {
         at / u128::from(self.parts)
     }
 
-    /// Its first `count` bytes, and the others.
+    /// Returns its first `count` bytes, and the rest.
     #[tactic(auto, using(crate::proofs::Rows::split_rows))]
     pub fn split_at(&self, count: u64) -> (Row, Row)
         requires timed { IsTimed self.now }
@@ -105,7 +105,7 @@ impl Row {
         (first, others)
     }
 
-    /// Its bytes before a moment, and the others.
+    /// Returns its bytes before a moment, and the rest.
     pub fn split_before(&self, moment: u128) -> (Row, Row)
         requires timed { IsTimed self.now }
         requires moment { moment ≤ 2 ^ 87 }

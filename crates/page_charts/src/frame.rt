@@ -8,7 +8,7 @@ pub enum ChartUnit {
     Time,
 }
 
-/// The scales of a picture: so many windows of so many milliseconds, 2^38 of 2^22 at most, and values from 0 to `top`, 10^15 at most.
+/// The scales of a picture: at most 2^38 windows of at most 2^22 milliseconds each, and values from 0 to `top`, 10^15 at most.
 #[derive(Clone, Copy)]
 pub struct Frame {
     pub unit: ChartUnit,

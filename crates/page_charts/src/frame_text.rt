@@ -1,4 +1,4 @@
-//! The frame of a picture: its scales, and what is drawn of them.
+//! The frame of a picture: its scales, and how they are drawn.
 ghost use Rattle.std.specs.Prelude.{◌≡◌, ◌++◌, ◌<◌, ◌≤◌, ◌^◌, OnOk, flat_map, string_bytes};
 ghost use Rattle.page_charts.specs.Frames as spec;
 
@@ -113,7 +113,7 @@ fn least_top(unit: ChartUnit) -> u64
 }
 
 impl Frame {
-    /// A frame for values up to `greatest`.
+    /// Returns a frame for values up to `greatest`.
     pub fn new(unit: ChartUnit, windows: u64, millis: u32, greatest: u64) -> Frame
         ensures { result ≡ spec.frame unit windows millis greatest }
     {
@@ -125,7 +125,7 @@ impl Frame {
         }
     }
 
-    /// The number of windows.
+    /// Returns the number of windows.
     pub(crate) fn window_count(&self) -> u64
         ensures same { result ≡ spec.window_count self.now }
         ensures bound { result ≤ 2 ^ 38 }
@@ -133,7 +133,7 @@ impl Frame {
         self.windows.min(1 << 38)
     }
 
-    /// The value at its top.
+    /// Returns the value at its top.
     pub(crate) fn top_value(&self) -> u64
         ensures same { result ≡ spec.top_value self.now }
         ensures bound { result ≤ 10 ^ 15 }
@@ -158,7 +158,7 @@ impl Frame {
             .min(span)
     }
 
-    /// What is drawn of a slot.
+    /// Returns what is drawn of a slot.
     #[tactic(auto, unfolding(crate::specs::Frames::shown_of))]
     pub(crate) fn shown(&self, span: u64, slot: u64, bounds: Option<Bounds>) -> Option<Bounds>
         ensures { result ≡ spec.shown self.now span slot bounds }
@@ -170,7 +170,7 @@ impl Frame {
         }
     }
 
-    /// How many slots of so many windows it has.
+    /// Returns how many slots of so many windows it has.
     pub(crate) fn slots_of(&self, span: u64) -> u64
         requires { 0 < span }
         ensures same { result ≡ spec.slots_of self.now span }

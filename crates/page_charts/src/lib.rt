@@ -1,12 +1,12 @@
 //! Pictures of curves over time, as SVG in HTML: no script, and nothing from elsewhere.
 //!
 //! - [`PidCurves`]: curves by PID, each with a name and a limit, [`MOST_CURVES`] at most.
-//! - [`ChartUnit`]: in which units numbers are written, and what a window without a value means.
+//! - [`ChartUnit`]: the unit of the written numbers, and what a window without a value means.
 //! - [`write_chart`]: a picture of some of them over all windows, with a key and all its numbers as a table.
-//! - [`PidLabels`]: the programs of PIDs and the names of their services, which stand beside each PID ([`write_label`]).
+//! - [`PidLabels`]: the programs of PIDs and the names of their services, written beside each PID ([`write_label`]).
 //! - [`write_tenths`]: a number in a greater unit.
 //!
-//! Text that is written is that of this crate, decimal numbers, and the names that [`PidLabels`] are given: nothing else can get into a page.
+//! A page's text is this crate's text, decimal numbers, and the names given to [`PidLabels`]: nothing else can get into a page.
 #![tactic(auto)]
 
 mod chart;

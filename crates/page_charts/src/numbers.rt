@@ -5,7 +5,7 @@ ghost use Rattle.page_charts.specs.Numbers as spec;
 use std::alloc::AllocError;
 use std::fmt::Write;
 
-/// Appends a number of a unit in units that are so many times as great, with one decimal place, cut down.
+/// Appends a number in units that are `unit` times as great, with one decimal place, rounded down.
 pub fn write_tenths(text: &mut String, value: u64, unit: u64) -> Result<(), AllocError>
     requires some { 0 < unit }
     requires bound { unit ≤ 2 ^ 32 }

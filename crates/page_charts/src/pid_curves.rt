@@ -8,7 +8,7 @@ use events::PidName;
 use page_curves::Curve;
 use std::alloc::{AllocError, Global};
 
-/// The greatest number of curves: PIDs that come after so many have none.
+/// The greatest number of curves: later PIDs have no curve.
 pub const MOST_CURVES: usize = 32;
 
 /// The curve of a PID, what the PID carries, and what the values are not to exceed, 0 where there is no limit.
@@ -20,9 +20,9 @@ pub struct PidCurve {
     pub curve: Curve,
 }
 
-/// Curves in the order in which they were opened, one for a PID.
+/// Curves in the order of their openings, one for a PID.
 ///
-/// After an `AllocError` they are those of no values: drop them.
+/// After an `AllocError` they describe no values: drop them.
 #[derive(Drop)]
 pub struct PidCurves {
     alloc: Global,
@@ -81,7 +81,7 @@ fn greatest_in(entry: &PidCurve) -> u64
 }
 
 impl PidCurves {
-    /// None is open.
+    /// Returns no curves.
     pub fn new(alloc: Global) -> PidCurves
         ensures { AreCurves result.curves.items [] }
     {
@@ -91,7 +91,7 @@ impl PidCurves {
         }
     }
 
-    /// A curve for a PID, unless it has one or there are as many as there may be.
+    /// Opens a curve for a PID, unless it has one or there are as many as there may be.
     pub fn open(&mut self, pid: u16, name: PidName, limit: u64) -> Result<(), AllocError>
         ensures { (kept : List KeptCurve) → AreCurves self.old.curves.items kept →
             OnOk result (AreCurves self.new.curves.items (opened pid name limit kept)) }
@@ -108,7 +108,7 @@ impl PidCurves {
         Ok(())
     }
 
-    /// The value of a window, if the PID has a curve.
+    /// Returns the value of a window, if the PID has a curve.
     pub fn take(&mut self, pid: u16, number: u64, value: u64) -> Result<(), AllocError>
         ensures { (kept : List KeptCurve) → AreCurves self.old.curves.items kept →
             OnOk result (AreCurves self.new.curves.items (with_sample pid (sample number value) kept)) }
@@ -116,7 +116,7 @@ impl PidCurves {
         take_in(&mut self.curves, pid, number, value)
     }
 
-    /// What the PID carries, if it has a curve.
+    /// Returns what the PID carries, if it has a curve.
     pub fn name_of(&self, pid: u16) -> Option<PidName>
         ensures { (kept : List KeptCurve) → AreCurves self.now.curves.items kept → result ≡ spec.kept_name pid kept }
     {
@@ -124,7 +124,7 @@ impl PidCurves {
     }
 }
 
-/// The greatest value of curves and of their limits.
+/// Returns the greatest value of curves and of their limits.
 pub fn greatest_value(curves: &[PidCurve]) -> u64
     ensures { result ≡ spec.greatest_value curves.now }
 {

@@ -19,7 +19,7 @@ pub struct PidProgram {
 
 /// The programs of PIDs, and the names of programs' services as text of a page: of each the last that was said.
 ///
-/// After an `AllocError` they are those of no stream: drop them.
+/// After an `AllocError` they describe no stream: drop them.
 #[derive(Drop)]
 pub struct PidLabels {
     programs: IndexMap<u16, PidProgram, BuildHasherDefault<FoldHasher>, Global>,
@@ -39,7 +39,7 @@ impl Model for PidLabels {
 }
 
 impl PidLabels {
-    /// Nothing is known.
+    /// Returns labels of no PID.
     pub fn new(alloc: Global) -> PidLabels
         ensures { result ≡ spec.no_labels }
     {
@@ -49,7 +49,7 @@ impl PidLabels {
         }
     }
 
-    /// A PID is of a program.
+    /// Notes that a PID is of a program.
     pub fn take(&mut self, pid: u16, program: PidProgram) -> Result<(), AllocError>
         ensures { OnOk result (self.new ≡ spec.with_program pid program self.old) }
     {
@@ -57,7 +57,7 @@ impl PidLabels {
         Ok(())
     }
 
-    /// The service of a program has a name, which is text of a page.
+    /// Notes the name of a program's service, which is text of a page.
     pub fn take_service(&mut self, program: u16, name: String) -> Result<(), AllocError>
         ensures { OnOk result (self.new ≡ spec.with_service program (string_bytes name) self.old) }
     {

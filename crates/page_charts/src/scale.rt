@@ -89,7 +89,7 @@ pub(crate) fn scale_for(greatest: u64) -> u64
     scale_among(&SCALES, greatest)
 }
 
-/// How many slots of so many windows it takes for all windows; 1 at least.
+/// Returns how many slots of so many windows it takes for all windows; 1 at least.
 pub(crate) fn slots_in(windows: u64, span: u64) -> u64
     requires { 0 < span }
     ensures { result ≡ spec.slots_in windows span }
@@ -107,7 +107,7 @@ pub(crate) fn across(slots: u64, slot: u64) -> u64
     LEFT + WIDTH * (2 * slot + 1) / (2 * slots)
 }
 
-/// How high a value lies on a scale that ends at `top`; one beyond it lies at its end.
+/// Returns how high a value lies on a scale that ends at `top`; one beyond it lies at its end.
 pub(crate) fn height_of(top: u64, value: u64) -> u64
     requires { top ≤ 10 ^ 15 }
     ensures { result ≡ spec.height_of top value }

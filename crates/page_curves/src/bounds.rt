@@ -11,7 +11,7 @@ pub struct Bounds {
 }
 
 impl Bounds {
-    /// Those of one value.
+    /// Returns the bounds of a single value.
     pub fn of(value: u64) -> Bounds
         ensures { result ≡ spec.one_value value }
     {
@@ -34,7 +34,7 @@ impl Bounds {
     }
 }
 
-/// The bounds of all values of both; none where neither has a value.
+/// Returns the bounds of all values of both; `None` if neither has a value.
 #[tactic(auto, unfolding(crate::specs::Bounds::joined))]
 pub fn joined(a: Option<Bounds>, b: Option<Bounds>) -> Option<Bounds>
     ensures { result ≡ spec.joined a b }

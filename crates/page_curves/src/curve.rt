@@ -9,7 +9,7 @@ use crate::slots::{MOST_SLOTS, greatest_of, join_neighbours, slot_at};
 use std::alloc::{AllocError, Global};
 use std::marker::Model;
 
-/// Values of windows: a slot has the bounds of `span` windows in a row, the first one those of the windows from 0 on.
+/// Values of windows: a slot has the bounds of `span` windows in a row, the first slot the bounds of the windows from 0 on.
 ///
 /// After an `AllocError` it may have more slots, which have no values.
 #[derive(Drop)]
@@ -29,7 +29,7 @@ impl Model for Curve {
 }
 
 impl Curve {
-    /// No value has come.
+    /// Returns a curve without values.
     pub fn new(alloc: Global) -> Curve
         ensures { IsCurve result [] }
     {
@@ -39,7 +39,7 @@ impl Curve {
         }
     }
 
-    /// How many windows a slot stands for.
+    /// Returns how many windows a slot represents.
     pub fn span(&self) -> u64
         ensures same { result ≡ self.now.span }
         ensures some { 0 < result }
@@ -47,7 +47,7 @@ impl Curve {
         self.span
     }
 
-    /// The slots, [`MOST_SLOTS`] at most.
+    /// Returns the slots, [`MOST_SLOTS`] at most.
     pub fn slots(&self) -> &[Option<Bounds>]
         ensures same { result.now ≡ self.now.slots }
         ensures few { length result.now ≤ 512 }
@@ -55,7 +55,7 @@ impl Curve {
         &self.slots
     }
 
-    /// The greatest value, 0 where none has come.
+    /// Returns the greatest value, 0 where none has come.
     pub fn greatest(&self) -> u64
         ensures { result ≡ spec.greatest_of self.now.slots }
     {
@@ -108,7 +108,7 @@ impl Curve {
         self.slots[slot] = bounds;
     }
 
-    /// The value of a window.
+    /// Returns the value of a window.
     pub fn take(&mut self, number: u64, value: u64) -> Result<(), AllocError>
         ensures { (samples : List Sample) → IsCurve self.old samples →
             OnOk result (IsCurve self.new (sample number value ∷ samples)) }

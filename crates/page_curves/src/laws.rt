@@ -2,7 +2,7 @@
 //! caller may cite it.
 ghost use Rattle.page_curves.specs.Laws.{BoundLaw, ValueLaw};
 
-/// No value is lost, however many windows a slot stands for: each lies within the bounds of its slot, and each bound is a value
+/// States that no value is lost, however many windows a slot represents: each lies within the bounds of its slot, and each bound is a value
 /// of a window of its slot.
 pub fn slots_hold_their_values()
     ensures within { ValueLaw }

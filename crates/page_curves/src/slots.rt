@@ -8,7 +8,7 @@ use crate::bounds::{Bounds, joined};
 /// The greatest number of slots of a curve.
 pub const MOST_SLOTS: usize = 512;
 
-/// The values of a slot; past the last one there are none.
+/// Returns the values of a slot; past the last one there are none.
 pub(crate) fn slot_at(slots: &[Option<Bounds>], slot: usize) -> Option<Bounds>
     ensures { result ≡ spec.slot_at slots.now slot }
 {
@@ -33,7 +33,7 @@ pub(crate) fn join_neighbours(slots: &mut Vec<Option<Bounds>>)
     slots.truncate(count);
 }
 
-/// The greatest value of all slots, 0 where there is none.
+/// Returns the greatest value of all slots, 0 where there is none.
 pub(crate) fn greatest_of(slots: &[Option<Bounds>]) -> u64
     ensures { result ≡ spec.greatest_of slots.now }
 {

@@ -11,7 +11,7 @@ use packet_arrival::{ClockStep, Line};
 pub struct PcrCounts {
     /// The references.
     pub references: u64,
-    /// Those of them with which the clock begins anew, as the discontinuity_indicator beside them says.
+    /// How many of them restart the clock, as their discontinuity_indicator says.
     pub announced: u64,
     /// The errors of each kind.
     pub repetition_errors: u64,
@@ -20,7 +20,7 @@ pub struct PcrCounts {
     /// The greatest time between references, in ticks, and the greatest inaccuracy, in nanoseconds.
     pub interval: u128,
     pub inaccuracy: u128,
-    /// The bytes and ticks of all lines on which the clock goes on.
+    /// The bytes and ticks of all lines on which the clock continues.
     pub bytes: u64,
     pub ticks: u64,
 }
@@ -64,7 +64,7 @@ fn line_size(step: &ClockStep) -> (u64, u64)
 }
 
 impl PcrCounts {
-    /// Of no reference.
+    /// Returns the counts of no reference.
     pub fn new() -> PcrCounts
         ensures { result ≡ spec.none_counted }
     {
@@ -81,7 +81,7 @@ impl PcrCounts {
         }
     }
 
-    /// With the report on one reference more.
+    /// Returns the counts with the report on one reference more.
     pub fn with(self, report: &PcrReport) -> PcrCounts
         ensures { result ≡ spec.counted self report.now }
     {
@@ -102,7 +102,7 @@ impl PcrCounts {
         }
     }
 
-    /// The rate that all references give, in bits a second, rounded down: that of the lines on which the clock goes on.
+    /// Returns the rate that all references give, in bits a second, rounded down: the rate of the lines on which the clock continues.
     pub fn rate(self) -> Option<u128>
         ensures { result ≡ spec.rate_of self }
     {

@@ -3,11 +3,11 @@
 //!
 //! - [`pcr_sample`]: the reference of a packet.
 //! - [`PcrWatches`]: takes the packets of a stream, and gives a report on each reference: one watch a PID is kept.
-//! - [`PcrWatch`]: so of the references of one PID.
-//! - [`PcrReport`]: where the clock goes on or begins anew, the rate that two references give, the time between them, how
+//! - [`PcrWatch`]: the same for one PID.
+//! - [`PcrReport`]: where the clock continues or restarts, the rate that two references give, the time between them, how
 //!   far one lies from where it ought to; and which of these is an error.
 //! - [`PcrCounts`]: reports counted, with their greatest values.
-//! - [`laws`]: an error stands exactly where the exact value is beyond its limit.
+//! - [`laws`]: there is an error exactly where the exact value is beyond its limit.
 //!
 //! Times are ticks of 27 MHz and inaccuracies nanoseconds, both rounded up, so that a value is beyond a whole limit exactly
 //! where the exact one is; a rate is rounded down.

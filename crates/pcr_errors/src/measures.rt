@@ -9,7 +9,7 @@ use clock27::Rate;
 use clock27::units::BYTE_TICKS_AT_1BPS;
 use packet_arrival::{Line, PcrSample, TimedSample};
 
-/// The rate that two references give, in bits a second, rounded down.
+/// Returns the rate that two references give, in bits a second, rounded down.
 pub(crate) fn rate_on(line: &Line) -> u128
     requires { IsClockLine line.now }
     ensures { result ≡ spec.rate_on line.now }
@@ -24,7 +24,7 @@ fn time_of_bytes(rate: Rate, bytes: u64) -> u128
     (u128::from(bytes) * BYTE_TICKS_AT_1BPS).div_ceil(u128::from(rate.bits_per_second()))
 }
 
-/// The time since the reference before, in ticks, rounded up.
+/// Returns the time since the reference before, in ticks, rounded up.
 #[tactic(auto, unfolding(crate::specs::Measures::interval_after, crate::specs::Measures::interval_from))]
 pub(crate) fn interval_after(
     timing: PcrTiming,
@@ -79,7 +79,7 @@ fn off_neighbours(before: &Line, line: &Line) -> Inaccuracy
     }
 }
 
-/// The inaccuracy that a reference makes known, after whose line and the one before it it is asked.
+/// Returns the inaccuracy that a reference makes known, after whose line and the one before it it is asked.
 #[tactic(auto, unfolding(crate::specs::Measures::inaccuracy_by))]
 pub(crate) fn inaccuracy_by(
     timing: PcrTiming,

@@ -25,18 +25,18 @@ pub struct PcrError {
     pub limit: u64,
 }
 
-/// What a reference says beside those before it.
+/// What a reference says beside the references before it.
 #[derive(Clone, Copy)]
 pub struct PcrReport {
     /// Its byte.
     pub byte: u64,
-    /// Whether the clock goes on to it, or begins anew.
+    /// Whether the clock continues to it, or restarts.
     pub step: ClockStep,
-    /// The rate that it gives with the one before it, in bits a second, where the clock goes on.
+    /// The rate that it gives with the reference before it, in bits a second, if the clock continues.
     pub rate: Option<u128>,
     /// The time since the one before it, in ticks.
     pub interval: Option<u128>,
-    /// The inaccuracy that it makes known: at a constant rate its own, else that of the one before it.
+    /// The inaccuracy that it makes known: at a constant rate its own, otherwise the inaccuracy of the reference before it.
     pub inaccuracy: Option<Inaccuracy>,
 }
 
@@ -74,22 +74,22 @@ fn difference_in(step: &ClockStep) -> Option<u128>
 }
 
 impl PcrReport {
-    /// PCR_repetition_error (2.3a): the time since the reference before it, beyond 100 ms.
+    /// Returns PCR_repetition_error (2.3a): the time since the reference before it, beyond 100 ms.
     pub fn repetition_error(&self) -> Option<PcrError>
         ensures { result ≡ spec.repetition_error self.now }
     {
         beyond_if(GREATEST_INTERVAL, self.byte, self.interval)
     }
 
-    /// PCR_discontinuity_indicator_error (2.3b): the ticks since the value before it, beyond 100 ms, though no
-    /// discontinuity_indicator stands beside it.
+    /// Returns PCR_discontinuity_indicator_error (2.3b): the ticks since the value before it, beyond 100 ms, though its
+    /// packet has no discontinuity_indicator.
     pub fn discontinuity_error(&self) -> Option<PcrError>
         ensures { result ≡ spec.discontinuity_error self.now }
     {
         beyond_if(GREATEST_INTERVAL, self.byte, difference_in(&self.step))
     }
 
-    /// PCR_accuracy_error (2.4): the inaccuracy of a reference, beyond 500 ns.
+    /// Returns PCR_accuracy_error (2.4): the inaccuracy of a reference, beyond 500 ns.
     #[tactic(auto, unfolding(crate::specs::Errors::off_beyond))]
     pub fn accuracy_error(&self) -> Option<PcrError>
         ensures { result ≡ spec.accuracy_error self.now }

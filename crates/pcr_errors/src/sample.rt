@@ -27,7 +27,7 @@ fn sample_in_field(index: u64, parts: &AdaptationField<'_>) -> Option<PcrSample>
     })
 }
 
-/// The clock reference of a packet, if it has one: none of a packet beyond the first 2^40 bytes of a stream.
+/// Returns the clock reference of a packet, if it has one: none of a packet beyond the first 2^40 bytes of a stream.
 #[tactic(auto, unfolding(crate::specs::Samples::sample_in))]
 pub fn pcr_sample(index: u64, packet: &Packet<'_>) -> Option<PcrSample>
     ensures value { result ≡ spec.pcr_sample index (packet_view packet.now) }

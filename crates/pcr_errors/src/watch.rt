@@ -50,7 +50,7 @@ fn rate_if(line: &Option<Line>) -> Option<u128>
 }
 
 impl PcrWatch {
-    /// No reference has come.
+    /// Returns the state before the first reference.
     pub fn new(timing: PcrTiming) -> PcrWatch
         ensures { result ≡ no_reference timing }
     {
@@ -61,14 +61,14 @@ impl PcrWatch {
         }
     }
 
-    /// The counts of the reports so far.
+    /// Returns the counts of the reports so far.
     pub fn counts(&self) -> PcrCounts
         ensures { result ≡ self.now.counts }
     {
         self.counts
     }
 
-    /// The next reference.
+    /// Returns the next reference.
     pub fn take(&mut self, sample: PcrSample) -> PcrReport
         requires { IsInRange sample }
         ensures report { result ≡ report_after self.old.timing self.old.clock sample }

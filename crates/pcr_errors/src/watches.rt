@@ -15,7 +15,7 @@ use std::hash::{BuildHasherDefault, FoldHasher};
 use std::marker::Model;
 use ts_packet::Packet;
 
-/// Watches by PID, in the order in which the PIDs first had a reference.
+/// Watches by PID, in the order of each PID's first reference.
 pub type PcrEntries<A> = IndexMap<u16, PcrWatch, BuildHasherDefault<FoldHasher>, A>;
 
 /// The references of each PID of a stream as far as they have come: one watch a PID is kept.
@@ -45,7 +45,7 @@ fn watch_of<A: Allocator>(timing: PcrTiming, watches: &PcrEntries<A>, pid: u16) 
 }
 
 impl<A: Allocator + Copy> PcrWatches<A> {
-    /// Before the first packet.
+    /// Returns the state before the first packet.
     pub fn new(alloc: A, timing: PcrTiming) -> PcrWatches<A>
         ensures { result ≡ spec.no_packet timing }
     {
@@ -55,7 +55,7 @@ impl<A: Allocator + Copy> PcrWatches<A> {
         }
     }
 
-    /// The watch of each PID.
+    /// Returns the watch of each PID.
     pub fn watches(&self) -> &PcrEntries<A>
         ensures { result.now.entries ≡ self.now.watches }
     {
@@ -73,9 +73,9 @@ impl<A: Allocator + Copy> PcrWatches<A> {
         Ok(report)
     }
 
-    /// The next packet, of the stream's number `index`, and the report on its reference, if it has one.
+    /// Takes the next packet, number `index` of the stream, and returns the report on its reference, if it has one.
     ///
-    /// After an `AllocError` the watches are those of no stream: drop them.
+    /// After an `AllocError` the watches describe no stream: drop them.
     #[tactic(auto, unfolding(crate::specs::PidWatches::taken_if, crate::specs::PidWatches::report_if))]
     pub fn take(&mut self, index: u64, packet: &Packet<'_>) -> Result<Option<PcrReport>, AllocError>
         ensures watches { OnOk result (self.new ≡ spec.taken self.old index (packet_view packet.now)) }

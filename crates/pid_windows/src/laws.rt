@@ -2,7 +2,7 @@
 //! and a caller may cite it.
 ghost use Rattle.pid_windows.specs.Laws.{ClockLaw, CountLaw};
 
-/// Where packets come in the order of their windows, the counts are those of all packets of the last one's window.
+/// States that the counts are the counts of all packets of the last packet's window, if packets are in the order of their windows.
 pub fn counts()
     ensures packets { CountLaw }
     ensures clocks { ClockLaw }

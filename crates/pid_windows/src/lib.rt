@@ -1,6 +1,6 @@
-//! The packets of each PID by window of time, as a stream comes: the counts of one window are kept, and of no other.
+//! The packets of each PID by window of time, as a stream arrives: the counts of a single window are kept.
 //!
-//! - [`PidWindow`]: the window of the last packet, with its packets of each PID and those of them that have a program
+//! - [`PidWindow`]: the window of the last packet, with its packets of each PID, and how many of them have a program
 //!   clock reference.
 //! - [`laws`]: these are all packets of the window.
 //!

@@ -7,14 +7,14 @@ use pid_map::PidMap;
 use std::alloc::{AllocError, Allocator};
 use std::marker::Model;
 
-/// The number of packets of a PID, and of those of them that have a program_clock_reference.
+/// The number of packets of a PID, and how many of them have a program_clock_reference.
 #[derive(Clone, Copy)]
 pub struct PidCounts {
     pub packets: u64,
     pub pcrs: u64,
 }
 
-/// Counts by PID, in the order in which the PIDs were first seen.
+/// Counts by PID, in the order of each PID's first packet.
 pub type PidEntries<A> = pid_map::PidEntries<PidCounts, A>;
 
 /// The window of the last packet, and its counts. There is room for each PID once, whatever the number of windows.
@@ -84,7 +84,7 @@ fn count<A: Allocator + Clone>(
 }
 
 impl<A: Allocator + Copy> PidWindow<A> {
-    /// Before the first packet.
+    /// Returns the state before the first packet.
     pub fn new(alloc: A) -> PidWindow<A>
         ensures { result ≡ no_packet }
     {
@@ -94,24 +94,24 @@ impl<A: Allocator + Copy> PidWindow<A> {
         }
     }
 
-    /// The number of the window of the last packet, 0 before the first.
+    /// Returns the number of the window of the last packet, 0 before the first.
     pub fn number(&self) -> u64
         ensures { result ≡ self.now.number }
     {
         self.number
     }
 
-    /// Its counts.
+    /// Returns the counts of the window's PIDs.
     pub fn counts(&self) -> &PidEntries<A>
         ensures { result.now.entries ≡ self.now.counts }
     {
         self.counts.entries()
     }
 
-    /// A packet of a window: of another one than the last packet's it is the first, and the counts of the last window are
-    /// forgotten.
+    /// Takes a packet of a window. If the window is not the last packet's window, the packet is the window's first, and the
+    /// counts of the last window are forgotten.
     ///
-    /// After an `AllocError` the window is that of no packets: drop it.
+    /// After an `AllocError` the window describes no packets: drop it.
     #[tactic(auto, unfolding(crate::specs::Windows::counts_in))]
     pub fn take(&mut self, window: u64, pid: u16, pcr: bool) -> Result<(), AllocError>
         ensures { OnOk result (self.new ≡ taken self.old window pid pcr) }

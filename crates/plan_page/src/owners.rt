@@ -13,7 +13,7 @@ pub enum Owner {
 }
 
 impl Owner {
-    /// Whether it owns a slot.
+    /// Returns whether it owns a slot.
     #[tactic(auto, unfolding(crate::specs::Owners::owns))]
     pub(crate) fn owns(self, slot: Slot) -> bool
         ensures { result ≡ spec.owns self slot }
@@ -25,7 +25,7 @@ impl Owner {
         }
     }
 
-    /// How many slots it owns.
+    /// Returns how many slots it owns.
     pub(crate) fn count_in(self, slots: &[Slot]) -> u64
         ensures count { result ≡ spec.count_in self slots.now }
         ensures bound { result ≤ length slots.now }
@@ -47,8 +47,8 @@ fn item_gap(item: Item, slots: &[Slot], row: u64) -> Option<u64>
     }
 }
 
-/// The most slots from one that it owns to the `row`-th one after it, the period repeated; none for null packets, nor for an
-/// item without a slot.
+/// Returns the most slots from one that it owns to the `row`-th one after it, the period repeated; none for null packets,
+/// nor for an item without a slot.
 #[tactic(auto, unfolding(crate::specs::Owners::gap_in))]
 pub(crate) fn gap_in(owner: Owner, slots: &[Slot], row: u64) -> Option<u64>
     requires short { length slots.now ≤ 65536 }

@@ -28,7 +28,7 @@ pub enum LimitName {
     Nothing,
 }
 
-/// What owns slots: its name, its program (0: none), its PID; and the limit, in units of 90 kHz, of its gaps over so many own
+/// What owns slots: its name, its program (0: none), its PID; and the limit, in units of 90 kHz, of its gaps over a number of own
 /// slots in a row.
 #[derive(Clone, Copy)]
 pub struct PlanItem {
@@ -42,7 +42,7 @@ pub struct PlanItem {
 }
 
 impl ItemName {
-    /// Its word.
+    /// Returns its word.
     #[tactic(auto, unfolding(crate::specs::PlanItems::word))]
     pub(crate) fn word(self) -> &'static str
         ensures { result.now ≡ spec.word self }
@@ -57,7 +57,7 @@ impl ItemName {
 }
 
 impl LimitName {
-    /// Its word.
+    /// Returns its word.
     #[tactic(auto, unfolding(crate::specs::PlanItems::limit_word))]
     pub(crate) fn word(self) -> &'static str
         ensures { result.now ≡ spec.limit_word self }
@@ -144,8 +144,8 @@ fn push_programs(
     Ok(())
 }
 
-/// All that slots can be for: the streams, the clock references and the tables of a description, each in the order of their
-/// numbers, and null packets.
+/// Returns all that slots can be for: the streams, the clock references and the tables of a description, each in the order of
+/// their numbers, and null packets.
 pub(crate) fn plan_items(
     alloc: Global,
     description: &Description,

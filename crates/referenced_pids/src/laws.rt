@@ -2,8 +2,8 @@
 //! and a caller may cite it.
 ghost use Rattle.referenced_pids.specs.Laws.{MissingLaw, UnreferencedLaw};
 
-/// Which PIDs are in the lists: those with packets that have to be named and are not, and those that are named and have
-/// none.
+/// States which PIDs are in the lists: PIDs with packets that no table names though one must, and PIDs that are named and
+/// have no packet.
 pub fn members()
     ensures unreferenced { UnreferencedLaw }
     ensures missing { MissingLaw }

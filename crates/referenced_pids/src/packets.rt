@@ -1,4 +1,4 @@
-//! The PIDs that have packets, beside those that tables name.
+//! The PIDs that have packets, beside the PIDs that tables name.
 ghost use Rattle.std.specs.Prelude.{◌≡◌, ◌++◌, IfOk, OnOk, [], option_to_list};
 ghost use Rattle.referenced_pids.specs.Packets as spec;
 
@@ -29,7 +29,7 @@ fn push_unreferenced(referenced: &[u16], pid: u16, pids: &mut Vec<u16>) -> Resul
     Ok(())
 }
 
-/// The PIDs with packets that tables have to name and do not, in the order of their first packets.
+/// Returns the PIDs with packets that tables have to name and do not, in the order of their first packets.
 pub fn unreferenced_pids(
     alloc: Global,
     referenced: &[u16],
@@ -58,7 +58,7 @@ fn push_missing(
     Ok(())
 }
 
-/// The PIDs that are named and have no packet, each once, in the order in which they are named.
+/// Returns the PIDs that are named and have no packet, each once, in the order of their names.
 #[tactic(auto, unfolding(crate::specs::Packets::missing_pids))]
 pub fn missing_pids(
     alloc: Global,

@@ -71,8 +71,8 @@ fn pids_of(
     Ok(pids)
 }
 
-/// The PIDs that the first tables name: of streams, whatever their stream_type, of clock references, and of maps. None
-/// while these tables have not come.
+/// Returns the PIDs that the first tables name: of streams, whatever their stream_type, of clock references, and of
+/// maps. None while these tables have not come.
 #[tactic(auto, unfolding(crate::specs::References::referenced_by))]
 pub fn referenced_pids(alloc: Global, named: &NamedStreams) -> Result<Option<Vec<u16>>, AllocError>
     ensures { IfOk result (λ pids. option_map (λ p. p.items) pids ≡ spec.referenced_pids named.now) }

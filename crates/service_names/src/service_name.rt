@@ -59,7 +59,7 @@ fn name_in(
 }
 
 impl ServiceName {
-    /// What the first packets say of a program.
+    /// Returns what the first packets say of a program.
     pub(crate) fn first(
         alloc: Global,
         findings: &[Finding<'_>],
@@ -73,7 +73,7 @@ impl ServiceName {
         })
     }
 
-    /// What is found later counts in place of that.
+    /// Returns what is found later counts in place of that.
     pub(crate) fn take(&mut self, alloc: Global, findings: &[Finding<'_>]) -> Result<(), AllocError>
         ensures { OnOk result (self.new ≡ spec.with_later (map finding_view findings.now) self.old) }
     {

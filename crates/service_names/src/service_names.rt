@@ -14,7 +14,7 @@ use stream_programs::FoundProgram;
 
 /// The names of the services of the programs of a stream's first tables, as its service description tables say them.
 ///
-/// After an `AllocError` they are those of no stream: drop them.
+/// After an `AllocError` they describe no stream: drop them.
 #[derive(Drop)]
 pub struct ServiceNames {
     alloc: Global,
@@ -80,7 +80,7 @@ fn is_description(bytes: &[u8; 188]) -> bool
 }
 
 impl ServiceNames {
-    /// Before the first packet.
+    /// Returns the state before the first packet.
     pub fn new(alloc: Global) -> ServiceNames
         ensures { result ≡ spec.none_taken }
     {
@@ -105,7 +105,7 @@ impl ServiceNames {
         Ok(())
     }
 
-    /// The next packet, where its stream names these.
+    /// Takes the next packet of a stream that names these programs.
     pub fn take(&mut self, named: &NamedStreams, bytes: &[u8; 188]) -> Result<(), AllocError>
         ensures { OnOk result (self.new ≡ spec.taken self.old named.now bytes.now) }
     {
@@ -123,7 +123,7 @@ impl ServiceNames {
         Ok(())
     }
 
-    /// The name of a program's service, if one is known.
+    /// Returns the name of a program's service, if it is known.
     #[tactic(auto, unfolding(crate::specs::ServiceNames::known_name))]
     pub fn name(&self, program: u16) -> Option<&str>
         ensures { option_map (λ name. name.now) result ≡ spec.known_name program self.now.names }

@@ -8,7 +8,7 @@ use clock27::Rate;
 use clock27::units::BYTE_TICKS_AT_1BPS;
 use packet_arrival::Row;
 
-/// Two lines of a clock in a row: up to the byte with which the second begins, bytes lie on the first.
+/// Two lines of a clock in a row: bytes before the second line's first byte lie on the first line.
 #[derive(Clone, Copy)]
 pub struct ClockLines {
     pub before: ClockLine,
@@ -27,7 +27,7 @@ pub enum Arrival {
 }
 
 impl ClockLines {
-    /// The line of a byte.
+    /// Returns the line of a byte.
     pub fn line_at(&self, byte: u64) -> ClockLine
         ensures { result ≡ spec.line_at self.now byte }
     {
@@ -38,7 +38,7 @@ impl ClockLines {
         }
     }
 
-    /// The moment of a byte in ticks, rounded down.
+    /// Returns the moment of a byte in ticks, rounded down.
     pub fn moment(&self, byte: u64) -> u64
         ensures { result ≡ spec.moment_on self.now byte }
     {
@@ -47,8 +47,8 @@ impl ClockLines {
 }
 
 impl Arrival {
-    /// How long a byte takes to leave a buffer at its rate: a buffer that is drained at `r` bits a second counts time in units of
-    /// `1 / (r * step)` of 8 seconds.
+    /// Returns how long a byte takes to leave a buffer at its rate: a buffer that is drained at `r` bits a second counts time in units of `1
+    /// / (r * step)` of 8 seconds.
     #[tactic(auto, unfolding(crate::specs::Arrivals::step_of))]
     pub fn step(&self) -> u64
         ensures step { result ≡ spec.step_of self.now }
@@ -61,7 +61,7 @@ impl Arrival {
         }
     }
 
-    /// Whether `count` bytes from byte `byte` on have times.
+    /// Returns whether `count` bytes from byte `byte` on have times.
     #[tactic(auto, unfolding(crate::specs::Arrivals::has_times))]
     pub fn has_times(&self, byte: u64, count: u64) -> bool
         requires byte { byte ≤ 2 ^ 41 }
@@ -79,7 +79,7 @@ impl Arrival {
         }
     }
 
-    /// How many bytes of the packet from byte `byte` on lie on the first of two lines, where the second begins within it.
+    /// Returns how many bytes of the packet from byte `byte` on lie on the first of two lines, where the second begins within it.
     #[tactic(auto, unfolding(crate::specs::Arrivals::lead_of))]
     pub fn lead(&self, byte: u64) -> u64
         requires { byte ≤ 2 ^ 41 }
@@ -97,8 +97,8 @@ impl Arrival {
         }
     }
 
-    /// The arrivals of `count` bytes from byte `byte` on, all on the line of the first of them, at a buffer that is drained at `drain` bits a
-    /// second.
+    /// Returns the arrivals of `count` bytes from byte `byte` on, all on the line of the first of them, at a buffer that is drained at
+    /// `drain` bits a second.
     #[tactic(auto, unfolding(crate::specs::Arrivals::has_times, crate::specs::Arrivals::times_at))]
     pub fn row(&self, drain: u64, byte: u64, count: u64) -> Row
         requires drain { drain ≤ 200000000 }

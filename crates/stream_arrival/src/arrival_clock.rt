@@ -1,4 +1,4 @@
-//! The clock by which a stream arrives.
+//! The clock of a stream's arrival.
 ghost use Rattle.std.specs.Prelude.{◌≡◌, ◌+◌, ◌≤◌, ◌^◌, IfSome};
 ghost use Rattle.packet_arrival.specs.Clock.{IfGoesOn, IsClockLine, IsInRange, IsMoment};
 ghost use Rattle.stream_arrival.specs.ArrivalClocks as spec;
@@ -7,8 +7,8 @@ use crate::clock_line::ClockLine;
 use packet_arrival::{ClockStep, Line, PCR_PERIOD, PcrSample, ProgramClock};
 use std::marker::Model;
 
-/// The clock by which a stream arrives: the program's clock, the moment of its last reference, and the last line, which goes on where
-/// the clock begins anew.
+/// The clock of a stream's arrival: the program's clock, the moment of its last reference, and the last line, which continues where
+/// the clock restarts.
 #[derive(Clone, Copy)]
 pub struct ArrivalClock {
     clock: ProgramClock,
@@ -73,7 +73,7 @@ fn line_from(moment: u64, step: &ClockStep) -> Option<ClockLine>
 }
 
 impl ArrivalClock {
-    /// No reference has come.
+    /// Returns the state before the first reference.
     pub fn new() -> ArrivalClock
         ensures { result ≡ spec.no_reference }
     {
@@ -84,14 +84,14 @@ impl ArrivalClock {
         }
     }
 
-    /// The last line.
+    /// Returns the last line.
     pub fn line(&self) -> Option<ClockLine>
         ensures { result ≡ self.now.line }
     {
         self.line
     }
 
-    /// The next reference comes: the line of the bytes between it and the one before.
+    /// Takes the next reference, and returns the line of the bytes between it and the one before.
     pub fn take(&mut self, sample: PcrSample) -> Option<ClockLine>
         requires { IsInRange sample }
         ensures line { result ≡ spec.line_to self.old sample }
@@ -104,7 +104,7 @@ impl ArrivalClock {
         self.line
     }
 
-    /// No reference came for too long: the clock begins anew with the next.
+    /// Restarts the clock with the next reference, after too long a time without one.
     pub fn begin_anew(&mut self)
         ensures { self.new ≡ spec.without_last self.old }
     {

@@ -27,7 +27,7 @@ impl Model for ClockLine {
 }
 
 impl ClockLine {
-    /// That line.
+    /// Returns the clock line of a line.
     pub fn new(line: Line) -> ClockLine
         requires { IsClockLine line }
         ensures { result ≡ line }
@@ -35,7 +35,7 @@ impl ClockLine {
         ClockLine { line }
     }
 
-    /// The line.
+    /// Returns the line.
     pub fn line(&self) -> Line
         ensures line { result ≡ self.now }
         ensures clock { IsClockLine result }
@@ -52,14 +52,14 @@ impl ClockLine {
         forward.saturating_sub(u128::from(self.line.byte) * u128::from(self.line.ticks))
     }
 
-    /// The moment of a byte in ticks, rounded down.
+    /// Returns the moment of a byte in ticks, rounded down.
     pub fn moment(&self, byte: u64) -> u64
         ensures { result ≡ min (parts_at self.now byte / max 1 self.now.bytes) (2 ^ 64 - 1) }
     {
         (self.parts(byte) / u128::from(self.line.bytes.max(1))).min(u128::from(u64::MAX)) as u64
     }
 
-    /// The first whole tick that is not before a byte.
+    /// Returns the first whole tick that is not before a byte.
     pub fn tick_after(&self, byte: u64) -> u128
         ensures { result ≡ tick_after self.now byte }
     {

@@ -1,7 +1,7 @@
 //! How a stream arrives (ISO/IEC 13818-1, 2.4.2.2): at a constant rate, or on the lines between the clock references of a program, one
-//! after another also where the clock begins anew.
+//! after another also where the clock restarts.
 //!
-//! - [`Arrival`]: how bytes arrive, and their rows at a buffer; [`ClockLines`], two lines in a row, and [`ClockLine`], one of them.
+//! - [`Arrival`]: how bytes arrive, and their rows at a buffer; [`ClockLines`], two lines in a row, and [`ClockLine`], a single line.
 //! - [`ArrivalClock`]: takes clock references, and gives the line of the bytes between two of them.
 #![tactic(auto)]
 

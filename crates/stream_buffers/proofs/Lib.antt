@@ -1,2 +1,5 @@
 pub mod Rows
 pub mod Packets
+pub mod VideoRows
+pub mod VideoBegins
+pub mod VideoIfAny

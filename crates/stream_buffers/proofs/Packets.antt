@@ -13,6 +13,8 @@ use Rattle.stream_buffers.specs.declared.arriving.Arriving.{Arriving}
 use Rattle.stream_buffers.specs.declared.entered.Entered.{Entered}
 use Rattle.stream_buffers.specs.declared.buffers.StreamBuffers.{StreamBuffers}
 use Rattle.stream_buffers.specs.Held.{Held, IsHeld}
+use Rattle.stream_buffers.specs.HeldVideo.{HoldsVideoOf, VideoEnteredView, VideoSizes}
+use Rattle.stream_buffers.specs.EnteringVideo.{bytes_video, unit_with, video_of, video_unit_ended, video_unit_of, video_with}
 use Rattle.stream_buffers.specs.Entering.{after, after_begin, after_bytes, after_header, after_lead, after_unit, bytes_main, bytes_main_least, bytes_main_most, bytes_transport, bytes_transport_most, ended_with, entered, entered_view, lead_in, size_of, takes_in, unit_ended, with_packet}
 use Rattle.stream_buffers.proofs.Rows.{bytes_held}
 
@@ -92,3 +94,62 @@ packet_entered b0 b1 b2 b3 h arrival p e size lead lead_most header_most payload
     (parts.main (after_unit h arrival p size lead) begun) (parts.unit (after_header h arrival p size lead) passed) most (parts.main_found (after_unit h arrival p size lead) begun)
     (parts.least_found (after_unit h arrival p size lead) begun) in
     view ∙ ap (λ (n : ℕ). ended_with h arrival p n lead) same ∙ ap (λ (n : ℕ). ended_with h arrival p (size_of p) n) same' ∙ entered_in h arrival p takes
+
+-- up to the payload: what the buffers hold, and those of video
+pub record Steps (b0 b1 b2 b3 : StreamBuffers) (arrival : Arrival) (p : Arriving) (size lead : ℕ) : Type 0 where
+  pub first : (h : Held) → IsHeld b0 h → IsHeld b1 (after_lead h arrival p lead)
+  pub header : (h : Held) → IsHeld b1 h → IsHeld b2 (after_bytes h arrival false (188 * p.index + lead) (188 - size - lead))
+  pub begin : (h : Held) → IsHeld b2 h → IsHeld b3 (after_begin h p.begins)
+  pub first_video : (h : Held) (sizes : Option VideoSizes) → IsHeld b0 h → HoldsVideoOf b0 sizes h → HoldsVideoOf b1 sizes (after_lead h arrival p lead)
+  pub header_video : (h : Held) (sizes : Option VideoSizes) → IsHeld b1 h → HoldsVideoOf b1 sizes h →
+      HoldsVideoOf b2 sizes (after_bytes h arrival false (188 * p.index + lead) (188 - size - lead))
+  pub begin_video : (h : Held) (sizes : Option VideoSizes) → IsHeld b2 h → HoldsVideoOf b2 sizes h → HoldsVideoOf b3 sizes (after_begin h p.begins)
+
+-- and what the buffers of video hold after it
+pub packet_video : (b0 b1 b2 b3 b4 : StreamBuffers) (sizes : Option VideoSizes) (h : Held) (arrival : Arrival) (p : Arriving) (size lead : ℕ) → IsHeld b0 h → HoldsVideoOf b0 sizes h →
+    takes_in h arrival p ≡ true → size ≡ size_of p → lead ≡ lead_in arrival p → Steps b0 b1 b2 b3 arrival p size lead →
+    ((h : Held) (sizes : Option VideoSizes) → IsHeld b3 h → HoldsVideoOf b3 sizes h → HoldsVideoOf b4 sizes (after_bytes h arrival p.enters (188 * p.index + (188 - size)) size)) →
+    HoldsVideoOf b4 sizes (after h arrival p)
+packet_video b0 b1 b2 b3 b4 sizes h arrival p size lead k v takes same same' steps payload_video =
+    let led = steps.first h k in
+    let led_video = steps.first_video h sizes k v in
+    let passed = steps.header (after_lead h arrival p lead) led in
+    let passed_video = steps.header_video (after_lead h arrival p lead) sizes led led_video in
+    let begun = steps.begin (after_header h arrival p size lead) passed in
+    let begun_video = steps.begin_video (after_header h arrival p size lead) sizes passed passed_video in
+    let held : HoldsVideoOf b4 sizes (with_packet h arrival p size lead) = payload_video (after_unit h arrival p size lead) sizes begun begun_video in
+    subst (HoldsVideoOf b4 sizes) (ap (λ (n : ℕ). with_packet h arrival p n lead) same ∙ ap (λ (n : ℕ). with_packet h arrival p (size_of p) n) same' ∙ after_in h arrival p takes) held
+
+video_in : (sizes : Option VideoSizes) (h : Held) (arrival : Arrival) (p : Arriving) → takes_in h arrival p ≡ true → video_with sizes h arrival p (size_of p) (lead_in arrival p) ≡ video_of sizes h arrival p
+unfolding video_of
+video_in sizes h arrival p e = rw e refl
+
+unit_in : (sizes : Option VideoSizes) (h : Held) (arrival : Arrival) (p : Arriving) → takes_in h arrival p ≡ true → unit_with sizes h arrival p (size_of p) (lead_in arrival p) ≡ video_unit_of sizes h arrival p
+unfolding video_unit_of
+unit_in sizes h arrival p e = rw e refl
+
+-- and what it has ended in them
+pub packet_video_entered : (b0 b1 b2 b3 : StreamBuffers) (sizes : Option VideoSizes) (h : Held) (arrival : Arrival) (p : Arriving) (size lead : ℕ) (found : VideoEnteredView) → IsHeld b0 h →
+    HoldsVideoOf b0 sizes h → takes_in h arrival p ≡ true → size ≡ size_of p → lead ≡ lead_in arrival p → Steps b0 b1 b2 b3 arrival p size lead →
+    ((h : Held) (sizes : Option VideoSizes) → IsHeld b3 h → HoldsVideoOf b3 sizes h → found ≡ bytes_video sizes h arrival p.enters (188 * p.index + (188 - size)) size) →
+    found ≡ video_of sizes h arrival p
+packet_video_entered b0 b1 b2 b3 sizes h arrival p size lead found k v takes same same' steps payload =
+    let led = steps.first h k in
+    let led_video = steps.first_video h sizes k v in
+    let passed = steps.header (after_lead h arrival p lead) led in
+    let passed_video = steps.header_video (after_lead h arrival p lead) sizes led led_video in
+    let begun = steps.begin (after_header h arrival p size lead) passed in
+    let begun_video = steps.begin_video (after_header h arrival p size lead) sizes passed passed_video in
+    payload (after_unit h arrival p size lead) sizes begun begun_video
+    ∙ ap (λ (n : ℕ). video_with sizes h arrival p n lead) same ∙ ap (λ (n : ℕ). video_with sizes h arrival p (size_of p) n) same' ∙ video_in sizes h arrival p takes
+
+pub packet_video_unit : (b0 b1 b2 b3 : StreamBuffers) (sizes : Option VideoSizes) (h : Held) (arrival : Arrival) (p : Arriving) (size lead : ℕ) (unit : Option UnitSeen) → IsHeld b0 h →
+    HoldsVideoOf b0 sizes h → takes_in h arrival p ≡ true → size ≡ size_of p → lead ≡ lead_in arrival p → Steps b0 b1 b2 b3 arrival p size lead →
+    ((h : Held) (sizes : Option VideoSizes) → IsHeld b2 h → HoldsVideoOf b2 sizes h → unit ≡ video_unit_ended sizes h p.begins) → unit ≡ video_unit_of sizes h arrival p
+packet_video_unit b0 b1 b2 b3 sizes h arrival p size lead unit k v takes same same' steps ends =
+    let led = steps.first h k in
+    let led_video = steps.first_video h sizes k v in
+    let passed = steps.header (after_lead h arrival p lead) led in
+    let passed_video = steps.header_video (after_lead h arrival p lead) sizes led led_video in
+    ends (after_header h arrival p size lead) sizes passed passed_video
+    ∙ ap (λ (n : ℕ). unit_with sizes h arrival p n lead) same ∙ ap (λ (n : ℕ). unit_with sizes h arrival p (size_of p) n) same' ∙ unit_in sizes h arrival p takes

@@ -10,6 +10,7 @@ use Rattle.stream_view.specs.Limits.{last_bytes, last_index}
 use Rattle.stream_view.specs.declared.unit_seen.UnitSeen.{UnitSeen}
 use Rattle.stream_view.specs.declared.unit_seen.DueTime.{DueTime}
 use Rattle.stream_buffers.specs.Held.{Held, begun, carried, main_ended, main_found, main_least_found, passed, transport_ended, transport_found, unit_before}
+use Rattle.stream_buffers.specs.HeldVideo.{nothing_of_video}
 use Rattle.stream_buffers.specs.declared.arriving.Arriving.{Arriving}
 use Rattle.stream_buffers.specs.declared.entered.Entered.{Entered}
 
@@ -34,7 +35,7 @@ entered_view e = record {
 }
 
 abbrev pub nothing_entered : Entered
-nothing_entered = record { lead = None; header = None; payload = None; main = None; unit = None; transport_most = 0; main_most = 0; main_least = None }
+nothing_entered = record { lead = None; header = None; payload = None; main = None; unit = None; transport_most = 0; main_most = 0; main_least = None; video = nothing_of_video }
 
 abbrev pub nothing : EnteredView
 nothing = record { transport = []; main = []; unit = None; transport_most = 0; main_most = 0; main_least = None }

@@ -1,2 +1,5 @@
 pub mod Held
 pub mod Entering
+pub mod VideoBytes
+pub mod HeldVideo
+pub mod EnteringVideo

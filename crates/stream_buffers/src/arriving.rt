@@ -11,6 +11,6 @@ pub struct Arriving {
     pub size: u64,
     /// When the unit is due that begins with its payload, if one does.
     pub begins: Option<DueTime>,
-    /// Whether its payload goes on to the main buffer.
+    /// Whether its payload continues to the main buffer.
     pub enters: bool,
 }

@@ -1,6 +1,8 @@
 //! Both buffers of a stream.
-ghost use Rattle.std.specs.Prelude.{◌≤◌};
+ghost use Rattle.std.specs.Prelude.{◌+◌, ◌*◌, ◌≤◌, ◌^◌};
+ghost use Rattle.stream_buffers.specs.VideoBytes.{bytes_in};
 
+use crate::video_buffers::VideoBuffers;
 use std::alloc::Global;
 use stream_view::{MainWatch, StreamView};
 
@@ -10,7 +12,12 @@ use stream_view::{MainWatch, StreamView};
 pub struct StreamBuffers {
     pub rx: u32,
     pub view: StreamView<Global>,
-    /// The size of the main buffer, and its excess that is under way.
+    /// The size of the main buffer, and its current excess.
     pub main: MainWatch,
+    /// Of video its two buffers after the transport buffer, if they are viewed.
+    pub video: Option<VideoBuffers>,
     pub ghost slow: { rx ≤ 200000000 },
+    pub ghost paced: { view.transport.step ≤ 2 ^ 28 },
+    pub ghost soon: { view.transport.last ≤ 2 ^ 86 + view.transport.bytes * view.transport.step },
+    pub ghost fewer: { bytes_in video ≤ view.transport.bytes },
 }

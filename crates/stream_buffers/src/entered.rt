@@ -2,13 +2,14 @@
 ghost use Rattle.std.specs.Prelude.{◌≡◌};
 ghost use Rattle.stream_buffers.specs.Entering.{nothing_entered};
 
+use crate::video_buffers::VideoEntered;
 use stream_view::UnitSeen;
 use transport_buffer::Excess;
 
-/// What has ended with a packet: an excess of the transport buffer before one of its first bytes, which lie on another line than the
-/// others, before another byte of its header, or before one of its payload; one of the main buffer; and the unit before one that begins.
-/// And the most bytes that were in each buffer when one of the packet entered it, itself included; 0 where none did; and the least that
-/// one of them found in the main buffer, itself not counted.
+/// What has ended with a packet: an excess of the transport buffer before a byte at its front, which may lie on an earlier line than the
+/// rest, before another byte of its header, or before a payload byte; an excess of the main buffer; and the unit before a unit that
+/// begins. And the most bytes that were in each buffer when any byte of the packet entered it, itself included (0 if none did), and the
+/// least that any of them found in the main buffer, itself not counted.
 #[derive(Clone, Copy)]
 pub struct Entered {
     pub lead: Option<Excess>,
@@ -19,10 +20,12 @@ pub struct Entered {
     pub transport_most: u128,
     pub main_most: u64,
     pub main_least: Option<u64>,
+    /// What has ended in the two buffers of video after the transport buffer.
+    pub video: VideoEntered,
 }
 
 impl Entered {
-    /// Nothing has ended, and nothing was in the buffers.
+    /// Returns the value for which nothing has ended, and nothing was in the buffers.
     #[inline(always)]
     pub fn new() -> Entered
         ensures { result ≡ nothing_entered }
@@ -36,6 +39,7 @@ impl Entered {
             transport_most: 0,
             main_most: 0,
             main_least: None,
+            video: VideoEntered::new(),
         }
     }
 }

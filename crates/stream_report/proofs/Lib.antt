@@ -4,3 +4,4 @@ pub mod ClockedPackets
 pub mod Tables
 pub mod Sections
 pub mod TablePackets
+pub mod Videos

@@ -1,10 +1,12 @@
 -- Which streams are viewed, and with which buffers.
-use Rattle.std.specs.Prelude.{ℕ, ◌==◌, ◌||◌, min, Bool, if◌then◌else◌, List, length, Option, Some, None}
+use Rattle.std.specs.Prelude.{ℕ, ◌==◌, ◌||◌, is_some, min, Bool, if◌then◌else◌, List, length, Option, Some, None}
 use Rattle.std.specs.List.{list_any}
 use Rattle.stream_coding.specs.declared.coding.Coding.{Coding}
 use Rattle.stream_coding.specs.declared.buffers.Buffers.{Buffers}
 use Rattle.stream_coding.specs.declared.buffers.PidBuffers.{PidBuffers}
-use Rattle.stream_coding.specs.Buffers.{given_buffers, joined_buffers_of}
+use Rattle.stream_coding.specs.Buffers.{buffers_of, given_buffers, joined_buffers_of, multiplexing_of}
+use Rattle.unit_timing.specs.declared.multiplexing_buffer.MultiplexingBuffer.{MultiplexingBuffer}
+use Rattle.stream_buffers.specs.declared.video_buffers.VideoRates.{VideoRates}
 use Rattle.stream_programs.specs.Streams.{FoundStreamView}
 use Rattle.stream_report.specs.declared.view_options.ViewOptions.{ViewOptions}
 
@@ -41,3 +43,11 @@ up_to_limit buffers = record { rx = min buffers.rx 200000000; main = buffers.mai
 
 abbrev pub buffers_for : ChoiceView → ℕ → Coding → Buffers
 buffers_for choice pid coding = up_to_limit (given_or (given_buffers choice.buffers pid) (joined_buffers_of coding))
+
+-- the two buffers of video, as its coding says: none are viewed where the PID's buffers are given, or of another coding
+unfoldable pub rates_if : Option MultiplexingBuffer → ℕ → Option VideoRates
+rates_if None elementary = None
+rates_if (Some m) elementary = Some (record { rbx = m.rbx; multiplexing = m.size; elementary = elementary })
+
+abbrev pub rates_for : ChoiceView → ℕ → Coding → Option VideoRates
+rates_for choice pid coding = if is_some (given_buffers choice.buffers pid) then None else rates_if (multiplexing_of coding) (buffers_of coding).main

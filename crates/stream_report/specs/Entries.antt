@@ -1,5 +1,5 @@
 -- A stream that the tables name: its PID, the PID of its program's clock references, the counter of its last packet with a payload,
--- what its buffers hold, and what is counted of it.
+-- what its buffers hold, and what is counted of it; of video the sizes of its two buffers, if they are viewed, and what is counted of them.
 use Rattle.std.specs.Prelude.{◌≡◌, ℕ, ◌/◌, ◌==◌, ◌&&◌, not, is_some, nat_le, nat_lt, unwrap_or, Bool, true, false, if◌then◌else◌, length, List, [], ◌++◌, Option, Some, None}
 use Rattle.ts_packet.specs.Views.{PacketView}
 use Rattle.stream_arrival.specs.Arrivals.{step_of}
@@ -9,6 +9,9 @@ use Rattle.stream_view.specs.declared.unit_seen.DueTime.{DueTime}
 use Rattle.stream_buffers.specs.Held.{Held, IsHeld, main_most, transport_most, unit_before}
 use Rattle.stream_view.specs.Limits.{tb_size}
 use Rattle.stream_buffers.specs.Entering.{EnteredView, after, entered}
+use Rattle.stream_buffers.specs.EnteringVideo.{video_of, video_unit_of}
+use Rattle.stream_buffers.specs.HeldVideo.{HoldsVideoOf, VideoEnteredView, VideoSizes}
+use Rattle.stream_view.specs.declared.unit_seen.UnitSeen.{UnitSeen}
 use Rattle.stream_buffers.specs.declared.arriving.Arriving.{Arriving}
 use Rattle.events.specs.declared.event.Event.{Event}
 use Rattle.stream_report.specs.declared.view_options.ViewOptions.{ViewOptions}
@@ -21,6 +24,10 @@ use Rattle.stream_report.specs.EntryEvents.{ahead_events, closing_events, ended_
 use Rattle.stream_report.specs.HeldEvents.{tally_events}
 use Rattle.stream_report.specs.Tallies.{with_excesses, with_packet, with_unit_if}
 use Rattle.stream_report.specs.declared.entry_events.Place.{Place}
+use Rattle.stream_report.specs.declared.video_tally.VideoTally.{VideoTally}
+use Rattle.stream_report.specs.VideoEvents.{video_closing_events, video_ended_events}
+use Rattle.stream_report.specs.VideoFigures.{figures_of, is_video_good, limits_of}
+use Rattle.stream_report.specs.VideoTallies.{with_video}
 
 pub record EntryState : Type 0 where
   pub pid : ℕ
@@ -28,6 +35,8 @@ pub record EntryState : Type 0 where
   pub counter : Option ℕ
   pub held : Held
   pub tally : Tally
+  pub video : Option VideoSizes
+  pub video_tally : VideoTally
 
 pub record IsEntry (entry : StreamEntry) (e : EntryState) : Type 0 where
   pub pid : entry.pid ≡ e.pid
@@ -35,6 +44,8 @@ pub record IsEntry (entry : StreamEntry) (e : EntryState) : Type 0 where
   pub counter : entry.counter ≡ e.counter
   pub held : IsHeld entry.buffers e.held
   pub tally : entry.tally ≡ e.tally
+  pub video : HoldsVideoOf entry.buffers e.video e.held
+  pub video_tally : entry.video_tally ≡ e.video_tally
 
 -- 1. What a packet is to its buffers
 
@@ -95,6 +106,13 @@ arriving_at options index clock e packet = arriving options index e.held.rx e.co
 abbrev pub entered_at : ViewOptions → ℕ → Option PcrSample → EntryState → PacketView → EnteredView
 entered_at options index clock e packet = entered e.held options.arrival (arriving_at options index clock e packet)
 
+-- and what it has ended in the two buffers of video
+abbrev pub video_at : ViewOptions → ℕ → Option PcrSample → EntryState → PacketView → VideoEnteredView
+video_at options index clock e packet = video_of e.video e.held options.arrival (arriving_at options index clock e packet)
+
+abbrev pub video_unit_at : ViewOptions → ℕ → Option PcrSample → EntryState → PacketView → Option UnitSeen
+video_unit_at options index clock e packet = video_unit_of e.video e.held options.arrival (arriving_at options index clock e packet)
+
 abbrev pub entry_after : ViewOptions → ℕ → ℕ → Option PcrSample → EntryState → PacketView → EntryState
 entry_after options index window clock e packet = record {
   pid = e.pid;
@@ -102,6 +120,8 @@ entry_after options index window clock e packet = record {
   counter = counter_after e.counter packet;
   held = after e.held options.arrival (arriving_at options index clock e packet);
   tally = tally_after e.tally window (is_unread (beginning_in e.counter packet)) (entered_at options index clock e packet);
+  video = e.video;
+  video_tally = with_video e.video_tally (video_at options index clock e packet) (video_unit_at options index clock e packet);
 }
 
 -- 3. At the end: what is counted, with the unit under way as the last one
@@ -118,7 +138,8 @@ place_at packet e = record { pid = e.pid; packet = packet; rx = e.held.rx; size 
 abbrev pub entry_events : ViewOptions → ℕ → Option PcrSample → EntryState → PacketView → List Event
 entry_events options index clock e packet =
     ahead_events (place_at index e) (ahead_by clock (beginning_in e.counter packet))
-    ++ ended_events options (place_at index e) (entered_at options index clock e packet)
+    ++ (ended_events options (place_at index e) (entered_at options index clock e packet)
+    ++ video_ended_events options (place_at index e) (limits_of e.video) (video_at options index clock e packet) (video_unit_at options index clock e packet))
 
 -- those of a window
 abbrev pub units_of : ViewOptions → ℕ → EntryState → List Event
@@ -127,8 +148,13 @@ units_of options window e = tally_events options window (place_at 0 e) e.tally
 -- those at the end
 abbrev pub end_events : ViewOptions → ℕ → ℕ → EntryState → List Event
 end_events options packets window e =
-    tally_events options window (place_at packets e) (closed window e) ++ closing_events options (place_at packets e) e.held (closed window e)
+    tally_events options window (place_at packets e) (closed window e)
+    ++ (closing_events options (place_at packets e) e.held (closed window e)
+    ++ video_closing_events options (place_at packets e) (figures_of e.video e.held) (closed window e).units e.video_tally)
 
--- neither buffer held more than its size, and no unit was late
+-- no buffer held more than its size, and no unit was late: the same of the two buffers of video, if they are viewed
+abbrev pub is_sound : EntryState → Bool
+is_sound e = nat_le (transport_most e.held) tb_size && (nat_le (main_most e.held) e.held.main.size && (closed 0 e).late == 0)
+
 abbrev pub is_good : EntryState → Bool
-is_good e = nat_le (transport_most e.held) tb_size && (nat_le (main_most e.held) e.held.main.size && (closed 0 e).late == 0)
+is_good e = is_sound e && is_video_good (figures_of e.video e.held) e.video_tally

@@ -4,6 +4,9 @@ pub mod Choices
 pub mod Clocks
 pub mod Tallies
 pub mod EntryEvents
+pub mod VideoTallies
+pub mod VideoFigures
+pub mod VideoEvents
 pub mod HeldEvents
 pub mod Entries
 pub mod StreamTables

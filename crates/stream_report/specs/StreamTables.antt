@@ -16,12 +16,15 @@ use Rattle.events.specs.declared.event.Event.{Event}
 use Rattle.stream_report.specs.declared.stream_entry.StreamEntry.{StreamEntry}
 use Rattle.stream_report.specs.declared.stream_table.StreamTable.{StreamTable}
 use Rattle.stream_report.specs.declared.view_options.ViewOptions.{ViewOptions}
-use Rattle.stream_report.specs.Choices.{ChoiceView, buffers_for, chosen}
+use Rattle.stream_report.specs.Choices.{ChoiceView, buffers_for, chosen, rates_for}
 use Rattle.stream_report.specs.Clocks.{ClockEntries, clock_of}
 use Rattle.stream_report.specs.Entries.{EntryState, IsEntry, end_events, entry_after, entry_events, units_of}
 use Rattle.stream_report.specs.Entries.{is_good as entry_is_good}
 use Rattle.stream_report.specs.EntryEvents.{stream_event}
 use Rattle.stream_report.specs.Tallies.{none_counted}
+use Rattle.stream_report.specs.VideoFigures.{sizes_if}
+use Rattle.stream_report.specs.VideoTallies.{none_of_video}
+use Rattle.stream_buffers.specs.declared.video_buffers.VideoRates.{VideoRates}
 
 -- which streams are viewed, the place of each PID, and the streams
 pub record TableState : Type 0 where
@@ -63,18 +66,24 @@ coding_by stream packet = coding_of stream.stream_type stream.descriptors (unit_
 abbrev pub stream_buffers : TableState → FoundStreamView → PacketView → Buffers
 stream_buffers t stream packet = buffers_for t.choice packet.header.pid (coding_by stream packet)
 
+-- and of video its two buffers, if they are viewed
+abbrev pub stream_rates : TableState → FoundStreamView → PacketView → Option VideoRates
+stream_rates t stream packet = rates_for t.choice packet.header.pid (coding_by stream packet)
+
 -- the stream whose buffers begin with a packet: the first that begins a PES packet of it once it is named, of a program that is viewed
 abbrev pub beginning : NamedView → TableState → PacketView → Option FoundStreamView
 beginning named t packet =
     if packet.header.payload_unit_start_indicator && not (is_some (lookup (nat_eq packet.header.pid) t.places)) then chosen t.choice (stream_of named packet.header.pid) else None
 
-abbrev pub new_entry : ViewOptions → ℕ → ℕ → Buffers → EntryState
-new_entry options pid clock_pid buffers = record {
+abbrev pub new_entry : ViewOptions → ℕ → ℕ → Buffers → Option VideoRates → EntryState
+new_entry options pid clock_pid buffers rates = record {
   pid = pid;
   clock_pid = clock_pid;
   counter = None;
   held = empty (step_of options.arrival) buffers.rx buffers.main;
   tally = none_counted;
+  video = sizes_if (step_of options.arrival) buffers.rx rates;
+  video_tally = none_of_video;
 }
 
 abbrev pub with_entry : TableState → ℕ → EntryState → TableState
@@ -83,7 +92,7 @@ with_entry t pid e = record t { places = insert_entry nat_eq t.places pid (lengt
 unfoldable pub begun_if : ViewOptions → NamedView → TableState → PacketView → Option FoundStreamView → TableState
 begun_if options named t packet None = t
 begun_if options named t packet (Some stream) =
-    with_entry t packet.header.pid (new_entry options packet.header.pid (naming.clock_of named stream.program) (stream_buffers t stream packet))
+    with_entry t packet.header.pid (new_entry options packet.header.pid (naming.clock_of named stream.program) (stream_buffers t stream packet) (stream_rates t stream packet))
 
 abbrev pub begun : ViewOptions → NamedView → TableState → PacketView → TableState
 begun options named t packet = begun_if options named t packet (beginning named t packet)

@@ -1,4 +1,4 @@
-//! What is found of clock references.
+//! Events of clock references.
 ghost use Rattle.std.specs.Prelude.{◌≡◌, ◌++◌, OnOk};
 ghost use Rattle.stream_report.specs.ClockEvents as spec;
 
@@ -79,7 +79,7 @@ pub(crate) fn push_report(
     }
 }
 
-/// The number of errors of a reference.
+/// Returns the number of errors of a reference.
 #[tactic(auto, unfolding(crate::specs::ClockEvents::errors_in))]
 pub(crate) fn errors_in(report: &Option<PcrReport>) -> u64
     ensures { result ≡ spec.errors_in report.now }

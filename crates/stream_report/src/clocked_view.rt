@@ -13,9 +13,9 @@ use events::Event;
 use std::alloc::{AllocError, Global};
 use stream_arrival::Arrival;
 
-/// A stream as far as it has come: of a constant rate no packet is kept, and else those since the last clock reference.
+/// A stream so far: at a constant rate it keeps no packet, otherwise the packets since the last clock reference.
 ///
-/// After an `AllocError` it is that of no stream: drop it.
+/// After an `AllocError` it describes no stream: drop it.
 #[derive(Drop)]
 pub struct ClockedView {
     pub view: View,
@@ -100,7 +100,7 @@ fn take_waiting(
 }
 
 impl ClockedView {
-    /// Before the first packet.
+    /// Returns the state before the first packet.
     pub fn new(alloc: Global, request: ViewRequest) -> ClockedView
         ensures view { IsClocked result (spec.start request) }
         ensures calm { is_crowded result ≡ false }
@@ -112,7 +112,7 @@ impl ClockedView {
         }
     }
 
-    /// The next packet: the events that are settled with it are appended.
+    /// Takes the next packet, and appends the events that it settles.
     #[tactic(auto, unfolding(crate::specs::ClockedViews::after_in, crate::specs::ClockedViews::events_in))]
     pub fn take(&mut self, bytes: &[u8; 188], events: &mut Vec<Event>) -> Result<(), AllocError>
         ensures view { (s : ClockedState) → IsClocked self.old s →
@@ -126,7 +126,7 @@ impl ClockedView {
         }
     }
 
-    /// The next packets.
+    /// Takes the next packets.
     #[tactic(auto, unfolding(crate::specs::ClockedViews::after_all, crate::specs::ClockedViews::events_all))]
     pub fn take_all(
         &mut self,
@@ -161,14 +161,15 @@ impl ClockedView {
         }
     }
 
-    /// Whether so many units of one of the streams wait that no more is to be viewed: the memory of a view has no other bound.
+    /// Returns whether a stream has enough waiting units to stop the view: the memory of a view has no other bound.
     pub fn is_crowded(&self) -> bool
         ensures { result ≡ is_crowded self.now }
     {
         self.view.is_crowded()
     }
 
-    /// The stream ends, `left` bytes after its last whole packet: the last events are appended. Whether nothing is wrong in it.
+    /// Ends the stream, `left` bytes after its last whole packet, and appends the last events. Returns whether nothing is wrong
+    /// in it.
     pub fn end(&mut self, left: usize, events: &mut Vec<Event>) -> Result<bool, AllocError>
         ensures found { (s : ClockedState) → IsClocked self.old s →
             OnOk result (events.new.items ≡ events.old.items ++ spec.end_events s left) }

@@ -45,7 +45,7 @@ pub enum Beginning {
     Stamped(u64),
 }
 
-/// The first byte of the packet at an index.
+/// Returns the first byte of the packet at an index.
 pub(crate) fn first_byte(index: u64) -> u64
     ensures { result ≡ spec.first_byte index }
 {
@@ -84,7 +84,7 @@ fn sample_in(place: Option<u64>, packet: &Packet<'_>) -> Option<PcrSample>
 }
 
 impl Clocks {
-    /// No reference has come.
+    /// Returns the state before the first reference.
     pub fn new(alloc: Global) -> Clocks
         ensures { result ≡ spec.no_clocks }
     {
@@ -93,7 +93,7 @@ impl Clocks {
         }
     }
 
-    /// The last reference of a PID, looked for first where that of the first clock is: most streams have one.
+    /// Returns the last reference of a PID, searched first at the place of the first clock: most streams have a single clock.
     pub fn last(&self, pid: u16) -> Option<PcrSample>
         ensures { result ≡ spec.clock_of self.now pid }
     {
@@ -105,7 +105,7 @@ impl Clocks {
         self.last.get(&pid).copied()
     }
 
-    /// The packet at an index comes.
+    /// Takes the packet at an index.
     #[tactic(auto, unfolding(crate::specs::Clocks::with_sample))]
     pub fn take(
         &mut self,
@@ -136,7 +136,7 @@ fn by_header(read: Result<(PesHeader, usize), PesError>) -> Beginning
     }
 }
 
-/// What begins with the payload of a packet.
+/// Returns what begins with the payload of a packet.
 #[tactic(auto, unfolding(crate::specs::Clocks::by_payload))]
 pub(crate) fn beginning_of(packet: &Packet<'_>) -> Beginning
     ensures { result ≡ spec.beginning_of (packet_view packet.now) }
@@ -150,7 +150,7 @@ pub(crate) fn beginning_of(packet: &Packet<'_>) -> Beginning
     }
 }
 
-/// How long after a clock reference the clock next shows a stamp, in ticks.
+/// Returns how long after a clock reference the clock next shows a stamp, in ticks.
 pub(crate) fn ahead_of(clock: &PcrSample, dts: u64) -> u64
     ensures { result ≡ spec.ahead_of clock.now dts }
 {
@@ -177,8 +177,8 @@ fn due_tick(rate: u64, clock: &PcrSample, dts: u64) -> u128
     }
 }
 
-/// When a unit is due with that DTS, by the last clock reference before it, where a byte takes `rate` to leave a buffer at its own rate, at a
-/// buffer that is drained at `rx` bits a second.
+/// Returns when a unit is due with that DTS, by the last clock reference before it, where a byte takes `rate` to leave a buffer at its own
+/// rate, at a buffer that is drained at `rx` bits a second.
 pub(crate) fn due_at(rate: u64, rx: u32, clock: &PcrSample, dts: u64) -> DueTime
     requires { rate < 4294967296 }
     ensures { result ≡ spec.due_at rate rx clock.now dts }

@@ -1,4 +1,4 @@
-//! What is found of a stream that the tables name.
+//! Events of a stream that the tables name.
 ghost use Rattle.std.specs.Prelude.{◌≡◌, ◌++◌, ◌<◌, OnOk};
 ghost use Rattle.std.specs.Option.{option_to_list};
 ghost use Rattle.stream_buffers.specs.Entering.{entered_view};
@@ -63,21 +63,22 @@ fn ticks_of(rate: u64, rx: u32, time: u128) -> u128
     time.saturating_mul(BYTE_TICKS_AT_1BPS) / u128::from((rate * u64::from(rx)).max(1))
 }
 
-/// How long a time of a buffer is in ticks.
+/// Returns how long a time of a buffer is in ticks.
 pub(crate) fn span_of(options: &ViewOptions, rx: u32, time: u128) -> u128
     ensures { result ≡ spec.span_of options.now rx time }
 {
     ticks_of(options.arrival.step(), rx, time)
 }
 
-/// A time of a buffer in ticks from the first byte of the stream on.
+/// Returns a time of a buffer in ticks from the first byte of the stream on.
 pub(crate) fn moment_of(options: &ViewOptions, rx: u32, time: u128) -> u128
     ensures { result ≡ spec.moment_of options.now rx time }
 {
     span_of(options, rx, time).saturating_sub(u128::from(options.origin))
 }
 
-fn excess_of(options: &ViewOptions, place: &Place, excess: &Excess) -> BufferExcess
+/// Returns an excess of a buffer.
+pub(crate) fn excess_of(options: &ViewOptions, place: &Place, excess: &Excess) -> BufferExcess
     ensures { result ≡ spec.excess_of options.now place.now excess.now }
 {
     BufferExcess {
@@ -208,7 +209,7 @@ fn push_all_ended(
     push_late_if(events, options, place, &entered.unit)
 }
 
-/// What has ended with a packet, of a stream with a main buffer of the size at its place.
+/// Returns what has ended with a packet, of a stream with a main buffer of the size at its place.
 #[inline(always)]
 pub(crate) fn push_ended(
     events: &mut Vec<Event>,
@@ -230,7 +231,7 @@ pub(crate) fn push_ended(
     push_all_ended(events, options, place, entered)
 }
 
-/// The number of excesses, with the one under way.
+/// Returns the number of excesses, with the one under way.
 pub(crate) fn with_one(ended: u64, under_way: &Option<Excess>) -> u128
     ensures { result ≡ spec.with_one ended under_way.now }
 {

@@ -1,4 +1,4 @@
-//! What is found of a stream in a window: what its buffers held, and the units that ended.
+//! Events of a stream in a window: what its buffers held, and the units that ended.
 ghost use Rattle.std.specs.Prelude.{◌≡◌, ◌++◌, OnOk};
 ghost use Rattle.stream_report.specs.HeldEvents as spec;
 

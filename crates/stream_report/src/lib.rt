@@ -1,14 +1,14 @@
-//! What is found in a stream, event by event as it comes: what an analyst asks first.
+//! The events of a stream as it arrives: what an analyst asks first.
 //!
 //! - [`ClockedView`]: takes packets, and appends the events that they settle to a list; `end` appends the last ones. Without a rate
-//!   packets wait until it is known on which line between two clock references they arrive; then each goes to the view of packets with
+//!   packets wait for the line between two clock references on which they arrive; then each goes to the view of packets with
 //!   arrivals (`view`).
-//! - [`ViewRequest`]: what is asked of a stream, in two parts: [`ViewOptions`], how the packets arrive and the length of a window;
+//! - [`ViewRequest`]: the request of a view, in two parts: [`ViewOptions`], how the packets arrive and the length of a window;
 //!   and [`ViewChoice`], the programs whose streams are viewed, and buffers that are given.
 //!
-//! What is kept does not grow with the stream: the counts and the last clock reference of each PID, what the first packets
-//! name, and for each stream that they name its buffers, with the units that wait in the main buffer. These have no bound of their own:
-//! who views a stream stops where a view is crowded, with 4,096 units or more of one of its streams (`is_crowded`).
+//! Memory does not grow with the stream: the counts and the last clock reference of each PID, what the first packets
+//! name, and for each named stream its buffers, with the units that wait in the main buffer. These have no bound of their own:
+//! the caller stops when a view is crowded, with 4,096 waiting units or more in a stream (`is_crowded`).
 #![tactic(auto)]
 
 mod clock_events;
@@ -24,6 +24,9 @@ mod stream_table;
 mod system_events;
 mod table_watch;
 mod tally;
+mod video_events;
+mod video_figures;
+mod video_tally;
 mod view;
 mod view_choice;
 mod view_options;

@@ -86,7 +86,7 @@ fn in_tables(named: &NamedStreams, pid: u16) -> PidLabel
     }
 }
 
-/// The label of a PID, by the tables that are known.
+/// Returns the label of a PID, by the tables that are known.
 #[tactic(auto, unfolding(crate::specs::PidLabels::label_by))]
 pub(crate) fn label_of(named: &NamedStreams, pid: u16) -> PidLabel
     ensures { result ≡ spec.label_of named.now pid }

@@ -1,4 +1,4 @@
-//! PIDs that no table names, and those that are named and have no packet.
+//! PIDs that no table names, and PIDs that are named and have no packet.
 ghost use Rattle.std.specs.Prelude.{◌≡◌, ◌++◌, OnOk};
 ghost use Rattle.stream_report.specs.ReferenceEvents as spec;
 

@@ -1,4 +1,4 @@
-//! What is kept of a stream beside its buffers.
+//! The state of a stream beside its buffers.
 ghost use Rattle.std.specs.Prelude.{◌≡◌, [], ◌++◌, OnOk};
 ghost use Rattle.bit_fields.specs.Reading.{Gives};
 ghost use Rattle.ts_packet.specs.Packets.{null_packet};
@@ -27,8 +27,8 @@ use system_tables::SystemTables;
 use table_intervals::TableTiming;
 use ts_packet::{Packet, PacketError, has_pcr};
 
-/// What is kept of a stream beside its buffers: the number of packets, and of those that are refused; the window of the last packet; the
-/// packets of each PID; the last clock reference of each, and what all of them came to, with the number of their errors; the
+/// The state of a stream beside its buffers: the number of packets, and of refused packets; the window of the last packet; the
+/// packets of each PID; the last clock reference of each, and the counts of all of them, with the number of their errors; the
 /// sections of tables; the buffers of programs' tables; the streams that are named; and the names of their services.
 #[derive(Drop)]
 pub struct Seen {
@@ -133,7 +133,7 @@ fn unclocked(arrival: &Arrival, count: usize) -> bool
 }
 
 impl Seen {
-    /// Before the first packet.
+    /// Returns the state before the first packet.
     pub fn new(alloc: Global, options: ViewOptions) -> Seen
         ensures { result ≡ spec.nothing_seen options }
     {
@@ -154,7 +154,7 @@ impl Seen {
         }
     }
 
-    /// `count` packets that come next arrive so: that they have no moment is appended, if they have none.
+    /// Says how the next `count` packets arrive; appends that they have no moment, if they have none.
     pub fn arrive(
         &mut self,
         arrival: Arrival,
@@ -184,7 +184,7 @@ impl Seen {
         })
     }
 
-    /// A packet that can't be read, or says that it is wrong.
+    /// Counts a packet that can't be read, or says that it is wrong.
     pub fn refuse(&mut self)
         ensures { self.new ≡ spec.without self.old }
     {
@@ -192,7 +192,7 @@ impl Seen {
         self.refused = self.refused.saturating_add(1);
     }
 
-    /// The clock reference of a packet, if it has one: its errors are appended.
+    /// Returns the clock reference of a packet, if it has one: its errors are appended.
     pub fn take_clock(
         &mut self,
         packet: &Packet<'_>,
@@ -210,15 +210,15 @@ impl Seen {
         Ok(())
     }
 
-    /// The window in which the next packet begins.
+    /// Returns the window where the next packet begins.
     pub fn next_window(&self) -> u64
         ensures { result ≡ spec.next_window self.now }
     {
         window_of(&self.options, self.packets)
     }
 
-    /// A packet that is not known to be wrong, in this window, enters the buffers of programs' tables, and is counted: the excesses that end
-    /// with it are appended, of programs that are viewed.
+    /// Counts a packet that is not known to be wrong, in this window, takes it into the buffers of programs' tables, and appends the excesses
+    /// that end with it, of programs that are viewed.
     pub fn count(
         &mut self,
         window: u64,
@@ -248,7 +248,7 @@ impl Seen {
         Ok(())
     }
 
-    /// The sections of tables in 188 bytes, which were read: those that begin too late are appended.
+    /// Takes the sections of tables in 188 bytes, which were read, and appends the sections that begin too late.
     pub fn take_sections<'a>(
         &mut self,
         bytes: &'a [u8; 188],
@@ -263,7 +263,7 @@ impl Seen {
         self.tables.take(&self.options, bytes, read, events)
     }
 
-    /// The null packet, which has no section.
+    /// Takes the null packet, which has no section.
     pub fn pass_null(&mut self)
         ensures seen { self.new ≡ spec.with_sections self.old null_packet }
         ensures found { spec.section_events self.old null_packet ≡ [] }
@@ -271,7 +271,7 @@ impl Seen {
         self.tables.pass_null();
     }
 
-    /// What 188 bytes name counts from the next packet on.
+    /// Notes what 188 bytes name, from the next packet on.
     pub fn name(&mut self, bytes: &[u8; 188]) -> Result<(), AllocError>
         ensures { OnOk result (self.new ≡ spec.with_named self.old bytes.now) }
     {
@@ -279,7 +279,7 @@ impl Seen {
         self.services.take(&self.named, bytes)
     }
 
-    /// Appends what comes of each PID in the last packet's window.
+    /// Appends the events of each PID in the last packet's window.
     pub fn push_window(&self, events: &mut Vec<Event>) -> Result<(), AllocError>
         ensures { OnOk result (events.new.items ≡ events.old.items
             ++ window_events self.now.options self.now.named self.now.services.names self.now.window) }
@@ -294,7 +294,7 @@ impl Seen {
         )
     }
 
-    /// Appends what is found of clock references by PID, of tables, of all packets by PID, and of PIDs that are not named or have no packet.
+    /// Appends the last events of clock references by PID, of tables, of all packets by PID, and of PIDs that are not named or have no packet.
     pub fn push_pid_ends(&self, events: &mut Vec<Event>) -> Result<(), AllocError>
         ensures { OnOk result (events.new.items ≡ events.old.items ++ spec.pid_ends self.now) }
     {
@@ -304,7 +304,7 @@ impl Seen {
         push_references(self.alloc, events, &self.named, &self.totals)
     }
 
-    /// The end of the stream, `left` bytes after its last whole packet.
+    /// Returns the end of the stream, `left` bytes after its last whole packet.
     pub fn end_event(&self, left: usize) -> Event
         ensures { result ≡ spec.end_event self.now left }
     {

@@ -4,12 +4,18 @@ ghost use Rattle.stream_buffers.specs.Entering.{entered_view};
 ghost use Rattle.ts_packet.specs.Views.{packet_view};
 ghost use Rattle.stream_report.specs.Crowding.{is_entry_crowded};
 ghost use Rattle.stream_report.specs.Entries as spec;
+ghost use Rattle.stream_buffers.specs.HeldVideo.{video_view};
 ghost use Rattle.stream_report.specs.Entries.{EntryState, IsEntry};
+ghost use Rattle.stream_report.specs.EntryEvents.{ended_events};
+ghost use Rattle.stream_report.specs.VideoEvents.{video_ended_events};
 
 use crate::clocks::{Beginning, LONGEST_STAY, ahead_of, beginning_of, due_at};
 use crate::entry_events::{Place, push_ahead_if, push_closing, push_ended};
 use crate::held_events::push_window_if;
 use crate::tally::Tally;
+use crate::video_events::{push_video_closing, push_video_ended};
+use crate::video_figures::{VideoLimits, is_video_good, video_figures, video_limits};
+use crate::video_tally::VideoTally;
 use crate::view_options::ViewOptions;
 use events::Event;
 use packet_arrival::{PCR_PERIOD, PcrSample};
@@ -22,7 +28,7 @@ use ts_packet::Packet;
 const MOST_WAITING: usize = 4_096;
 
 /// A stream: its PID, the PID of its program's clock references, the counter of its last packet with a payload, its buffers, and what is
-/// counted of it.
+/// counted of it, and of its two buffers of video.
 #[derive(Drop)]
 pub(crate) struct StreamEntry {
     pub pid: u16,
@@ -30,6 +36,7 @@ pub(crate) struct StreamEntry {
     pub counter: Option<u8>,
     pub buffers: StreamBuffers,
     pub tally: Tally,
+    pub video_tally: VideoTally,
 }
 
 #[tactic(auto, unfolding(crate::specs::Entries::same_counter))]
@@ -148,6 +155,21 @@ fn excess_counts(entered: &Entered) -> (u64, u64)
     (transport, u64::from(entered.main.is_some()))
 }
 
+// Appends what has ended with a packet.
+fn push_found(
+    events: &mut Vec<Event>,
+    options: &ViewOptions,
+    place: &Place,
+    limits: &Option<VideoLimits>,
+    entered: &Entered,
+) -> Result<(), AllocError>
+    ensures { OnOk result (events.new.items ≡ events.old.items ++ (ended_events options.now place.now (entered_view entered.now)
+        ++ video_ended_events options.now place.now limits.now (video_view entered.now.video) entered.now.video.unit)) }
+{
+    push_ended(events, options, place, entered)?;
+    push_video_ended(events, options, place, limits, &entered.video)
+}
+
 #[inline(always)]
 fn add_entered(tally: &mut Tally, window: u64, unread: bool, entered: &Entered)
     ensures { tally.new ≡ spec.tally_after tally.old window unread (entered_view entered.now) }
@@ -159,7 +181,7 @@ fn add_entered(tally: &mut Tally, window: u64, unread: bool, entered: &Entered)
 }
 
 impl StreamEntry {
-    /// Where an event of it is found at a packet.
+    /// Returns the place of an event of it at a packet.
     pub fn place(&self, packet: u64) -> Place
         ensures { (e : EntryState) → IsEntry self.now e → result ≡ spec.place_at packet e }
     {
@@ -171,7 +193,7 @@ impl StreamEntry {
         }
     }
 
-    /// A packet of the stream, in a window: what is found with it is appended.
+    /// Takes a packet of the stream, in a window, and appends its events.
     pub fn take(
         &mut self,
         options: &ViewOptions,
@@ -201,13 +223,20 @@ impl StreamEntry {
         self.buffers
             .enter_into(&options.arrival, &arriving, &mut entered)?;
         push_ahead_if(events, &place, ahead_by(clock, beginning))?;
-        push_ended(events, options, &place, &entered)?;
+        push_found(
+            events,
+            options,
+            &place,
+            &video_limits(&self.buffers),
+            &entered,
+        )?;
         self.counter = counter_after(self.counter, packet);
         add_entered(&mut self.tally, window, is_unread(beginning), &entered);
+        self.video_tally.add_packet(&entered.video);
         Ok(())
     }
 
-    /// Whether so many units wait in its main buffer that no more of its transport stream is viewed.
+    /// Returns whether enough units wait in its main buffer to stop the view of its transport stream.
     pub fn is_crowded(&self) -> bool
         ensures { result ≡ is_entry_crowded self.now }
     {
@@ -223,7 +252,7 @@ impl StreamEntry {
         tally
     }
 
-    /// Appends what is found of it in a window: what its buffers held, and the units that ended, if some did.
+    /// Appends its events in a window: what its buffers held, and the units that ended, if any did.
     pub fn push_units(
         &self,
         events: &mut Vec<Event>,
@@ -236,7 +265,7 @@ impl StreamEntry {
         push_window_if(events, options, window, &self.place(0), &self.tally)
     }
 
-    /// Appends what is found of it at the end, after `packets` packets, the last of them in a window.
+    /// Appends its events at the end, after `packets` packets, the last of them in a window.
     pub fn push_end(
         &self,
         events: &mut Vec<Event>,
@@ -250,15 +279,31 @@ impl StreamEntry {
         let tally = self.closed(window);
         let place = self.place(packets);
         push_window_if(events, options, window, &place, &tally)?;
-        push_closing(events, options, &place, &self.buffers, &tally)
+        push_closing(events, options, &place, &self.buffers, &tally)?;
+        let figures = video_figures(&self.buffers);
+        push_video_closing(
+            events,
+            options,
+            &place,
+            &figures,
+            tally.units,
+            &self.video_tally,
+        )
     }
 
-    /// Whether neither buffer held more than its size, and no unit was late.
-    pub fn is_good(&self) -> bool
-        ensures { (e : EntryState) → IsEntry self.now e → result ≡ spec.is_good e }
+    // Whether neither the transport buffer nor the main buffer held more than its size, and no unit was late.
+    fn is_sound(&self) -> bool
+        ensures { (e : EntryState) → IsEntry self.now e → result ≡ spec.is_sound e }
     {
         self.buffers.transport_most() <= u128::from(TRANSPORT_BYTES)
             && self.buffers.main_most() <= self.buffers.main.size
             && self.closed(0).late == 0
+    }
+
+    /// Returns whether no buffer held more than its size, and no unit was late.
+    pub fn is_good(&self) -> bool
+        ensures { (e : EntryState) → IsEntry self.now e → result ≡ spec.is_good e }
+    {
+        self.is_sound() && is_video_good(&video_figures(&self.buffers), &self.video_tally)
     }
 }

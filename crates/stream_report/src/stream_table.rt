@@ -14,18 +14,20 @@ use crate::clocks::Clocks;
 use crate::entry_events::stream_event;
 use crate::stream_entry::StreamEntry;
 use crate::tally::Tally;
+use crate::video_figures::view_video_if;
+use crate::video_tally::VideoTally;
 use crate::view_choice::ViewChoice;
 use crate::view_options::ViewOptions;
 use events::Event;
 use named_streams::NamedStreams;
 use pid_map::PidMap;
 use std::alloc::{AllocError, Global};
-use stream_buffers::StreamBuffers;
+use stream_buffers::{StreamBuffers, VideoRates};
 use stream_coding::{Buffers, Coding, coding_of};
 use stream_programs::FoundStream;
 use ts_packet::Packet;
 
-/// Which streams are viewed; those whose buffers have begun, and the place of each PID among them.
+/// Which streams are viewed; the streams whose buffers have begun, and the place of each PID among them.
 #[derive(Drop)]
 pub struct StreamTable {
     alloc: Global,
@@ -86,16 +88,20 @@ fn new_entry(
     pid: u16,
     clock_pid: u16,
     buffers: Buffers,
+    rates: &Option<VideoRates>,
 ) -> StreamEntry
     requires { buffers.rx ≤ 200000000 }
-    ensures { IsEntry result (spec.new_entry options.now pid clock_pid buffers) }
+    ensures { IsEntry result (spec.new_entry options.now pid clock_pid buffers rates.now) }
 {
+    let mut held = StreamBuffers::new(alloc, &options.arrival, buffers.rx, u64::from(buffers.main));
+    view_video_if(&mut held, alloc, rates);
     StreamEntry {
         pid,
         clock_pid,
         counter: None,
-        buffers: StreamBuffers::new(alloc, &options.arrival, buffers.rx, u64::from(buffers.main)),
+        buffers: held,
         tally: Tally::new(),
+        video_tally: VideoTally::new(),
     }
 }
 
@@ -148,7 +154,7 @@ fn are_crowded(entries: &[StreamEntry]) -> bool
 }
 
 impl StreamTable {
-    /// None has begun.
+    /// Returns a table without streams.
     #[tactic(auto, unfolding(crate::specs::StreamTables::AreEntries))]
     pub fn new(alloc: Global, choice: ViewChoice) -> StreamTable
         ensures table { IsTable result (spec.no_streams choice) }
@@ -162,7 +168,7 @@ impl StreamTable {
         }
     }
 
-    /// Which streams are viewed.
+    /// Returns which streams are viewed.
     pub fn choice(&self) -> &ViewChoice
         ensures { (t : TableState) → IsTable self.now t → result.now ≡ t.choice }
     {
@@ -191,7 +197,7 @@ impl StreamTable {
         Ok(())
     }
 
-    /// The buffers of a packet's stream begin with it, if the packet is the first that begins a PES packet of a stream that
+    /// Begins the buffers of a packet's stream with the packet, if the packet is the first that begins a PES packet of a stream that
     /// is named, of a program that is viewed.
     #[tactic(auto, unfolding(crate::specs::StreamTables::begun_if, crate::specs::StreamTables::begin_events_if))]
     pub fn begin(
@@ -214,11 +220,13 @@ impl StreamTable {
         let buffers = self.choice.buffers_for(packet.header.pid, coding);
         events.push(stream_event(index, stream, coding, buffers))?;
         let clock_pid = named.clock_pid(stream.program);
-        let entry = new_entry(self.alloc, options, packet.header.pid, clock_pid, buffers);
+        let rates = self.choice.rates_for(packet.header.pid, coding);
+        let pid = packet.header.pid;
+        let entry = new_entry(self.alloc, options, pid, clock_pid, buffers, &rates);
         self.add(packet.header.pid, entry)
     }
 
-    /// The packet at an index enters the buffers of its PID, if there are any.
+    /// Takes the packet at an index into the buffers of its PID, if there are any.
     #[tactic(auto, unfolding(crate::specs::StreamTables::taken_at, crate::specs::StreamTables::taken_if, crate::specs::StreamTables::events_in, crate::specs::StreamTables::events_if))]
     pub fn take(
         &mut self,
@@ -244,14 +252,14 @@ impl StreamTable {
         entry.take(options, index, window, &clock, packet, events)
     }
 
-    /// Whether the buffers of a PID have begun.
+    /// Returns whether the buffers of a PID have begun.
     pub fn has_stream(&self, pid: u16) -> bool
         ensures { (t : TableState) → IsTable self.now t → result ≡ spec.has_stream t pid }
     {
         self.places.contains(pid)
     }
 
-    /// Appends what is found of each stream in a window.
+    /// Appends the events of each stream in a window.
     pub fn push_units(
         &self,
         events: &mut Vec<Event>,
@@ -264,7 +272,7 @@ impl StreamTable {
         push_all_units(events, options, window, &self.entries)
     }
 
-    /// Appends what is found of all streams at the end of a stream of `packets` packets, the last of them in a window.
+    /// Appends the events of all streams at the end of a stream of `packets` packets, the last of them in a window.
     pub fn push_end(
         &self,
         events: &mut Vec<Event>,
@@ -278,14 +286,14 @@ impl StreamTable {
         push_all_ends(events, options, packets, window, &self.entries)
     }
 
-    /// Whether so many units of one of the streams wait that no more is viewed.
+    /// Returns whether a stream has enough waiting units to stop the view.
     pub fn is_crowded(&self) -> bool
         ensures { result ≡ crowding.are_crowded self.now.entries.items }
     {
         are_crowded(&self.entries)
     }
 
-    /// Whether no buffer held more than its size, and no unit was late.
+    /// Returns whether no buffer held more than its size, and no unit was late.
     pub fn is_good(&self) -> bool
         ensures { (t : TableState) → IsTable self.now t → result ≡ spec.is_good t }
     {

@@ -1,4 +1,4 @@
-//! What is found of the buffers of programs' tables.
+//! Events of the buffers of programs' tables.
 ghost use Rattle.std.specs.Prelude.{◌≡◌, ◌++◌, OnOk};
 ghost use Rattle.std.specs.Option.{option_to_list};
 ghost use Rattle.system_tables.specs.Programs.{all_of};
@@ -197,7 +197,7 @@ fn fits(choice: &ViewChoice, program: &ProgramTables) -> bool
             && program.system_most() <= u128::from(SYSTEM_BYTES))
 }
 
-/// Whether no buffer of a program that is viewed held more than its size.
+/// Returns whether no buffer of a program that is viewed held more than its size.
 pub(crate) fn all_fit(choice: &ViewChoice, programs: &[ProgramTables]) -> bool
     ensures { result ≡ spec.all_fit choice.now programs.now }
 {

@@ -20,7 +20,7 @@ use table_intervals::{
 };
 use ts_packet::{Packet, PacketError};
 
-/// The sections of each table, and the number of those that begin too late, which stops at 2^64 - 1.
+/// The sections of each table, and the number of late sections, which stops at 2^64 - 1.
 #[derive(Drop)]
 pub struct TableTimes {
     intervals: TableIntervals<Global>,
@@ -175,7 +175,7 @@ fn table_event(timing: TableTiming, key: u32, places: &SectionPlaces) -> Event
 }
 
 impl TableWatch {
-    /// Before the first packet.
+    /// Returns the state before the first packet.
     pub fn new(alloc: Global, timing: TableTiming) -> TableWatch
         ensures { result ≡ spec.no_tables timing }
     {
@@ -189,7 +189,7 @@ impl TableWatch {
         }
     }
 
-    /// The next packet, which was read: sections that begin too late are appended, once these are found.
+    /// Takes the next packet, which was read, and appends late sections, once these are found.
     pub fn take<'a>(
         &mut self,
         options: &ViewOptions,
@@ -209,7 +209,7 @@ impl TableWatch {
         self.times.take_all(options, found.as_slice(), events)
     }
 
-    /// The null packet: no section begins in it.
+    /// Takes the null packet: no section begins in it.
     pub fn pass_null(&mut self)
         ensures tables { (options : ViewOptions) → self.new ≡ spec.with_packet options self.old null_packet }
         ensures found { (options : ViewOptions) → spec.packet_events options self.old null_packet ≡ [] }
@@ -217,7 +217,7 @@ impl TableWatch {
         self.demux.skip();
     }
 
-    /// Whether no section began too late.
+    /// Returns whether no section began too late.
     pub fn is_good(&self) -> bool
         ensures { result ≡ (self.now.times.errors == 0) }
     {

@@ -1,4 +1,4 @@
-//! What is counted of a stream.
+//! The counts of a stream.
 ghost use Rattle.std.specs.Prelude.{◌≡◌};
 ghost use Rattle.stream_buffers.specs.Entering.{entered_view};
 ghost use Rattle.stream_view.specs.Lows.{least_of_both};
@@ -7,19 +7,19 @@ ghost use Rattle.stream_report.specs.Tallies as spec;
 use stream_buffers::Entered;
 use stream_view::UnitSeen;
 
-/// What is counted of a stream. Numbers stop at 2^64 - 1. It is changed in place, so that it is not moved.
+/// The counts of a stream. Numbers stop at 2^64 - 1. It is changed in place, so that it is not moved.
 #[derive(Clone, Copy)]
 pub struct Tally {
     /// Excesses that have ended, of the transport buffer and of the main buffer.
     pub excesses: u64,
     pub main_excesses: u64,
-    /// Units, and those of them that were late.
+    /// Units, and how many of them were late.
     pub units: u64,
     pub late: u64,
     /// PES packets whose header was not read.
     pub unread: u64,
-    /// The window of the last packet; the most bytes that were in each buffer when one of its packets entered, the least that one of their
-    /// bytes found in the main buffer, the units that ended in it, those of them that were late, and the least slack of one.
+    /// The window of the last packet; the most bytes that were in each buffer when any of its packets entered, the least that any of their
+    /// bytes found in the main buffer, the units that ended in it, how many of them were late, and the least slack of a unit.
     pub window: u64,
     pub window_transport: u128,
     pub window_main: u64,
@@ -42,7 +42,7 @@ fn least_of_both(a: Option<u64>, b: Option<u64>) -> Option<u64>
 }
 
 impl Tally {
-    /// Nothing has come.
+    /// Returns the counts of nothing.
     pub fn new() -> Tally
         ensures { result ≡ spec.none_counted }
     {
@@ -78,7 +78,7 @@ impl Tally {
         }
     }
 
-    /// A packet of a window has entered the buffers.
+    /// Counts a packet of a window that has entered the buffers.
     #[inline(always)]
     pub fn add_packet(&mut self, window: u64, entered: &Entered)
         ensures { self.new ≡ spec.with_packet self.old window (entered_view entered.now) }
@@ -89,7 +89,7 @@ impl Tally {
         self.window_least = least_of_both(self.window_least, entered.main_least);
     }
 
-    /// A unit has ended in a window. A call of its own: few packets end one.
+    /// Counts a unit that has ended in a window. A call of its own: few packets end one.
     #[inline(never)]
     pub fn add_unit(&mut self, window: u64, unit: &UnitSeen)
         ensures { self.new ≡ spec.with_unit self.old window unit.now }
@@ -103,7 +103,7 @@ impl Tally {
         self.slack = self.slack.min(unit.slack());
     }
 
-    /// A unit has ended, if one has.
+    /// Counts the unit that has ended, if any.
     #[inline(always)]
     #[tactic(auto, unfolding(crate::specs::Tallies::with_unit_if))]
     pub fn add_unit_if(&mut self, window: u64, unit: &Option<UnitSeen>)
@@ -115,7 +115,7 @@ impl Tally {
         }
     }
 
-    /// So many excesses have ended, and a header was not read or none.
+    /// Counts excesses that have ended, and a header that was not read, if `unread`.
     #[inline(always)]
     pub fn add_excesses(&mut self, transport: u64, main: u64, unread: bool)
         ensures { self.new ≡ spec.with_excesses self.old transport main unread }

@@ -18,9 +18,9 @@ use std::alloc::{AllocError, Global};
 use stream_arrival::Arrival;
 use ts_packet::{Packet, PacketError, read_packet};
 
-/// A stream as far as it has come: no packet is kept.
+/// A stream so far, without its packets.
 ///
-/// After an `AllocError` it is that of no stream: drop it.
+/// After an `AllocError` it describes no stream: drop it.
 #[derive(Drop)]
 pub struct View {
     pub seen: Seen,
@@ -28,7 +28,7 @@ pub struct View {
 }
 
 impl View {
-    /// Before the first packet.
+    /// Returns the state before the first packet.
     pub fn new(alloc: Global, request: ViewRequest) -> View
         ensures view { IsView result (spec.start request) }
         ensures calm { is_view_crowded result ≡ false }
@@ -39,7 +39,7 @@ impl View {
         }
     }
 
-    /// `count` packets that come next arrive so.
+    /// Says how the next `count` packets arrive.
     pub fn arrive(
         &mut self,
         arrival: Arrival,
@@ -166,7 +166,7 @@ impl View {
         }
     }
 
-    /// The next packet: the events that it settles are appended.
+    /// Takes the next packet, and appends the events that it settles.
     pub fn take(&mut self, bytes: &[u8; 188], events: &mut Vec<Event>) -> Result<(), AllocError>
         ensures view { (s : ViewState) → IsView self.old s → OnOk result (IsView self.new (spec.after_packet s bytes.now)) }
         ensures found { (s : ViewState) → IsView self.old s →
@@ -178,7 +178,7 @@ impl View {
         self.seen.name(bytes)
     }
 
-    /// The next packets.
+    /// Takes the next packets.
     #[tactic(auto, unfolding(crate::specs::Views::after_all, crate::specs::Views::events_all))]
     pub fn take_all(
         &mut self,
@@ -195,7 +195,7 @@ impl View {
         Ok(())
     }
 
-    /// The stream ends, `left` bytes after its last whole packet: the last events are appended.
+    /// Ends the stream, `left` bytes after its last whole packet, and appends the last events.
     pub fn end(&self, left: usize, events: &mut Vec<Event>) -> Result<(), AllocError>
         ensures { (s : ViewState) → IsView self.now s →
             OnOk result (events.new.items ≡ events.old.items ++ spec.end_events s left) }
@@ -218,14 +218,14 @@ impl View {
         Ok(())
     }
 
-    /// Whether so many units of one of the streams wait that no more is viewed.
+    /// Returns whether a stream has enough waiting units to stop the view.
     pub fn is_crowded(&self) -> bool
         ensures { result ≡ is_view_crowded self.now }
     {
         self.table.is_crowded()
     }
 
-    /// Whether nothing is wrong in a stream that ends, `left` bytes after its last whole packet.
+    /// Returns whether nothing is wrong in a stream that ends, `left` bytes after its last whole packet.
     pub fn is_good(&self, left: usize) -> bool
         ensures { (s : ViewState) → IsView self.now s → result ≡ spec.is_good s left }
     {

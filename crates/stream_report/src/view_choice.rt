@@ -1,16 +1,20 @@
-//! Which streams are viewed, and with which buffers.
+//! Which streams are viewed, and their buffers.
 ghost use Rattle.std.specs.Prelude.{◌≡◌};
+ghost use Rattle.stream_coding.specs.Buffers.{buffers_of, multiplexing_of};
 ghost use Rattle.stream_report.specs.Choices as spec;
 
 use std::marker::Model;
-use stream_coding::{Buffers, Coding, PidBuffers, given_buffers, joined_buffers_of};
+use stream_buffers::VideoRates;
+use stream_coding::{
+    Buffers, Coding, PidBuffers, buffers_of, given_buffers, joined_buffers_of, multiplexing_of,
+};
 
-/// Which streams are viewed, and with which buffers.
+/// Which streams are viewed, and their buffers.
 #[derive(Drop)]
 pub struct ViewChoice {
-    /// The numbers of the programs whose streams are viewed; without one, those of all.
+    /// The numbers of the programs whose streams are viewed; if empty, all programs.
     pub programs: Vec<u16>,
-    /// Buffers in place of those of the coding.
+    /// Buffers in place of the coding's buffers.
     pub buffers: Vec<PidBuffers>,
 }
 
@@ -30,15 +34,31 @@ fn is_among(number: u16, numbers: &[u16]) -> bool
     numbers.iter().any(|other| *other == number)
 }
 
+// The two buffers of video, as its coding says.
+#[tactic(auto, unfolding(crate::specs::Choices::rates_if))]
+fn rates_of(coding: Coding) -> Option<VideoRates>
+    ensures { result ≡ spec.rates_if (multiplexing_of coding) (buffers_of coding).main }
+{
+    let elementary = u64::from(buffers_of(coding).main);
+    match multiplexing_of(coding) {
+        None => None,
+        Some(buffer) => Some(VideoRates {
+            rbx: buffer.rbx,
+            multiplexing: u64::from(buffer.size),
+            elementary,
+        }),
+    }
+}
+
 impl ViewChoice {
-    /// Whether the streams of a program are viewed.
+    /// Returns whether the streams of a program are viewed.
     pub fn takes(&self, program: u16) -> bool
         ensures { result ≡ spec.takes self.now program }
     {
         self.programs.is_empty() || is_among(program, &self.programs)
     }
 
-    /// The buffers of the stream of a PID, of this coding: of video both buffers as one.
+    /// Returns the buffers of the stream of a PID, of this coding: of video both buffers as one.
     #[tactic(auto, unfolding(crate::specs::Choices::given_or))]
     pub fn buffers_for(&self, pid: u16, coding: Coding) -> Buffers
         ensures { result ≡ spec.buffers_for self.now pid coding }
@@ -50,6 +70,18 @@ impl ViewChoice {
         Buffers {
             rx: buffers.rx.min(200_000_000),
             main: buffers.main,
+        }
+    }
+
+    /// Returns the two buffers of video of the stream of a PID, of this coding: none where its buffers are given, or of another
+    /// coding.
+    pub fn rates_for(&self, pid: u16, coding: Coding) -> Option<VideoRates>
+        ensures { result ≡ spec.rates_for self.now pid coding }
+    {
+        if given_buffers(&self.buffers, pid).is_some() {
+            None
+        } else {
+            rates_of(coding)
         }
     }
 }

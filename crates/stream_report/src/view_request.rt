@@ -1,9 +1,9 @@
-//! What is asked of a stream.
+//! The request of a view.
 use crate::view_choice::ViewChoice;
 use crate::view_options::ViewOptions;
 use std::marker::Model;
 
-/// What is asked of a stream: how it is viewed, and which streams of it.
+/// The request of a view: how a stream is viewed, and which of its streams.
 #[derive(Drop)]
 pub struct ViewRequest {
     pub options: ViewOptions,

@@ -1,4 +1,4 @@
-//! What comes of PIDs in a window, and in the whole stream.
+//! Events of PIDs in a window, and in the whole stream.
 ghost use Rattle.std.specs.Prelude.{◌≡◌, ◌++◌, ◌*◌, ◌/◌, ◌-◌, ◌^◌, IfOk, OnOk, max, min, option_map, string_bytes};
 ghost use Rattle.stream_report.specs.WindowEvents as spec;
 
@@ -26,7 +26,7 @@ fn window_at_rate(rate: Rate, window: u32, index: u64) -> u64
     }
 }
 
-/// The window in which a packet begins.
+/// Returns the window in which a packet begins.
 #[tactic(auto, unfolding(crate::specs::WindowEvents::window_by))]
 pub(crate) fn window_of(options: &ViewOptions, index: u64) -> u64
     ensures { result ≡ spec.window_of options.now index }

@@ -5,15 +5,15 @@ ghost use Rattle.stream_times.specs.Leads.{LeadLaw};
 ghost use Rattle.stream_times.specs.TimedPackets.{EachOnceLaw};
 ghost use Rattle.stream_times.specs.Times.{RisesLaw};
 
-/// Of a stream that arrives by clock references each packet arrives once, in order, no byte of it arrives before an earlier one, and
-/// where a line begins within a packet, its payload lies on that line.
+/// States for a stream that arrives by clock references that each packet arrives once, in order, no byte of it arrives before an
+/// earlier one, and where a line begins within a packet, its payload lies on that line.
 pub fn arrivals_rise()
     ensures once { EachOnceLaw }
     ensures rises { RisesLaw }
     ensures leads { LeadLaw }
 {}
 
-/// Between two clock references on which the clock goes on all bytes lie on the line through both.
+/// States that all bytes between two clock references, if the clock continues, lie on the line through both.
 pub fn references()
     ensures { BetweenLaw }
 {}

@@ -58,7 +58,7 @@ payload_by step (Carries ts ∷ before) =
 payload_by step (Begins due ∷ before) = payload_by step before
 
 -- at times up to `by` nothing has entered that enters later
-greatest_before : (f : ℕ → ℕ) (until by : ℕ) (ds us : List ℕ) → All (λ d. d ≤ by) ds → Climbs (suc by) us →
+pub greatest_before : (f : ℕ → ℕ) (until by : ℕ) (ds us : List ℕ) → All (λ d. d ≤ by) ds → Climbs (suc by) us →
     greatest_at (λ x. f x + entered until x us) ds ≡ greatest_at f ds
 unfolding greatest_at
 greatest_before f until by [] us all climbs = refl

@@ -2,18 +2,18 @@
 use Rattle.std.specs.Prelude.{◌≡◌, ℕ, ◌+◌, ◌<◌, ◌≤◌, ◌^◌, List, Option}
 use Rattle.std.specs.Option.{option_to_list}
 use Rattle.packet_arrival.specs.declared.row.Row.{Row}
-use Rattle.packet_arrival.specs.Rows.{IsTimed, IsEarly}
+use Rattle.packet_arrival.specs.Rows.{IsTimed}
 use Rattle.transport_buffer.specs.declared.excess.Excess.{Excess}
 use Rattle.transport_buffer.specs.declared.excess.ExcessWatch.{ExcessWatch}
 use Rattle.transport_buffer.specs.declared.transport_buffer.TransportBuffer.{TransportBuffer}
-use Rattle.transport_buffer.specs.Buffers.{IsPaced}
+use Rattle.transport_buffer.specs.Buffers.{IsPaced, IsSoon}
 use Rattle.transport_buffer.specs.Excesses.{excess_after, excesses_ended}
 
 -- the bytes of a row may arrive at a buffer
 pub record CanArrive (buffer : TransportBuffer) (watch : ExcessWatch) (row : Row) : Type 0 where
   pub paced : IsPaced buffer
   pub timed : IsTimed row
-  pub early : IsEarly row
+  pub soon : IsSoon row
   pub some : 0 < row.bytes
   pub count : buffer.bytes + row.bytes ≤ 2 ^ 40
   pub size : 0 < watch.size

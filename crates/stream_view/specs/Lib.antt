@@ -12,3 +12,4 @@ pub mod Arriving
 pub mod TableQueues
 pub mod TableRows
 pub mod Limits
+pub mod VideoViewed

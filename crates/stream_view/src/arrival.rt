@@ -1,9 +1,9 @@
 //! Bytes that arrive at the transport buffer.
-ghost use Rattle.std.specs.Prelude.{◌≡◌, None};
+ghost use Rattle.std.specs.Prelude.{◌≡◌, ℕ, ◌+◌, ◌*◌, ◌≤◌, None};
 ghost use Rattle.clock27.specs.Departure.{departures};
 ghost use Rattle.clock27.specs.Peak.{most_found};
 ghost use Rattle.packet_arrival.specs.Rows.{IsTimed, times_of};
-ghost use Rattle.transport_buffer.specs.Buffers.{IsPaced, entered, times_left};
+ghost use Rattle.transport_buffer.specs.Buffers.{IsPaced, LeaveSoon, entered, times_left};
 ghost use Rattle.stream_view.specs.Arriving.{CanArrive, HaveArrived};
 
 use packet_arrival::Row;
@@ -80,6 +80,9 @@ pub(crate) fn arrive(
     ensures arrived { HaveArrived transport.old (times_of row.now) watch.old watch.new ended.new }
     ensures left { times_left result.leaving ≡ departures transport.old.step transport.old.last (times_of row.now) }
     ensures timed { IsTimed result.leaving.waiting × IsTimed result.leaving.free }
+    ensures soon { (latest : ℕ) → transport.old.last ≤ latest + transport.old.bytes * transport.old.step →
+        row.now.from + row.now.bytes * row.now.pace ≤ latest * row.now.parts →
+        LeaveSoon transport.new.step transport.new.bytes transport.new.last result.leaving latest }
 {
     let buffer = *transport;
     transport.most = 0;

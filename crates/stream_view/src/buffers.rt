@@ -14,11 +14,11 @@ use transport_buffer::{ExcessWatch, TransportBuffer};
 pub struct StreamView<A: Allocator> {
     /// The transport buffer; `most` is the greatest number of bytes that it has held over all moments.
     pub transport: TransportBuffer,
-    /// Its size, and the excess that is under way.
+    /// Its size, and its current excess.
     pub watch: ExcessWatch,
     /// The main buffer; `peak` is the greatest number of bytes that it has held over all moments.
     pub main: MainBuffer<A>,
-    /// The unit under way.
+    /// The current unit.
     pub unit: Option<UnitSeen>,
     pub ghost paced: { IsPaced transport },
     pub ghost some: { 0 < watch.size },

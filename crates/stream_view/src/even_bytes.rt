@@ -1,4 +1,4 @@
-//! Bytes at an even pace that pass a buffer in which each finds room.
+//! Bytes at an even pace that pass a buffer with room for each.
 ghost use Rattle.std.specs.Prelude.{◌≡◌, ℕ, List, ◌+◌, ◌-◌, ◌*◌, ◌<◌, ◌≤◌, ◌^◌, max, IfSome};
 ghost use Rattle.std.specs.Option.{option_to_list};
 ghost use Rattle.clock27.specs.Departure.{departures, last_left};
@@ -22,7 +22,7 @@ pub(crate) struct EvenBytes {
     pub bytes: u64,
 }
 
-/// The bytes of a row, if it has one.
+/// Returns the bytes of a row, if it has one.
 pub(crate) fn even_bytes(row: &Row) -> Option<EvenBytes>
     requires timed { IsTimed row.now }
     ensures even { IfSome result (λ even. AreEven even (times_of row.now)) }
@@ -83,7 +83,7 @@ fn leave_evenly(step: u64, prev: u128, even: &EvenBytes) -> Option<EvenBytes>
 }
 
 impl WatchedQueue {
-    /// How bytes leave, if they do so at an even pace and each of them finds room.
+    /// Returns how bytes leave, if they do so at an even pace and each of them finds room.
     pub(crate) fn leaving(&self, even: &EvenBytes) -> Option<EvenBytes>
         requires step { self.now.queue.step ≤ 2 ^ 33 }
         requires prev { self.now.queue.last < 2 ^ 100 }

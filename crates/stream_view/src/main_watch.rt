@@ -4,7 +4,7 @@ ghost use Rattle.stream_view.specs.MainExcess.{after_row, ended_by};
 
 use transport_buffer::Excess;
 
-/// The excess of a main buffer that is under way, if there is one, row by row.
+/// The current excess of a main buffer, if it has one, row by row.
 #[derive(Clone, Copy)]
 pub struct MainWatch {
     /// The size of the buffer in bytes.
@@ -13,7 +13,7 @@ pub struct MainWatch {
 }
 
 impl MainWatch {
-    /// No row has entered a buffer of that size.
+    /// Returns the watch of an empty buffer of that size.
     pub fn new(size: u64) -> MainWatch
         ensures { result ≡ record { size = size; under_way = None } }
     {
@@ -23,9 +23,9 @@ impl MainWatch {
         }
     }
 
-    /// A row that `carry` took has entered the buffer, its last byte at `last`, and one of its bytes found `most` bytes there, itself
-    /// included: the excess that has ended. It begins with the last byte of the first row of which a byte finds no room, and ends with
-    /// the last byte of the first one after it that finds room. A call of its own: few rows begin or end one.
+    /// Notes a row that `carry` took into the buffer, its last byte at `last`; a byte of it found `most` bytes there, itself included.
+    /// Returns the excess that has ended. An excess begins with the last byte of the first row with a byte that finds no room, and ends
+    /// with the last byte of the next row whose bytes find room. A call of its own: few rows begin or end an excess.
     #[inline(never)]
     #[tactic(auto, unfolding(crate::specs::MainExcess::grown, crate::specs::MainExcess::ended_at))]
     pub fn see(&mut self, most: u64, last: u128) -> Option<Excess>

@@ -33,7 +33,7 @@ pub struct EndedExcesses {
 impl EndedExcesses {
     ghost use Rattle.std.specs.Prelude.{◌≡◌, []};
 
-    /// None.
+    /// Returns no excesses.
     pub fn new(alloc: Global) -> EndedExcesses
         ensures transport { result.transport.items ≡ [] }
         ensures system { result.system.items ≡ [] }

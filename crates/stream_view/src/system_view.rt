@@ -105,7 +105,7 @@ fn pass_row(
 }
 
 impl SystemView {
-    /// Empty buffers, on the scale of one that is drained at 2,000,000 bits a second: at a buffer of the stream's own rate a
+    /// Returns empty buffers, on the scale of a buffer drained at 2,000,000 bits a second: at a buffer of the stream's own rate a
     /// byte takes `step`, so that it takes two steps to leave the first, which is drained at 1,000,000 bits a second; it takes
     /// `system_step` to leave the second. At a constant rate `step` is that rate, by clock references 216,000,000.
     pub fn new(step: u64, system_step: u64) -> SystemView
@@ -125,7 +125,7 @@ impl SystemView {
         }
     }
 
-    /// Bytes arrive of packets of the program's tables: all of their packets. The excesses that have ended are appended.
+    /// Takes the bytes of packets of the program's tables: all bytes of their packets. Appends the excesses that have ended.
     pub fn pass(&mut self, row: &Row, ended: &mut EndedExcesses) -> Result<(), AllocError>
         requires timed { IsTimed row.now }
         requires count { self.old.bytes + row.now.bytes ≤ 2 ^ 40 }
@@ -151,14 +151,14 @@ impl SystemView {
         result
     }
 
-    /// The most bytes that were in the first buffer together.
+    /// Returns the most bytes that were in the first buffer together.
     pub fn transport_most(&self) -> u128
         ensures { result ≡ bytes_within self.now.transport.queue.step self.now.transport.queue.longest_residence }
     {
         self.transport.queue.peak()
     }
 
-    /// The most bytes that were in the second buffer together.
+    /// Returns the most bytes that were in the second buffer together.
     pub fn system_most(&self) -> u128
         ensures { result ≡ bytes_within self.now.system.queue.step self.now.system.queue.longest_residence }
     {

@@ -6,7 +6,7 @@ use decoder_buffers::Queue;
 use std::alloc::AllocError;
 use transport_buffer::{Excess, ExcessWatch};
 
-/// A buffer that bytes pass one after another, its size, and its excess that is under way.
+/// A buffer that bytes pass in turn, its size, and its current excess.
 #[derive(Clone, Copy)]
 pub struct WatchedQueue {
     pub queue: Queue,
@@ -14,7 +14,7 @@ pub struct WatchedQueue {
 }
 
 impl WatchedQueue {
-    /// An empty one of that size in bytes, which a byte takes `step` to leave.
+    /// Returns an empty buffer of that size in bytes, which a byte takes `step` to leave.
     pub fn new(step: u64, size: u64) -> WatchedQueue
         ensures { result ≡ empty_queue step size }
     {
@@ -24,7 +24,7 @@ impl WatchedQueue {
         }
     }
 
-    /// A byte arrives: when it leaves. The excess that has ended before it is appended.
+    /// Takes a byte that arrives, returns when it leaves, and appends the excess that has ended before it.
     #[tactic(auto, unfolding(transport_buffer::specs::Excesses::excess_after))]
     pub fn arrive(&mut self, time: u128, ended: &mut Vec<Excess>) -> Result<u128, AllocError>
         requires some { 0 < self.old.queue.step }

@@ -2,7 +2,7 @@
 //!
 //! - [`SystemTables`]: the programs of a stream's first tables, and what their two buffers have held.
 //! - [`ProgramTables`]: the buffers of one program.
-//! - [`TableExcess`]: an excess of one of them.
+//! - [`TableExcess`]: an excess of such a buffer.
 #![tactic(auto)]
 
 mod program_tables;

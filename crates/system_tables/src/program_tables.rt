@@ -16,7 +16,7 @@ const LAST_INDEX: u64 = 5_848_000_000;
 // The most bytes that enter.
 const MOST_BYTES: u64 = 1 << 40;
 
-/// The buffers count time in units of one that is drained at this rate, in bits a second.
+/// The rate in bits a second whose buffer gives the unit of time: the buffers count time in its units.
 pub const DRAIN: u32 = 2_000_000;
 
 // How many of these units a byte takes to leave a buffer that is drained at a 500th of the stream's constant rate, whatever that is.
@@ -79,49 +79,49 @@ impl ProgramTables {
         }
     }
 
-    /// Its number.
+    /// Returns its number.
     pub fn number(&self) -> u16
         ensures { result ≡ self.now.number }
     {
         self.number
     }
 
-    /// The most bytes that were in its transport buffer.
+    /// Returns the most bytes that were in its transport buffer.
     pub fn transport_most(&self) -> u128
         ensures { result ≡ spec.transport_most self.now }
     {
         self.view.transport_most()
     }
 
-    /// The most bytes that were in its system buffer.
+    /// Returns the most bytes that were in its system buffer.
     pub fn system_most(&self) -> u128
         ensures { result ≡ spec.system_most self.now }
     {
         self.view.system_most()
     }
 
-    /// The number of excesses of its transport buffer that have ended.
+    /// Returns the number of excesses of its transport buffer that have ended.
     pub fn transport_excesses(&self) -> u64
         ensures { result ≡ self.now.transport_excesses }
     {
         self.transport_excesses
     }
 
-    /// The number of excesses of its system buffer that have ended.
+    /// Returns the number of excesses of its system buffer that have ended.
     pub fn system_excesses(&self) -> u64
         ensures { result ≡ self.now.system_excesses }
     {
         self.system_excesses
     }
 
-    /// The excess of its transport buffer that is under way, if there is one.
+    /// Returns the current excess of its transport buffer, if it has one.
     pub fn transport_excess(&self) -> Option<Excess>
         ensures { result ≡ self.now.transport.watch.under_way }
     {
         self.view.transport.watch.under_way
     }
 
-    /// The excess of its system buffer that is under way, if there is one.
+    /// Returns the current excess of its system buffer, if it has one.
     pub fn system_excess(&self) -> Option<Excess>
         ensures { result ≡ self.now.system.watch.under_way }
     {
@@ -185,7 +185,7 @@ impl ProgramTables {
         Ok(ended)
     }
 
-    /// A packet of the stream, with its index and PID: the excesses that end with it are appended.
+    /// Returns a packet of the stream, with its index and PID: the excesses that end with it are appended.
     pub(crate) fn take(
         &mut self,
         alloc: Global,

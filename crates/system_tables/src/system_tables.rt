@@ -60,7 +60,7 @@ fn take_each(
 }
 
 impl SystemTables {
-    /// No packet has come.
+    /// Returns the state before the first packet.
     pub fn new(alloc: Global) -> SystemTables
         ensures { result ≡ None }
     {
@@ -84,7 +84,7 @@ impl SystemTables {
         Ok(())
     }
 
-    /// The packet of a PID at an index: the excesses that end with it are appended.
+    /// Returns the packet of a PID at an index: the excesses that end with it are appended.
     #[tactic(auto, unfolding(crate::specs::Programs::known))]
     pub fn take(
         &mut self,
@@ -105,7 +105,7 @@ impl SystemTables {
         Ok(())
     }
 
-    /// The programs, none before they are known.
+    /// Returns the programs, none before they are known.
     #[tactic(auto, unfolding(crate::specs::Programs::known))]
     pub fn programs(&self) -> &[ProgramTables]
         ensures { result.now ≡ spec.known self.now }

@@ -51,8 +51,8 @@ pub struct TableError {
     pub limit: u64,
 }
 
-/// Sections by PID and table_id, in the order in which these were first seen: `pid_of` and `table_id_of` of a key say
-/// which these are.
+/// Sections by PID and table_id, in the order of their first sections: `pid_of` and `table_id_of` give the two of a
+/// key.
 pub type TableEntries<A> = IndexMap<u32, SectionPlaces, BuildHasherDefault<FoldHasher>, A>;
 
 /// Sections by PID, table_id and part.
@@ -74,7 +74,7 @@ impl<A: Allocator> Model for TableIntervals<A> {
     ghost view = { λ t. record { timing = t.timing; entries = t.entries.entries; parts = t.parts.entries } };
 }
 
-/// The key of a PID and a table_id.
+/// Returns the key of a PID and a table_id.
 pub fn key_of(pid: u16, table_id: u8) -> u32
     ensures { result ≡ spec.key_of pid table_id }
 {
@@ -88,14 +88,14 @@ fn part_key(section: SectionBegin, part: u16) -> u64
     u64::from(key_of(section.pid, section.table_id)) * 65_536 + u64::from(part)
 }
 
-/// The PID of a key.
+/// Returns the PID of a key.
 pub fn pid_of(key: u32) -> u32
     ensures { result ≡ spec.pid_of key }
 {
     key / 256
 }
 
-/// The table_id of a key.
+/// Returns the table_id of a key.
 pub fn table_id_of(key: u32) -> u8
     ensures { result ≡ spec.table_id_of key }
 {
@@ -109,7 +109,7 @@ fn time_of_packets(rate: Rate, packets: u64) -> u128
     (u128::from(packets) * PACKET_TICKS_AT_1BPS).div_ceil(u128::from(rate.bits_per_second()))
 }
 
-/// The time between two places, in ticks, rounded up.
+/// Returns the time between two places, in ticks, rounded up.
 #[tactic(auto, unfolding(crate::specs::Intervals::time_between))]
 pub fn time_between(timing: TableTiming, places: u64) -> u128
     ensures { result ≡ spec.time_between timing places }
@@ -198,7 +198,7 @@ fn part_places_at<A: Allocator>(parts: &PartEntries<A>, key: u64) -> Option<Sect
 }
 
 impl<A: Allocator + Copy> TableIntervals<A> {
-    /// Before the first section.
+    /// Returns the state before the first section.
     pub fn new(alloc: A, timing: TableTiming) -> TableIntervals<A>
         ensures { result ≡ spec.no_section timing }
     {
@@ -209,14 +209,14 @@ impl<A: Allocator + Copy> TableIntervals<A> {
         }
     }
 
-    /// In what places are counted.
+    /// Returns the unit of places.
     pub fn timing(&self) -> TableTiming
         ensures { result ≡ self.now.timing }
     {
         self.timing
     }
 
-    /// The sections of each PID and table_id.
+    /// Returns the sections of each PID and table_id.
     pub fn entries(&self) -> &TableEntries<A>
         ensures { result.now.entries ≡ self.now.entries }
     {
@@ -259,9 +259,9 @@ impl<A: Allocator + Copy> TableIntervals<A> {
         Ok(())
     }
 
-    /// The next section, and its error.
+    /// Takes the next section, and returns its error.
     ///
-    /// After an `AllocError` the intervals are those of no stream: drop it.
+    /// After an `AllocError` the intervals describe no stream: drop them.
     pub fn take(&mut self, section: SectionBegin) -> Result<Option<TableError>, AllocError>
         ensures intervals { OnOk result (self.new ≡ spec.taken self.old section) }
         ensures error { IfOk result (λ error. error ≡ spec.error_at self.old section) }

@@ -2,8 +2,8 @@
 //! and a caller may cite it.
 ghost use Rattle.table_intervals.specs.Laws.{EntryLaw, GreatestLaw, PartLaw, TimeLaw};
 
-/// An entry is that of all sections of its PID and table_id, or of all of its part, with the greatest time from one to the next; and a time is
-/// beyond its limit exactly where the exact one is.
+/// States that an entry describes all sections of its PID and table_id, or all sections of its part, with the greatest time from one to the
+/// next; and that a time is beyond its limit exactly where the exact time is.
 pub fn intervals()
     ensures entries { EntryLaw }
     ensures parts { PartLaw }

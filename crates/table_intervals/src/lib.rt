@@ -5,10 +5,10 @@
 //!   parts have to come again by themselves ([`has_parts`]), whatever the length of the stream.
 //! - [`section_begin`]: where the section of a finding begins.
 //! - [`limit_of`]: the time within which a table has to come again.
-//! - [`laws`]: an entry is that of all sections of its PID and table_id.
+//! - [`laws`]: an entry describes all sections of its PID and table_id.
 //!
-//! Times are counted in packets, each of which lasts 40,608,000,000 / R ticks of 27 MHz at R bits a second, or in ticks. They are rounded up to whole ticks, so that one is
-//! beyond its limit exactly where the exact one is.
+//! Times are counted in packets (a packet lasts 40,608,000,000 / R ticks of 27 MHz at R bits a second) or in ticks. They are rounded up to whole
+//! ticks, so that a time is beyond its limit exactly where the exact time is.
 #![tactic(auto)]
 
 mod intervals;

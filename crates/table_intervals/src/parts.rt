@@ -12,8 +12,8 @@ fn is_map(table_id: u8) -> bool
     table_id == 0x02
 }
 
-/// Whether each part of a table has to come again by itself: the map of each program, and each section of an EIT of present and
-/// following events.
+/// Returns whether each part of a table has to come again by itself: the map of each program, and each section of an EIT of
+/// present and following events.
 pub fn has_parts(pid: u16, table_id: u8) -> bool
     ensures { result ≡ spec.has_parts pid table_id }
 {
@@ -41,7 +41,7 @@ fn part_in(table_id: u8, bytes: &[u8]) -> u16
     }
 }
 
-/// The part of a table of a finding that is a whole section of it; none of a table without parts.
+/// Returns the part of a table of a finding that is a whole section of it; none of a table without parts.
 #[tactic(auto, unfolding(crate::specs::Parts::part_of))]
 pub(crate) fn part_of<A: Allocator>(pid: u16, table_id: u8, what: &What<'_, A>) -> Option<u16>
     ensures { result ≡ spec.part_of pid table_id (what_view what.now) }

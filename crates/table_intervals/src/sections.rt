@@ -1,4 +1,4 @@
-//! Where sections begin, by what is found in a stream.
+//! Where sections begin, by the findings of a stream.
 ghost use Rattle.std.specs.Prelude.{◌≡◌};
 ghost use Rattle.demux.specs.Shown.{finding_view, what_view};
 ghost use Rattle.table_intervals.specs.Sections as spec;
@@ -29,7 +29,7 @@ fn begin_of<A: Allocator>(
     }
 }
 
-/// Where the section of a finding begins, whether or not it became whole; none of a finding that has none. Its place is its packet.
+/// Returns where the section of a finding begins, whether or not it became whole; `None` for a finding without a section. Its place is its packet.
 #[tactic(auto, unfolding(crate::specs::Sections::section_by))]
 pub fn section_begin<A: Allocator>(finding: &Finding<'_, A>) -> Option<SectionBegin>
     ensures { result ≡ spec.section_begin (finding_view finding.now) }

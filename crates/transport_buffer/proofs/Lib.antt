@@ -5,3 +5,4 @@ pub mod Rising
 pub mod OverBytes
 pub mod ExcessBytes
 pub mod ExcessMoments
+pub mod SoonRows

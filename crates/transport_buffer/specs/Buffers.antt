@@ -37,9 +37,25 @@ entered buffer times = record {
 abbrev pub level_at : TransportBuffer → ℕ → ℕ
 level_at buffer moment = ((buffer.last - moment) + (buffer.step - 1)) / buffer.step
 
+-- no time of a row is after 2^86 + 2^69: those at which bytes of a stream arrive, and those at which they leave a buffer that a byte takes
+-- 2^28 at most to leave
+abbrev pub IsSoon : Row → Type 0
+IsSoon row = row.from + row.bytes * row.pace ≤ (2 ^ 86 + 2 ^ 69) * row.parts
+
+-- the rows in which n bytes leave a buffer end no later than that many steps, and one, after `latest`
+pub record RowsSoon (step latest n : ℕ) (leaving : Leaving) : Type 0 where
+  pub waiting : leaving.waiting.from + leaving.waiting.bytes * leaving.waiting.pace ≤ (latest + (n + 1) * step) * leaving.waiting.parts
+  pub free : leaving.free.from + leaving.free.bytes * leaving.free.pace ≤ (latest + (n + 1) * step) * leaving.free.parts
+
+-- where no byte has arrived after `latest`, the buffer is empty once as many steps have passed as bytes have arrived; and the rows in which
+-- they leave end a step later at most
+pub record LeaveSoon (step bytes last : ℕ) (leaving : Leaving) (latest : ℕ) : Type 0 where
+  pub soon : last ≤ latest + bytes * step
+  pub rows : RowsSoon step latest bytes leaving
+
 -- its numbers are those of a stream of 2^40 bytes at most
 pub record IsPaced (buffer : TransportBuffer) : Type 0 where
   pub some : 0 < buffer.step
-  pub slow : buffer.step ≤ 2 ^ 28
+  pub slow : buffer.step ≤ 2 ^ 40
   pub few : buffer.bytes ≤ 2 ^ 40
-  pub soon : buffer.last ≤ 2 ^ 86 + buffer.bytes * buffer.step
+  pub soon : buffer.last ≤ 2 ^ 86 + 2 ^ 69 + buffer.bytes * buffer.step

@@ -2,8 +2,8 @@
 ghost use Rattle.std.specs.Prelude.{◌≡◌, None, ◌+◌, ◌<◌, ◌≤◌, ◌^◌, true, false, [], ◌++◌};
 ghost use Rattle.std.specs.Option.{option_to_list};
 ghost use Rattle.clock27.specs.Departure.{last_left};
-ghost use Rattle.packet_arrival.specs.Rows.{IsTimed, IsEarly, times_of};
-ghost use Rattle.transport_buffer.specs.Buffers.{IsPaced};
+ghost use Rattle.packet_arrival.specs.Rows.{IsTimed, times_of};
+ghost use Rattle.transport_buffer.specs.Buffers.{IsPaced, IsSoon};
 ghost use Rattle.transport_buffer.specs.Excesses.{AreOver, room_again, excess_after, excesses_ended};
 
 use crate::leaving::leave;
@@ -12,7 +12,7 @@ use crate::over_bytes::{split_fast, split_slow};
 use crate::transport_buffer::TransportBuffer;
 use packet_arrival::Row;
 
-/// A time in which a buffer is full: it begins when a byte arrives that finds no room, and ends when there is room again.
+/// A time when a buffer is full: it begins when a byte arrives that finds no room, and ends when there is room again.
 #[derive(Clone, Copy, Debug, PartialEq, Eq)]
 pub struct Excess {
     pub begin: u128,
@@ -21,7 +21,7 @@ pub struct Excess {
     pub peak: u128,
 }
 
-/// The excess of a buffer that is under way, if there is one.
+/// The current excess of a buffer, if it has one.
 #[derive(Clone, Copy)]
 pub struct ExcessWatch {
     /// The size of the buffer in bytes.
@@ -30,7 +30,7 @@ pub struct ExcessWatch {
 }
 
 impl ExcessWatch {
-    /// No byte has arrived in a buffer of that size.
+    /// Returns the watch of an empty buffer of that size.
     pub fn new(size: u64) -> ExcessWatch
         ensures { result ≡ record { size = size; under_way = None } }
     {
@@ -56,10 +56,10 @@ impl ExcessWatch {
     // Bytes that find none.
     fn grow(&mut self, step: u64, prev: u128, row: &Row)
         requires some { 0 < step }
-        requires slow { step ≤ 2 ^ 28 }
-        requires prev { prev ≤ 2 ^ 86 + 2 ^ 69 }
+        requires slow { step ≤ 2 ^ 40 }
+        requires prev { prev ≤ 2 ^ 86 + 2 ^ 81 }
         requires timed { IsTimed row.now }
-        requires early { IsEarly row.now }
+        requires soon { IsSoon row.now }
         requires count { row.now.bytes ≤ 2 ^ 40 }
         requires size { self.old.size ≤ 2 ^ 40 }
         requires over { AreOver true step self.old.size prev (times_of row.now) }
@@ -87,11 +87,11 @@ impl ExcessWatch {
         });
     }
 
-    /// The bytes of a row arrive at a buffer as it stands before them: the excess that has ended.
+    /// Takes the bytes of a row that arrive at a buffer, given as it is before them; returns the excess that has ended.
     pub fn enter(&mut self, buffer: &TransportBuffer, row: &Row) -> Option<Excess>
         requires paced { IsPaced buffer.now }
         requires timed { IsTimed row.now }
-        requires early { IsEarly row.now }
+        requires soon { IsSoon row.now }
         requires some { 0 < row.now.bytes }
         requires count { buffer.now.bytes + row.now.bytes ≤ 2 ^ 40 }
         requires size { 0 < self.old.size }

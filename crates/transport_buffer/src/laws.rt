@@ -2,20 +2,20 @@
 //! `specs/` alone, and a caller may cite it.
 ghost use Rattle.transport_buffer.specs.Laws.{EnteredLaw, LevelLaw, MostLaw, RowRises, RisesAppended, OverLaw, FullLaw};
 
-/// Bytes that enter row by row enter one after another, and what the state says of them.
+/// States that bytes that enter row by row enter in turn, and what the state says of them.
 pub fn fullness()
     ensures appended { EnteredLaw }
     ensures level { LevelLaw }
     ensures most { MostLaw }
 {}
 
-/// Times that rise: those of a row, and those of one part after another.
+/// States that times rise: the times of a row, and the times of parts in turn.
 pub fn rising()
     ensures row { RowRises }
     ensures appended { RisesAppended }
 {}
 
-/// When an excess lasts.
+/// States the begin and end of an excess.
 pub fn excesses()
     ensures over { OverLaw }
     ensures full { FullLaw }

@@ -2,12 +2,12 @@
 //! it becomes, in a few steps a row whatever its length.
 //!
 //! - [`Leaving`]: the bytes of a row as they leave, one row or two.
-//! - [`TransportBuffer`]: its state is when the last byte leaves, which tells its fullness at any later moment.
+//! - [`TransportBuffer`]: its state is when the last byte leaves, which determines its fullness at any later moment.
 //! - [`ExcessWatch`]: when it holds more than its size, from when to when and by how much; row by row, or byte by byte.
 //! - [`laws`]: what that state says of the fullness over all moments.
 //!
-//! All bytes of a PID's packets enter it as they arrive, and each takes one `step` to leave it, on any scale of times. What is said of a
-//! row is large: calls that hand it on are part of their callers, so that it is not moved.
+//! All bytes of a PID's packets enter it as they arrive, and each takes one `step` to leave it, on any scale of times. The answer for a
+//! row is large: calls that hand it on are inlined into their callers, so that it is not moved.
 #![tactic(auto)]
 
 mod byte_excess;

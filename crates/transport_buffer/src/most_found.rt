@@ -1,11 +1,11 @@
-//! The most bytes that one of a row finds in a buffer.
+//! The most bytes that any byte of a row finds in a buffer.
 ghost use Rattle.std.specs.Prelude.{◌≡◌, ◌+◌, ◌*◌, ◌<◌, ◌≤◌, ◌^◌};
 ghost use Rattle.clock27.specs.Peak.{found, most_found};
 ghost use Rattle.packet_arrival.specs.Rows.{IsTimed, times_of};
 
 use packet_arrival::Row;
 
-/// The bytes in a buffer when one arrives at `time`, itself included, where the one before it leaves at `prev`.
+/// Returns the bytes in a buffer when one arrives at `time`, itself included, where the one before it leaves at `prev`.
 pub(crate) fn found(step: u64, prev: u128, time: u128) -> u128
     requires some { 0 < step }
     requires prev { prev < 2 ^ 100 }
@@ -17,12 +17,12 @@ pub(crate) fn found(step: u64, prev: u128, time: u128) -> u128
     (prev - time + (u128::from(step) - 1)) / u128::from(step) + 1
 }
 
-/// The most that one of them finds: the last where they come no slower than they leave, else the first.
+/// Returns the most that one of them finds: the last where they come no slower than they leave, else the first.
 #[inline(always)]
 pub(crate) fn most_found(step: u64, prev: u128, row: &Row) -> u128
     requires some { 0 < step }
-    requires step { step ≤ 2 ^ 28 }
-    requires prev { prev ≤ 2 ^ 86 + 2 ^ 69 }
+    requires step { step ≤ 2 ^ 40 }
+    requires prev { prev ≤ 2 ^ 86 + 2 ^ 81 }
     requires timed { IsTimed row.now }
     requires bytes { 0 < row.now.bytes }
     requires count { row.now.bytes ≤ 2 ^ 40 }

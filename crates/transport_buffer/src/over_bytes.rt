@@ -1,7 +1,8 @@
-//! Which bytes of a row find no room in a buffer: the last ones where they come no slower than they leave, else the first.
+//! Which bytes of a row find no room in a buffer: the last bytes if they arrive no slower than they leave, otherwise the first.
 ghost use Rattle.std.specs.Prelude.{◌≡◌, ◌+◌, ◌*◌, ◌<◌, ◌≤◌, ◌^◌, max, true, false, ◌++◌};
 ghost use Rattle.clock27.specs.Departure.{last_left};
-ghost use Rattle.packet_arrival.specs.Rows.{IsTimed, IsEarly, first_bytes, other_bytes, times_of};
+ghost use Rattle.packet_arrival.specs.Rows.{IsTimed, first_bytes, other_bytes, times_of};
+ghost use Rattle.transport_buffer.specs.Buffers.{IsSoon};
 ghost use Rattle.transport_buffer.specs.Excesses.{AreOver};
 
 use crate::leaving::leave;
@@ -18,19 +19,19 @@ pub(crate) struct SplitRow {
 // A row in two.
 fn split(step: u64, prev: u128, row: &Row, count: u64) -> SplitRow
     requires some { 0 < step }
-    requires step { step ≤ 2 ^ 28 }
-    requires prev { prev ≤ 2 ^ 86 + 2 ^ 69 }
+    requires step { step ≤ 2 ^ 40 }
+    requires prev { prev ≤ 2 ^ 86 + 2 ^ 81 }
     requires timed { IsTimed row.now }
-    requires early { IsEarly row.now }
+    requires soon { IsSoon row.now }
     requires bytes { row.now.bytes ≤ 2 ^ 40 }
     requires count { count ≤ row.now.bytes }
     ensures first { result.first ≡ first_bytes row.now count }
     ensures others { result.others ≡ other_bytes row.now count }
     ensures times { times_of result.first ++ times_of result.others ≡ times_of row.now }
     ensures timed { IsTimed result.first × IsTimed result.others }
-    ensures early { IsEarly result.first × IsEarly result.others }
+    ensures early { IsSoon result.first × IsSoon result.others }
     ensures last { result.prev ≡ last_left step prev (times_of result.first) }
-    ensures soon { result.prev ≤ max (2 ^ 86) prev + result.first.bytes * step }
+    ensures soon { result.prev ≤ max (2 ^ 86 + 2 ^ 69) prev + result.first.bytes * step }
 {
     let (first, others) = row.split_at(count);
     let prev = if count == 0 {
@@ -45,24 +46,24 @@ fn split(step: u64, prev: u128, row: &Row, count: u64) -> SplitRow
     }
 }
 
-/// Bytes that come no slower than they leave: the first ones find room, and the others none.
+/// Returns bytes that come no slower than they leave: the first ones find room, and the others none.
 pub(crate) fn split_fast(step: u64, size: u64, prev: u128, row: &Row) -> SplitRow
     requires some { 0 < step }
-    requires step { step ≤ 2 ^ 28 }
-    requires prev { prev ≤ 2 ^ 86 + 2 ^ 69 }
+    requires step { step ≤ 2 ^ 40 }
+    requires prev { prev ≤ 2 ^ 86 + 2 ^ 81 }
     requires size { 0 < size }
     requires bound { size ≤ 2 ^ 40 }
     requires timed { IsTimed row.now }
-    requires early { IsEarly row.now }
+    requires soon { IsSoon row.now }
     requires bytes { 0 < row.now.bytes }
     requires count { row.now.bytes ≤ 2 ^ 40 }
     requires fast { row.now.pace ≤ step * row.now.parts }
     ensures times { times_of result.first ++ times_of result.others ≡ times_of row.now }
     ensures timed { IsTimed result.first × IsTimed result.others }
-    ensures early { IsEarly result.first × IsEarly result.others }
+    ensures early { IsSoon result.first × IsSoon result.others }
     ensures few { result.first.bytes + result.others.bytes ≡ row.now.bytes }
     ensures last { result.prev ≡ last_left step prev (times_of result.first) }
-    ensures soon { result.prev ≤ max (2 ^ 86) prev + result.first.bytes * step }
+    ensures soon { result.prev ≤ max (2 ^ 86 + 2 ^ 69) prev + result.first.bytes * step }
     ensures first { AreOver false step size prev (times_of result.first) }
     ensures others { AreOver true step size result.prev (times_of result.others) }
 {
@@ -75,24 +76,24 @@ pub(crate) fn split_fast(step: u64, size: u64, prev: u128, row: &Row) -> SplitRo
     split(step, prev, row, multiples_below(room, gain, row.bytes))
 }
 
-/// Bytes that come no faster than they leave: the first ones find no room, and the others some.
+/// Returns bytes that come no faster than they leave: the first ones find no room, and the others some.
 pub(crate) fn split_slow(step: u64, size: u64, prev: u128, row: &Row) -> SplitRow
     requires some { 0 < step }
-    requires step { step ≤ 2 ^ 28 }
-    requires prev { prev ≤ 2 ^ 86 + 2 ^ 69 }
+    requires step { step ≤ 2 ^ 40 }
+    requires prev { prev ≤ 2 ^ 86 + 2 ^ 81 }
     requires size { 0 < size }
     requires bound { size ≤ 2 ^ 40 }
     requires timed { IsTimed row.now }
-    requires early { IsEarly row.now }
+    requires soon { IsSoon row.now }
     requires bytes { 0 < row.now.bytes }
     requires count { row.now.bytes ≤ 2 ^ 40 }
     requires slow { step * row.now.parts ≤ row.now.pace }
     ensures times { times_of result.first ++ times_of result.others ≡ times_of row.now }
     ensures timed { IsTimed result.first × IsTimed result.others }
-    ensures early { IsEarly result.first × IsEarly result.others }
+    ensures early { IsSoon result.first × IsSoon result.others }
     ensures few { result.first.bytes + result.others.bytes ≡ row.now.bytes }
     ensures last { result.prev ≡ last_left step prev (times_of result.first) }
-    ensures soon { result.prev ≤ max (2 ^ 86) prev + result.first.bytes * step }
+    ensures soon { result.prev ≤ max (2 ^ 86 + 2 ^ 69) prev + result.first.bytes * step }
     ensures first { AreOver true step size prev (times_of result.first) }
     ensures others { AreOver false step size result.prev (times_of result.others) }
 {

@@ -1,8 +1,8 @@
 //! The transport buffer.
-ghost use Rattle.std.specs.Prelude.{◌≡◌, ◌+◌, ◌-◌, ◌*◌, ◌/◌, ◌<◌, ◌≤◌, ◌^◌, max};
+ghost use Rattle.std.specs.Prelude.{◌≡◌, ℕ, ◌+◌, ◌-◌, ◌*◌, ◌/◌, ◌<◌, ◌≤◌, ◌^◌, max};
 ghost use Rattle.clock27.specs.Departure.{departures};
-ghost use Rattle.packet_arrival.specs.Rows.{IsTimed, IsEarly, times_of};
-ghost use Rattle.transport_buffer.specs.Buffers.{IsPaced, entered, level_at, times_left};
+ghost use Rattle.packet_arrival.specs.Rows.{IsTimed, times_of};
+ghost use Rattle.transport_buffer.specs.Buffers.{IsPaced, IsSoon, LeaveSoon, entered, level_at, times_left};
 
 use crate::leaving::{Leaving, leave};
 use crate::most_found::most_found;
@@ -22,10 +22,10 @@ pub struct TransportBuffer {
 }
 
 impl TransportBuffer {
-    /// An empty one, which a byte takes `step` to leave.
+    /// Returns an empty one, which a byte takes `step` to leave.
     pub fn new(step: u64) -> TransportBuffer
         requires some { 0 < step }
-        requires slow { step ≤ 2 ^ 28 }
+        requires slow { step ≤ 2 ^ 40 }
         ensures empty { result ≡ record { step = step; bytes = 0; last = 0; most = 0 } }
         ensures paced { IsPaced result }
     {
@@ -37,7 +37,7 @@ impl TransportBuffer {
         }
     }
 
-    /// The number of bytes in it at a moment at or after the last arrival.
+    /// Returns the number of bytes in it at a moment at or after the last arrival.
     pub fn level(&self, moment: u128) -> u128
         requires paced { IsPaced self.now }
         ensures { result ≡ level_at self.now moment }
@@ -45,17 +45,19 @@ impl TransportBuffer {
         (self.last.saturating_sub(moment) + (u128::from(self.step) - 1)) / u128::from(self.step)
     }
 
-    /// The bytes of a row arrive: when they leave.
+    /// Takes the bytes of a row, and returns when they leave.
     #[inline(always)]
     pub fn enter(&mut self, row: &Row) -> Leaving
         requires paced { IsPaced self.old }
         requires timed { IsTimed row.now }
-        requires early { IsEarly row.now }
+        requires soon { IsSoon row.now }
         requires some { 0 < row.now.bytes }
         requires count { self.old.bytes + row.now.bytes ≤ 2 ^ 40 }
         ensures left { times_left result ≡ departures self.old.step self.old.last (times_of row.now) }
         ensures buffer { self.new ≡ entered self.old (times_of row.now) }
         ensures timed { IsTimed result.waiting × IsTimed result.free }
+        ensures soon { (latest : ℕ) → self.old.last ≤ latest + self.old.bytes * self.old.step →
+            row.now.from + row.now.bytes * row.now.pace ≤ latest * row.now.parts → LeaveSoon self.new.step self.new.bytes self.new.last result latest }
         ensures paced { IsPaced self.new }
     {
         let leaving = leave(self.step, self.last, row);

@@ -5,18 +5,23 @@ use Rattle.page_charts.specs.PidLabels.{LabelsState, label_text}
 use Rattle.view_page.specs.declared.cells.CellUnit.{CellUnit}
 use Rattle.view_page.specs.declared.cells.CellUnit.TheVariants.{Same, Ticks}
 use Rattle.view_page.specs.declared.cells.CellWord.{CellWord}
-use Rattle.view_page.specs.declared.cells.CellWord.TheVariants.{Transport, Main, TransportExcess, MainExcess, SystemExcess, SystemMainExcess, LateUnit, FarAhead, PcrRepetition, PcrDiscontinuity, PcrAccuracy, TableRepetition, Unclocked, Bytes, Packets, Millis, Nanos, Unreferenced, Missing, Nothing}
+use Rattle.view_page.specs.declared.cells.CellWord.TheVariants.{Transport, Main, Multiplexing, Elementary, TransportExcess, MainExcess, MultiplexingExcess, ElementaryExcess, SystemExcess, SystemMainExcess, LateUnit, ElementaryLate, FarAhead, PcrRepetition, PcrDiscontinuity, PcrAccuracy, TableRepetition, Unclocked, Bytes, Packets, Millis, Nanos, Unreferenced, Missing, Nothing}
 use Rattle.view_page.specs.declared.cells.Cell.{Cell}
 use Rattle.view_page.specs.declared.cells.Cell.TheVariants.{Number, Checked, Bar, Word, Carried, Program}
 
 unfoldable pub word_text : CellWord → List ℕ
 word_text Transport = codes "transport"
 word_text Main = codes "main"
+word_text Multiplexing = codes "multiplexing (MB)"
+word_text Elementary = codes "elementary stream (EB)"
 word_text TransportExcess = codes "transport buffer over its size"
 word_text MainExcess = codes "main buffer over its size"
+word_text MultiplexingExcess = codes "multiplexing buffer (MB) over its size"
+word_text ElementaryExcess = codes "elementary stream buffer (EB) over its size"
 word_text SystemExcess = codes "transport buffer of tables over its size"
 word_text SystemMainExcess = codes "system buffer of tables over its size"
 word_text LateUnit = codes "late unit"
+word_text ElementaryLate = codes "unit late in its elementary stream buffer (EB)"
 word_text FarAhead = codes "unit too far ahead"
 word_text PcrRepetition = codes "clock reference too late"
 word_text PcrDiscontinuity = codes "clock reference that jumps"

@@ -1,7 +1,7 @@
 -- What PIDs carry, by what comes of them in windows: the last of a PID that has a program counts, and the last name of a program's service.
 use Rattle.std.specs.Prelude.{ℕ, ◌==◌, if◌then◌else◌, unwrap_or, List, Option, Some, None}
 use Rattle.events.specs.declared.event.Event.{Event}
-use Rattle.events.specs.declared.event.Event.TheVariants.{Stream, Window, Held, Units, Excess, MainExcess, SystemExcess, SystemMainExcess, Late, Ahead, PcrRepetition, PcrDiscontinuity, PcrAccuracy, TableRepetition, Unclocked, Transport, Main, System, Clock, Table, Pid, Unreferenced, Missing, End}
+use Rattle.events.specs.declared.event.Event.TheVariants.{Stream, Window, Held, Units, Excess, MainExcess, MultiplexingExcess, ElementaryExcess, SystemExcess, SystemMainExcess, Late, ElementaryLate, Ahead, PcrRepetition, PcrDiscontinuity, PcrAccuracy, TableRepetition, Unclocked, Transport, Main, Multiplexing, Elementary, System, Clock, Table, Pid, Unreferenced, Missing, End}
 use Rattle.events.specs.Windows.{WindowView}
 use Rattle.page_charts.specs.PidLabels.{LabelsState, with_program, with_service}
 use Rattle.view_page.specs.HtmlTexts.{html_text}
@@ -24,9 +24,12 @@ with_event l (Held e) = l
 with_event l (Units e) = l
 with_event l (Excess e) = l
 with_event l (MainExcess e) = l
+with_event l (MultiplexingExcess e) = l
+with_event l (ElementaryExcess e) = l
 with_event l (SystemExcess e) = l
 with_event l (SystemMainExcess e) = l
 with_event l (Late e) = l
+with_event l (ElementaryLate e) = l
 with_event l (Ahead e) = l
 with_event l (PcrRepetition e) = l
 with_event l (PcrDiscontinuity e) = l
@@ -35,6 +38,8 @@ with_event l (TableRepetition e) = l
 with_event l (Unclocked e) = l
 with_event l (Transport e) = l
 with_event l (Main e) = l
+with_event l (Multiplexing e) = l
+with_event l (Elementary e) = l
 with_event l (System e) = l
 with_event l (Clock e) = l
 with_event l (Table e) = l

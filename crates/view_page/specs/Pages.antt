@@ -1,7 +1,7 @@
 -- What a page keeps of a stream, by its events and nothing else.
 use Rattle.std.specs.Prelude.{◌≡◌, ℕ, List, [], ◌∷◌}
 use Rattle.events.specs.declared.event.Event.{Event}
-use Rattle.events.specs.declared.event.Event.TheVariants.{Stream, Window, Held, Units, Excess, MainExcess, SystemExcess, SystemMainExcess, Late, Ahead, PcrRepetition, PcrDiscontinuity, PcrAccuracy, TableRepetition, Unclocked, Transport, Main, System, Clock, Table, Pid, Unreferenced, Missing, End}
+use Rattle.events.specs.declared.event.Event.TheVariants.{Stream, Window, Held, Units, Excess, MainExcess, MultiplexingExcess, ElementaryExcess, SystemExcess, SystemMainExcess, Late, ElementaryLate, Ahead, PcrRepetition, PcrDiscontinuity, PcrAccuracy, TableRepetition, Unclocked, Transport, Main, Multiplexing, Elementary, System, Clock, Table, Pid, Unreferenced, Missing, End}
 use Rattle.events.specs.declared.event.ReportEnd.{ReportEnd}
 use Rattle.view_page.specs.declared.page.Page.{Page}
 use Rattle.page_charts.specs.PidLabels.{LabelsState, no_labels}
@@ -37,9 +37,12 @@ end_after end (Held e) = end
 end_after end (Units e) = end
 end_after end (Excess e) = end
 end_after end (MainExcess e) = end
+end_after end (MultiplexingExcess e) = end
+end_after end (ElementaryExcess e) = end
 end_after end (SystemExcess e) = end
 end_after end (SystemMainExcess e) = end
 end_after end (Late e) = end
+end_after end (ElementaryLate e) = end
 end_after end (Ahead e) = end
 end_after end (PcrRepetition e) = end
 end_after end (PcrDiscontinuity e) = end
@@ -48,6 +51,8 @@ end_after end (TableRepetition e) = end
 end_after end (Unclocked e) = end
 end_after end (Transport e) = end
 end_after end (Main e) = end
+end_after end (Multiplexing e) = end
+end_after end (Elementary e) = end
 end_after end (System e) = end
 end_after end (Clock e) = end
 end_after end (Table e) = end

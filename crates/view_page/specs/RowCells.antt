@@ -14,6 +14,9 @@ use Rattle.events.specs.declared.event.TableFault.{TableFault}
 use Rattle.events.specs.declared.event.TableTotals.{TableTotals}
 use Rattle.events.specs.declared.event.TransportTotals.{TransportTotals}
 use Rattle.events.specs.declared.event.UnclockedPackets.{UnclockedPackets}
+use Rattle.events.specs.declared.video_event.ElementaryLate.{ElementaryLate}
+use Rattle.events.specs.declared.video_event.ElementaryTotals.{ElementaryTotals}
+use Rattle.events.specs.declared.video_event.MultiplexingTotals.{MultiplexingTotals}
 use Rattle.view_page.specs.declared.cells.Cell.{Cell}
 use Rattle.view_page.specs.declared.cells.Cell.TheVariants.{Number, Checked, Bar, Word, Carried, Program}
 use Rattle.view_page.specs.declared.cells.CellUnit.TheVariants.{Same, Ticks}
@@ -37,6 +40,17 @@ abbrev pub main_cells : MainTotals → List Cell
 main_cells e =
     Number e.pid Same ∷ Carried e.pid ∷ Word words.Main ∷ Number e.size Same ∷ Checked e.most (Some e.size) Same ∷ Bar e.most (Some e.size)
     ∷ Checked (short e.excesses) (Some 0) Same ∷ Number e.units Same ∷ Checked e.late (Some 0) Same ∷ Checked e.unread (Some 0) Same ∷ []
+
+-- of the two buffers of video
+abbrev pub multiplexing_cells : MultiplexingTotals → List Cell
+multiplexing_cells e =
+    Number e.pid Same ∷ Carried e.pid ∷ Word words.Multiplexing ∷ Number e.size Same ∷ Checked (short e.most) (Some e.size) Same
+    ∷ Bar (short e.most) (Some e.size) ∷ Checked (short e.excesses) (Some 0) Same ∷ Word words.Nothing ∷ Word words.Nothing ∷ Word words.Nothing ∷ []
+
+abbrev pub elementary_cells : ElementaryTotals → List Cell
+elementary_cells e =
+    Number e.pid Same ∷ Carried e.pid ∷ Word words.Elementary ∷ Number e.size Same ∷ Checked e.most (Some e.size) Same ∷ Bar e.most (Some e.size)
+    ∷ Checked (short e.excesses) (Some 0) Same ∷ Number e.units Same ∷ Checked e.late (Some 0) Same ∷ Word words.Nothing ∷ []
 
 -- of the buffers of a program's tables
 abbrev pub system_cells : SystemTotals → List Cell
@@ -77,6 +91,11 @@ program_excess_cells word e =
 abbrev pub late_cells : LateUnit → List Cell
 late_cells e =
     Word words.LateUnit ∷ Number e.pid Same ∷ Number e.packet Same ∷ Number (short e.by) Ticks ∷ Word words.Nothing ∷ Word words.Millis ∷ []
+
+-- of a unit that is late in the elementary stream buffer
+abbrev pub elementary_late_cells : ElementaryLate → List Cell
+elementary_late_cells e =
+    Word words.ElementaryLate ∷ Number e.pid Same ∷ Number e.packet Same ∷ Number (short e.by) Ticks ∷ Word words.Nothing ∷ Word words.Millis ∷ []
 
 -- of a unit too far ahead
 abbrev pub ahead_cells : FarAhead → List Cell

@@ -1,13 +1,13 @@
 -- The rows that an event adds.
 use Rattle.std.specs.Prelude.{ℕ, ◌+◌, ◌-◌, ◌^◌, min, nat_lt, if◌then◌else◌, List, [], ◌∷◌, ◌++◌, flat_map}
 use Rattle.events.specs.declared.event.Event.{Event}
-use Rattle.events.specs.declared.event.Event.TheVariants.{Stream, Window, Held, Units, Excess, MainExcess, SystemExcess, SystemMainExcess, Late, Ahead, PcrRepetition, PcrDiscontinuity, PcrAccuracy, TableRepetition, Unclocked, Transport, Main, System, Clock, Table, Pid, Unreferenced, Missing, End}
+use Rattle.events.specs.declared.event.Event.TheVariants.{Stream, Window, Held, Units, Excess, MainExcess, MultiplexingExcess, ElementaryExcess, SystemExcess, SystemMainExcess, Late, ElementaryLate, Ahead, PcrRepetition, PcrDiscontinuity, PcrAccuracy, TableRepetition, Unclocked, Transport, Main, Multiplexing, Elementary, System, Clock, Table, Pid, Unreferenced, Missing, End}
 use Rattle.events.specs.declared.event.StreamBegin.{StreamBegin}
 use Rattle.view_page.specs.declared.cells.Cell.{Cell}
 use Rattle.view_page.specs.declared.cells.CellWord.TheVariants as words
 use Rattle.view_page.specs.declared.rows.TheConstants.{MOST_FAULTS}
 use Rattle.view_page.specs.Cells.{cell, row}
-use Rattle.view_page.specs.RowCells.{ahead_cells, clock_cells, clock_place_cells, clock_time_cells, excess_cells, late_cells, main_cells, pid_cells, program_excess_cells, reference_cells, stream_cells, system_cells, table_cells, table_fault_cells, transport_cells, unclocked_cells}
+use Rattle.view_page.specs.RowCells.{ahead_cells, clock_cells, clock_place_cells, clock_time_cells, elementary_cells, elementary_late_cells, excess_cells, late_cells, main_cells, multiplexing_cells, pid_cells, program_excess_cells, reference_cells, stream_cells, system_cells, table_cells, table_fault_cells, transport_cells, unclocked_cells}
 use Rattle.page_charts.specs.PidLabels.{LabelsState}
 use Rattle.view_page.specs.RowTexts.{RowTexts}
 
@@ -28,9 +28,12 @@ with_fault_event labels r (Held e) = r
 with_fault_event labels r (Units e) = r
 with_fault_event labels r (Excess e) = with_fault labels r (excess_cells words.TransportExcess e)
 with_fault_event labels r (MainExcess e) = with_fault labels r (excess_cells words.MainExcess e)
+with_fault_event labels r (MultiplexingExcess e) = with_fault labels r (excess_cells words.MultiplexingExcess e)
+with_fault_event labels r (ElementaryExcess e) = with_fault labels r (excess_cells words.ElementaryExcess e)
 with_fault_event labels r (SystemExcess e) = with_fault labels r (program_excess_cells words.SystemExcess e)
 with_fault_event labels r (SystemMainExcess e) = with_fault labels r (program_excess_cells words.SystemMainExcess e)
 with_fault_event labels r (Late e) = with_fault labels r (late_cells e)
+with_fault_event labels r (ElementaryLate e) = with_fault labels r (elementary_late_cells e)
 with_fault_event labels r (Ahead e) = with_fault labels r (ahead_cells e)
 with_fault_event labels r (PcrRepetition e) = with_fault labels r (clock_time_cells words.PcrRepetition e)
 with_fault_event labels r (PcrDiscontinuity e) = with_fault labels r (clock_time_cells words.PcrDiscontinuity e)
@@ -39,6 +42,8 @@ with_fault_event labels r (TableRepetition e) = with_fault labels r (table_fault
 with_fault_event labels r (Unclocked e) = with_fault labels r (unclocked_cells e)
 with_fault_event labels r (Transport e) = r
 with_fault_event labels r (Main e) = r
+with_fault_event labels r (Multiplexing e) = r
+with_fault_event labels r (Elementary e) = r
 with_fault_event labels r (System e) = r
 with_fault_event labels r (Clock e) = r
 with_fault_event labels r (Table e) = r
@@ -60,9 +65,12 @@ with_event labels r (Held e) = with_fault_event labels r (Held e)
 with_event labels r (Units e) = with_fault_event labels r (Units e)
 with_event labels r (Excess e) = with_fault_event labels r (Excess e)
 with_event labels r (MainExcess e) = with_fault_event labels r (MainExcess e)
+with_event labels r (MultiplexingExcess e) = with_fault_event labels r (MultiplexingExcess e)
+with_event labels r (ElementaryExcess e) = with_fault_event labels r (ElementaryExcess e)
 with_event labels r (SystemExcess e) = with_fault_event labels r (SystemExcess e)
 with_event labels r (SystemMainExcess e) = with_fault_event labels r (SystemMainExcess e)
 with_event labels r (Late e) = with_fault_event labels r (Late e)
+with_event labels r (ElementaryLate e) = with_fault_event labels r (ElementaryLate e)
 with_event labels r (Ahead e) = with_fault_event labels r (Ahead e)
 with_event labels r (PcrRepetition e) = with_fault_event labels r (PcrRepetition e)
 with_event labels r (PcrDiscontinuity e) = with_fault_event labels r (PcrDiscontinuity e)
@@ -71,6 +79,8 @@ with_event labels r (TableRepetition e) = with_fault_event labels r (TableRepeti
 with_event labels r (Unclocked e) = with_fault_event labels r (Unclocked e)
 with_event labels r (Transport e) = with_buffer labels r (transport_cells e)
 with_event labels r (Main e) = with_buffer labels r (main_cells e)
+with_event labels r (Multiplexing e) = with_buffer labels r (multiplexing_cells e)
+with_event labels r (Elementary e) = with_buffer labels r (elementary_cells e)
 with_event labels r (System e) = record r { systems = r.systems ++ row labels (system_cells e) }
 with_event labels r (Clock e) = record r { clocks = r.clocks ++ row labels (clock_cells e) }
 with_event labels r (Table e) = record r { tables = r.tables ++ row labels (table_cells e) }

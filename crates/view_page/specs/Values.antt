@@ -1,7 +1,7 @@
 -- The curves of the page, by the events that have come and nothing else.
 use Rattle.std.specs.Prelude.{◌≡◌, ℕ, ◌+◌, ◌-◌, ◌/◌, ◌^◌, min, max, List, [], Option, Some, None}
 use Rattle.events.specs.declared.event.Event.{Event}
-use Rattle.events.specs.declared.event.Event.TheVariants.{Stream, Window, Held, Units, Excess, MainExcess, SystemExcess, SystemMainExcess, Late, Ahead, PcrRepetition, PcrDiscontinuity, PcrAccuracy, TableRepetition, Unclocked, Transport, Main, System, Clock, Table, Pid, Unreferenced, Missing, End}
+use Rattle.events.specs.declared.event.Event.TheVariants.{Stream, Window, Held, Units, Excess, MainExcess, MultiplexingExcess, ElementaryExcess, SystemExcess, SystemMainExcess, Late, ElementaryLate, Ahead, PcrRepetition, PcrDiscontinuity, PcrAccuracy, TableRepetition, Unclocked, Transport, Main, Multiplexing, Elementary, System, Clock, Table, Pid, Unreferenced, Missing, End}
 use Rattle.events.specs.declared.event.HeldFigures.{HeldFigures}
 use Rattle.events.specs.declared.event.StreamBegin.{StreamBegin}
 use Rattle.events.specs.declared.event.UnitFigures.{UnitFigures}
@@ -74,9 +74,12 @@ with_event v (Held e) = with_held v e
 with_event v (Units e) = with_units v e
 with_event v (Excess e) = v
 with_event v (MainExcess e) = v
+with_event v (MultiplexingExcess e) = v
+with_event v (ElementaryExcess e) = v
 with_event v (SystemExcess e) = v
 with_event v (SystemMainExcess e) = v
 with_event v (Late e) = v
+with_event v (ElementaryLate e) = v
 with_event v (Ahead e) = v
 with_event v (PcrRepetition e) = v
 with_event v (PcrDiscontinuity e) = v
@@ -85,6 +88,8 @@ with_event v (TableRepetition e) = v
 with_event v (Unclocked e) = v
 with_event v (Transport e) = v
 with_event v (Main e) = v
+with_event v (Multiplexing e) = v
+with_event v (Elementary e) = v
 with_event v (System e) = v
 with_event v (Clock e) = v
 with_event v (Table e) = v

@@ -18,11 +18,16 @@ pub enum CellUnit {
 pub enum CellWord {
     Transport,
     Main,
+    Multiplexing,
+    Elementary,
     TransportExcess,
     MainExcess,
+    MultiplexingExcess,
+    ElementaryExcess,
     SystemExcess,
     SystemMainExcess,
     LateUnit,
+    ElementaryLate,
     FarAhead,
     PcrRepetition,
     PcrDiscontinuity,
@@ -38,7 +43,7 @@ pub enum CellWord {
     Nothing,
 }
 
-/// A cell: a number, one that is marked if it exceeds its limit, a bar of it beside its limit, a word, what a PID carries, or a
+/// A cell: a number, a number that is marked if it exceeds its limit, a bar of it beside its limit, a word, what a PID carries, or a
 /// program.
 #[derive(Clone, Copy)]
 pub enum Cell {
@@ -50,14 +55,14 @@ pub enum Cell {
     Program(u16),
 }
 
-/// A number that stops at 2^64 - 1.
+/// Returns a number that stops at 2^64 - 1.
 pub(crate) fn short(number: u128) -> u64
     ensures { result ≡ spec.short number }
 {
     number.min(u128::from(u64::MAX)) as u64
 }
 
-/// A limit, if there is one: 0 is none.
+/// Returns a limit, if there is one: 0 is none.
 pub(crate) fn limit_if(limit: u64) -> Option<u64>
     ensures { result ≡ spec.limit_if limit }
 {
@@ -74,11 +79,16 @@ fn word_text(word: CellWord) -> &'static str
     match word {
         CellWord::Transport => "transport",
         CellWord::Main => "main",
+        CellWord::Multiplexing => "multiplexing (MB)",
+        CellWord::Elementary => "elementary stream (EB)",
         CellWord::TransportExcess => "transport buffer over its size",
         CellWord::MainExcess => "main buffer over its size",
+        CellWord::MultiplexingExcess => "multiplexing buffer (MB) over its size",
+        CellWord::ElementaryExcess => "elementary stream buffer (EB) over its size",
         CellWord::SystemExcess => "transport buffer of tables over its size",
         CellWord::SystemMainExcess => "system buffer of tables over its size",
         CellWord::LateUnit => "late unit",
+        CellWord::ElementaryLate => "unit late in its elementary stream buffer (EB)",
         CellWord::FarAhead => "unit too far ahead",
         CellWord::PcrRepetition => "clock reference too late",
         CellWord::PcrDiscontinuity => "clock reference that jumps",

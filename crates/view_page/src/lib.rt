@@ -1,9 +1,9 @@
-//! What is found in a stream as one HTML page with its pictures in it as SVG, drawn of the events while they come.
+//! The events of a stream as one HTML page with its pictures in it as SVG, drawn while events arrive.
 //!
 //! - [`Page`]: takes events (`Page::take`), and writes the page at the end (`Page::write`).
 //!
 //! `row_cells` has the cells of an event's row, `cells` writes them, `rows` keeps the rows of the page's tables, `values` the curves,
-//! `page_labels` what PIDs carry, and `html_text` writes the name of a service. What is kept does not grow with
+//! `page_labels` what PIDs carry, and `html_text` writes the name of a service. Memory does not grow with
 //! the stream: curves of 512 slots, for 32 PIDs each, the first 100 faults, the rows of the last events, and the programs of
 //! PIDs with the names of their services.
 #![tactic(auto)]

@@ -11,9 +11,9 @@ use events::{Event, ReportEnd};
 use page_charts::PidLabels;
 use std::alloc::{AllocError, Global};
 
-/// A page of a stream whose windows have `millis` milliseconds, as far as its events have come.
+/// A page of a stream whose windows have `millis` milliseconds, with its events so far.
 ///
-/// After an `AllocError` it is that of no stream: drop it.
+/// After an `AllocError` it describes no stream: drop it.
 #[derive(Drop)]
 pub struct Page {
     alloc: Global,
@@ -25,7 +25,7 @@ pub struct Page {
 }
 
 impl Page {
-    /// No event has come.
+    /// Returns the state before the first event.
     pub fn new(alloc: Global, millis: u32) -> Page
         ensures { IsPage result (no_events millis) }
     {
@@ -53,7 +53,7 @@ impl Page {
         }
     }
 
-    /// An event.
+    /// Returns an event.
     pub fn take(&mut self, event: &Event) -> Result<(), AllocError>
         ensures { (s : PageState) → IsPage self.old s → OnOk result (IsPage self.new (after_event s event.now)) }
     {
@@ -64,7 +64,7 @@ impl Page {
         Ok(())
     }
 
-    /// Events.
+    /// Takes events.
     pub fn take_all(&mut self, events: &[Event]) -> Result<(), AllocError>
         ensures { (s : PageState) → IsPage self.old s → OnOk result (IsPage self.new (after_events s events.now)) }
     {

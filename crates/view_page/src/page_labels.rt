@@ -1,4 +1,4 @@
-//! What PIDs carry, as what comes of them in windows says.
+//! What PIDs carry, by their events in windows.
 ghost use Rattle.std.specs.Prelude.{◌≡◌, OnOk, option_map, string_bytes};
 ghost use Rattle.view_page.specs.PageLabels as spec;
 
@@ -56,7 +56,7 @@ fn take_window(
     }
 }
 
-/// An event.
+/// Returns an event.
 #[tactic(auto, unfolding(crate::specs::PageLabels::with_event))]
 pub(crate) fn take_label(
     alloc: Global,

@@ -4,9 +4,9 @@ ghost use Rattle.view_page.specs.RowCells as spec;
 
 use crate::cells::{Cell, CellUnit, CellWord, limit_if, short};
 use events::{
-    BufferExcess, ClockFault, ClockTotals, FarAhead, LateUnit, MainTotals, PidTotals,
-    ProgramExcess, StreamBegin, SystemTotals, TableFault, TableTotals, TransportTotals,
-    UnclockedPackets,
+    BufferExcess, ClockFault, ClockTotals, ElementaryLate, ElementaryTotals, FarAhead, LateUnit,
+    MainTotals, MultiplexingTotals, PidTotals, ProgramExcess, StreamBegin, SystemTotals,
+    TableFault, TableTotals, TransportTotals, UnclockedPackets,
 };
 
 /// Returns the cells of a stream, after its PID and what that carries.
@@ -53,6 +53,42 @@ pub(crate) fn main_cells(e: &MainTotals) -> [Cell; 10]
         Cell::Number(e.units, CellUnit::Same),
         Cell::Checked(e.late, Some(0), CellUnit::Same),
         Cell::Checked(e.unread, Some(0), CellUnit::Same),
+    ]
+}
+
+/// Returns the cells of a multiplexing buffer.
+pub(crate) fn multiplexing_cells(e: &MultiplexingTotals) -> [Cell; 10]
+    ensures { result ≡ spec.multiplexing_cells e.now }
+{
+    [
+        Cell::Number(u64::from(e.pid), CellUnit::Same),
+        Cell::Carried(e.pid),
+        Cell::Word(CellWord::Multiplexing),
+        Cell::Number(e.size, CellUnit::Same),
+        Cell::Checked(short(e.most), Some(e.size), CellUnit::Same),
+        Cell::Bar(short(e.most), Some(e.size)),
+        Cell::Checked(short(e.excesses), Some(0), CellUnit::Same),
+        Cell::Word(CellWord::Nothing),
+        Cell::Word(CellWord::Nothing),
+        Cell::Word(CellWord::Nothing),
+    ]
+}
+
+/// Returns the cells of an elementary stream buffer.
+pub(crate) fn elementary_cells(e: &ElementaryTotals) -> [Cell; 10]
+    ensures { result ≡ spec.elementary_cells e.now }
+{
+    [
+        Cell::Number(u64::from(e.pid), CellUnit::Same),
+        Cell::Carried(e.pid),
+        Cell::Word(CellWord::Elementary),
+        Cell::Number(e.size, CellUnit::Same),
+        Cell::Checked(e.most, Some(e.size), CellUnit::Same),
+        Cell::Bar(e.most, Some(e.size)),
+        Cell::Checked(short(e.excesses), Some(0), CellUnit::Same),
+        Cell::Number(e.units, CellUnit::Same),
+        Cell::Checked(e.late, Some(0), CellUnit::Same),
+        Cell::Word(CellWord::Nothing),
     ]
 }
 
@@ -147,6 +183,20 @@ pub(crate) fn late_cells(e: &LateUnit) -> [Cell; 6]
 {
     [
         Cell::Word(CellWord::LateUnit),
+        Cell::Number(u64::from(e.pid), CellUnit::Same),
+        Cell::Number(e.packet, CellUnit::Same),
+        Cell::Number(short(e.by), CellUnit::Ticks),
+        Cell::Word(CellWord::Nothing),
+        Cell::Word(CellWord::Millis),
+    ]
+}
+
+/// Returns the cells of a unit that is late in its elementary stream buffer.
+pub(crate) fn elementary_late_cells(e: &ElementaryLate) -> [Cell; 6]
+    ensures { result ≡ spec.elementary_late_cells e.now }
+{
+    [
+        Cell::Word(CellWord::ElementaryLate),
         Cell::Number(u64::from(e.pid), CellUnit::Same),
         Cell::Number(e.packet, CellUnit::Same),
         Cell::Number(short(e.by), CellUnit::Ticks),

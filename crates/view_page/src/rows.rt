@@ -4,9 +4,10 @@ ghost use Rattle.view_page.specs.Rows as spec;
 
 use crate::cells::{Cell, CellWord, write_cells, write_row};
 use crate::row_cells::{
-    ahead_cells, clock_cells, clock_place_cells, clock_time_cells, excess_cells, late_cells,
-    main_cells, pid_cells, program_excess_cells, reference_cells, stream_cells, system_cells,
-    table_cells, table_fault_cells, transport_cells, unclocked_cells,
+    ahead_cells, clock_cells, clock_place_cells, clock_time_cells, elementary_cells,
+    elementary_late_cells, excess_cells, late_cells, main_cells, multiplexing_cells, pid_cells,
+    program_excess_cells, reference_cells, stream_cells, system_cells, table_cells,
+    table_fault_cells, transport_cells, unclocked_cells,
 };
 use events::{Event, StreamBegin};
 use page_charts::PidLabels;
@@ -67,7 +68,7 @@ impl Model for Rows {
 }
 
 impl Rows {
-    /// No event has come.
+    /// Returns the state before the first event.
     pub fn new(alloc: Global) -> Rows
         ensures { result ≡ spec.no_rows }
     {
@@ -109,6 +110,12 @@ impl Rows {
                 &excess_cells(CellWord::TransportExcess, e),
             ),
             Event::MainExcess(e) => self.take_fault(labels, &excess_cells(CellWord::MainExcess, e)),
+            Event::MultiplexingExcess(e) => {
+                self.take_fault(labels, &excess_cells(CellWord::MultiplexingExcess, e))
+            }
+            Event::ElementaryExcess(e) => {
+                self.take_fault(labels, &excess_cells(CellWord::ElementaryExcess, e))
+            }
             Event::SystemExcess(e) => {
                 self.take_fault(labels, &program_excess_cells(CellWord::SystemExcess, e))
             }
@@ -116,6 +123,7 @@ impl Rows {
                 self.take_fault(labels, &program_excess_cells(CellWord::SystemMainExcess, e))
             }
             Event::Late(e) => self.take_fault(labels, &late_cells(e)),
+            Event::ElementaryLate(e) => self.take_fault(labels, &elementary_late_cells(e)),
             Event::Ahead(e) => self.take_fault(labels, &ahead_cells(e)),
             Event::PcrRepetition(e) => {
                 self.take_fault(labels, &clock_time_cells(CellWord::PcrRepetition, e))
@@ -150,7 +158,7 @@ impl Rows {
         write_row(&mut self.buffers, labels, cells)
     }
 
-    /// An event, with what PIDs carry.
+    /// Returns an event, with what PIDs carry.
     #[tactic(auto, unfolding(crate::specs::Rows::with_event))]
     pub fn take(&mut self, labels: &PidLabels, event: &Event) -> Result<(), AllocError>
         ensures { OnOk result (self.new ≡ spec.with_event labels.now self.old event.now) }
@@ -159,6 +167,8 @@ impl Rows {
             Event::Stream(stream) => self.take_stream(labels, stream),
             Event::Transport(e) => self.take_buffer(labels, &transport_cells(e)),
             Event::Main(e) => self.take_buffer(labels, &main_cells(e)),
+            Event::Multiplexing(e) => self.take_buffer(labels, &multiplexing_cells(e)),
+            Event::Elementary(e) => self.take_buffer(labels, &elementary_cells(e)),
             Event::System(e) => write_row(&mut self.systems, labels, &system_cells(e)),
             Event::Clock(e) => write_row(&mut self.clocks, labels, &clock_cells(e)),
             Event::Table(e) => write_row(&mut self.tables, labels, &table_cells(e)),

@@ -23,7 +23,7 @@ pub struct Values {
 }
 
 impl Values {
-    /// No event has come.
+    /// Returns the state before the first event.
     pub fn new(alloc: Global) -> Values
         ensures { AreValues result spec.no_values }
     {
@@ -92,7 +92,7 @@ impl Values {
             .take(units.pid, units.number, short(units.slack) / 27)
     }
 
-    /// An event.
+    /// Returns an event.
     #[tactic(auto, unfolding(crate::specs::Values::with_event))]
     pub fn take(&mut self, event: &Event) -> Result<(), AllocError>
         ensures { (kept : KeptValues) → AreValues self.old kept →

@@ -10,6 +10,7 @@ use Rattle.ts_packet.specs.PidList.{Entry, payload_of, pid_list}
 use Rattle.pes_packet.specs.AccessUnits.{AccessUnit}
 use Rattle.pes_packet.specs.Encoding.{on_wire, pes_packet_bytes}
 use Rattle.pes_packet.specs.Laws.{written_header}
+use Rattle.pes_packet.specs.declared.marks.Marks.{Marks}
 use Rattle.pes_packet.specs.Reading.{header_at}
 use Rattle.pes_packet.specs.StreamIds.{fits_packet}
 use Rattle.slot_contents.specs.Contents.{Piece, payload_at}
@@ -47,9 +48,9 @@ goes_on base0 u (b ∷ bs) ps us most rest = (
 )
 
 -- the header of a unit is read with its stamp
-reads_dts : (id size pts dts : ℕ) → by_stamps (written_header id size pts dts).stamps ≡ Stamped (on_wire dts)
+reads_dts : (id size : ℕ) (marks : Marks) (pts dts : ℕ) → by_stamps (written_header id size marks pts dts).stamps ≡ Stamped (on_wire dts)
 unfolding written_header by_stamps
-reads_dts id size pts dts = elim (cases_Bool (on_wire pts == on_wire dts)) [
+reads_dts id size marks pts dts = elim (cases_Bool (on_wire pts == on_wire dts)) [
   | inl same ↦ rw same (ap (λ (n : ℕ). Stamped n) (eqb-true (on_wire pts) (on_wire dts) same))
   | inr other ↦ rw other refl
 ]
@@ -59,10 +60,15 @@ header_read : (id base0 n : ℕ) (u : AccessUnit) → IsTrue (fits_packet id (le
 unfolding by_header
 header_read id base0 n u fits whole =
     let text = unit_is_pes id base0 u fits in
-    rw (text.header n whole) (reads_dts id (length u.bytes) (u.pts + base0) (u.dts + base0))
+    rw (text.header n whole) (reads_dts id (length u.bytes) u.marks (u.pts + base0) (u.dts + base0))
+
+some_by : (long same : Bool) → 1 ≤ cond long 45 (cond same 14 19)
+some_by true same = omega arith
+some_by false true = omega arith
+some_by false false = omega arith
 
 pub some_header : (base0 : ℕ) (u : AccessUnit) → 1 ≤ unit_header_size base0 u
-some_header base0 u = elim (cases_Bool (on_wire (u.pts + base0) == on_wire (u.dts + base0))) [ inl y ↦ rw y (omega arith) | inr k ↦ rw k (omega arith) ]
+some_header base0 u = some_by u.marks.long (on_wire (u.pts + base0) == on_wire (u.dts + base0))
 
 -- those of one unit
 one_cut : (id base0 : ℕ) (u : AccessUnit) (before : Option AccessUnit) (bs : List (List ℕ)) (ps : List Piece) (us : List AccessUnit) → IsTrue (fits_packet id (length u.bytes)) →

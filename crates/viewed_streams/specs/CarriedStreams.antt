@@ -24,7 +24,7 @@ pub record CutUnit : Type 0 where
 pub record IsCut (id base0 : ℕ) (c : CutUnit) : Type 0 where
   pub fits : IsTrue (fits_packet id (length c.unit.bytes))
   pub joined : concat c.payloads ≡ pes_packet_bytes id base0 c.unit
-  pub header : header_size (c.unit.pts + base0) (c.unit.dts + base0) ≤ length (unwrap_or (slice_get c.payloads 0) [])
+  pub header : header_size c.unit.marks (c.unit.pts + base0) (c.unit.dts + base0) ≤ length (unwrap_or (slice_get c.payloads 0) [])
   pub most : All (λ b. length b ≤ 184) c.payloads
 
 -- the units; all payloads, of which the first of a unit begins its PES packet, and the unit of each

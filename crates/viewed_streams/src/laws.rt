@@ -13,32 +13,32 @@ ghost use Rattle.viewed_streams.specs.WholeStreams.{LastEventsLaw, WholeStreamLa
 ghost use Rattle.viewed_streams.specs.WindowHighs.{ClockedHighLaw, HighWithoutLaw, RateHighLaw, TimedHighLaw, WholeHighLaw, WindowHighLaw, WindowMostLaw};
 ghost use Rattle.viewed_streams.specs.WindowLows.{WholeWindowLaw, WindowLeastLaw, WindowLowLaw, WindowWithoutLaw};
 
-/// At a constant rate the last lines of a stream are about all packets of its PID, from the one with which its buffers begin: the line
-/// `transport` has the greatest number of bytes in the transport buffer over all moments (ISO/IEC 13818-1, 2.4.2.3) and the number of all
-/// excesses, the line `main` the greatest number of bytes in the main buffer and the numbers of all units and of those that are late.
+/// States for a constant rate that the last lines of a stream are about all packets of its PID, from the packet that begins its buffers: the
+/// line `transport` has the greatest number of bytes in the transport buffer over all moments (ISO/IEC 13818-1, 2.4.2.3) and the number of all
+/// excesses, the line `main` the greatest number of bytes in the main buffer and the numbers of all units and of late units.
 pub fn whole_streams()
     ensures whole { WholeStreamLaw }
     ensures events { LastEventsLaw }
 {}
 
-/// The same of a stream whose packets arrive in any way in which no byte arrives before an earlier one: at a constant rate, and by the
-/// clock references of a stream, as a report that is given no rate takes them, at its end.
+/// States the same fact for a stream whose packets arrive in any way that keeps the order of the bytes: at a constant rate, and by the
+/// clock references of a stream, as a report without a rate takes them, at its end.
 pub fn timed_streams()
     ensures timed { TimedStreamLaw }
     ensures rate { RateOrderLaw }
     ensures clocked { ClockedStreamLaw }
 {}
 
-/// No excess of a main buffer is told where its line says no more than its size, whichever way the stream's packets arrive; so it is at a
-/// constant rate.
+/// States that there is no excess of a main buffer if its line says no more than its size, whichever way the stream's packets arrive; and
+/// so at a constant rate.
 pub fn main_excesses()
     ensures timed { TimedNoExcessLaw }
     ensures rate { NoMainExcessLaw }
 {}
 
-/// The least that a line `held` says of a main buffer is that which the bytes of its window's packets find in it, and this is the least
-/// fullness of the buffer while they come, whichever way they arrive. So it is of a whole window in which a packet carries payload, and so a
-/// report counts it of a stream whose buffers began before the window; of one in which none does, or in which they begin, the line says 0.
+/// States that the least that a line `held` says of a main buffer is the least that the bytes of its window's packets find in it, which is
+/// the least fullness of the buffer meanwhile, whichever way they arrive. A report counts it so for a stream whose buffers began before the
+/// window, if a packet of the window carries payload; otherwise the line says 0.
 pub fn window_lows()
     ensures counted { WindowLeastLaw }
     ensures low { WindowLowLaw }
@@ -49,19 +49,18 @@ pub fn window_lows()
     ensures report { HeldWindowLaw }
 {}
 
-/// So it is of each window of a report on packets that arrive by clock references: its streams are, once each packet has been viewed, those of
-/// its packets one by one, each as it arrives.
+/// States the same fact for each window of a report on packets that arrive by clock references: its streams, once each packet has been
+/// viewed, are the streams of its packets one by one, each as it arrives.
 pub fn clocked_windows()
     ensures tables { ClockedTablesLaw }
     ensures window { ClockedWindowLaw }
 {}
 
-/// The greatest that a line `held` says of a main buffer is the most that the bytes of its window's packets find in it, themselves counted, and
-/// this is the greatest fullness of the buffer from their first payload byte that enters it on: what is in it before may be more. So a report
-/// counts it of a stream whose buffers began before the window, whichever way packets arrive; where no byte enters, the line says 0. The greatest
-/// of a transport buffer is its greatest fullness from the first byte of the window's packets on, where no byte arrives before an earlier one: so
-/// they arrive at a constant rate and by clock references. Where the buffers begin in the window, the line says what the lines `transport` and
-/// `main` say so far.
+/// States that the greatest that a line `held` says of a main buffer is the most that the bytes of its window's packets find in it, themselves
+/// counted, which is the greatest fullness of the buffer from their first payload byte on: earlier it may be more. A report counts it so for a
+/// stream whose buffers began before the window, whichever way packets arrive; if no byte enters, the line says 0. The greatest of a transport
+/// buffer is its greatest fullness from the first byte of the window's packets on, if bytes arrive in their order, as they do at a constant
+/// rate and by clock references. If the buffers begin in the window, the line says what the lines `transport` and `main` say so far.
 pub fn window_highs()
     ensures counted { WindowMostLaw }
     ensures main { WindowHighLaw }
@@ -80,27 +79,27 @@ pub fn window_highs()
     ensures clocked_transport { ClockedTransportLaw }
 {}
 
-/// The greatest number of bytes in a transport buffer is no more than what `tstd::measure` finds of the same bytes, and the same
+/// States that the greatest number of bytes in a transport buffer is no more than what `tstd::measure` finds of the same bytes, and the same
 /// where the stream's buffers begin with the first packet of its PID.
 pub fn measured_streams()
     ensures { MeasuredStreamLaw }
 {}
 
-/// Of what a multiplexer wrote over a plan that keeps its conditions, or over two in turn, viewed at its rate, no excess of a transport
-/// buffer is told.
+/// States that there is no excess of a transport buffer in the output of a multiplexer over a plan that keeps its conditions, or over two in
+/// turn, viewed at its rate.
 pub fn muxed_streams()
     ensures whole { MuxedStreamLaw }
     ensures jobs { JobNoExcessLaw }
 {}
 
-/// Nor is an excess told of a main buffer, wherever the stream's buffers begin; and where they begin with the first packet of its PID, its
-/// line says no more than what `tstd::measure` finds of the same bytes.
+/// States that there is no excess of a main buffer there, wherever the stream's buffers begin; and that its line says no more than
+/// `tstd::measure` finds in the same bytes, if they begin with the first packet of its PID.
 pub fn muxed_main_buffers()
     ensures run { RunMainLaw }
     ensures jobs { JobMainLaw }
 {}
 
-/// The buffers of a stream of which no unit is due before 2 s after the begin do so: PAT and PMT come before its packets (ISO/IEC
+/// States that the buffers of a stream do so if no unit of it is due before 2 s after the begin: PAT and PMT precede its packets (ISO/IEC
 /// 13818-1, 2.4.4), so the view knows of it by then, whatever else is viewed.
 pub fn muxed_after_tables()
     ensures first { RunFirstLaw }
@@ -109,21 +108,21 @@ pub fn muxed_after_tables()
     ensures jobs { JobLateUnitsLaw }
 {}
 
-/// And no unit is late in a view of it.
+/// States that no unit is late in a view of it.
 pub fn muxed_units()
     ensures run { RunLateLaw }
     ensures jobs { JobLateLaw }
 {}
 
-/// Of a stream at a constant rate that carries units on a PID, whoever wrote it, the greatest numbers of bytes in both buffers are those
-/// that `tstd::measure` finds of the same bytes: where its buffers begin with the first packet of the PID, with or after a clock
+/// States that the greatest numbers of bytes in both buffers of a stream at a constant rate that carries units on a PID, whoever wrote it, are
+/// the numbers that `tstd::measure` finds in the same bytes: if its buffers begin with the first packet of the PID, with or after a clock
 /// reference, and units go by clock references that agree with the rate.
 pub fn carried_as_measured()
     ensures { AsMeasuredLaw }
 {}
 
-/// So they are of what a multiplexer wrote, where the buffers begin so; and they do where no unit is due before 2 s after the begin, as
-/// long as the view looks for clock references on the PID of a program's.
+/// States the same for the output of a multiplexer, if the buffers begin so; and they do if no unit is due before 2 s after the begin, as long
+/// as the view looks for clock references on the PID of a program's.
 pub fn muxed_as_measured()
     ensures run { RunAsMeasuredLaw }
     ensures jobs { JobAsMeasuredLaw }

@@ -1,18 +1,17 @@
 //! What the report on a stream says is so of all its packets: laws, no code.
 //!
 //! Each function here does nothing: its contract is the law, over the definitions of `stream_report`, `tstd` and `mux_core`.
-//! `specs/StreamPackets` says which packets are a stream's and how its buffers see them, `StreamUnits` which units they carry, `WholeStreams`
-//! what its last lines say of all of them at a constant rate and `TimedStreams` whichever way they arrive, `WindowLows` and `HeldWindows` what
-//! the least is that a line of a window says of its main buffer and `ClockedWindows` that a report by clock references says so, `WindowHighs`
-//! what the greatest of the main buffer is, `TransportHighs` that of the transport buffer and `FirstHighs` both in the window in which they
-//! begin, `MainExcesses` when no excess of a main buffer is told, `MeasuredStreams` what measuring the same bytes finds, `MuxedStreams` what is
-//! said of what a multiplexer wrote, `ViewedRuns` that no unit of it is late, no main buffer too full, and when its tables come first,
-//! `CarriedStreams` which packets carry units and by which clock references these go, and `AsMeasured` when the figures of such a stream are
-//! those that are measured.
+//! Definitions in `specs/`:
+//! - `StreamPackets`: which packets are a stream's, and how its buffers see them; `StreamUnits`: which units they carry.
+//! - `WholeStreams`: what a stream's last lines say of all its packets at a constant rate; `TimedStreams`: whichever way they arrive.
+//! - `WindowLows`, `HeldWindows`: the least that a window's line says of a main buffer; `ClockedWindows`: the same by clock references.
+//! - `WindowHighs`, `TransportHighs`: the greatest of the main and transport buffer; `FirstHighs`: both in the window where they begin.
+//! - `MainExcesses`: when a main buffer has no excess; `MeasuredStreams`: what measuring the same bytes finds.
+//! - `MuxedStreams`, `ViewedRuns`: a multiplexer's output, with no late unit and no main buffer too full, and when its tables come first.
+//! - `CarriedStreams`: which packets carry units, and their clock references; `AsMeasured`: when the figures equal the measured numbers.
 //!
-//! - [`laws`]: the last lines of a stream are about all packets of its PID, what they say is no more than what is measured, and the same
-//!   where units are carried so, and of a multiplexer's output no excess of a transport buffer is told, no late unit, and no excess of a
-//!   main buffer.
+//! - [`laws`]: the last lines of a stream are about all packets of its PID and say no more than the measured numbers, and the same numbers
+//!   if units are carried so; a multiplexer's output has no excess of a transport buffer, no late unit, and no excess of a main buffer.
 #![tactic(auto)]
 
 pub mod laws;

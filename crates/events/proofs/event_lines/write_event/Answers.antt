@@ -12,3 +12,11 @@ returns-in-SystemExcess c = rw c.in-SystemExcess.is c.write_program_excess.ensur
 pub returns-in-SystemMainExcess : goal.returns-in-SystemMainExcess
 unfolding event_line
 returns-in-SystemMainExcess c = rw c.in-SystemMainExcess.is c.write_program_excess-in-SystemMainExcess.ensures
+
+pub returns-in-MultiplexingExcess : goal.returns-in-MultiplexingExcess
+unfolding event_line
+returns-in-MultiplexingExcess c = rw c.in-MultiplexingExcess.is c.write_excess-in-MultiplexingExcess.ensures
+
+pub returns-in-ElementaryExcess : goal.returns-in-ElementaryExcess
+unfolding event_line
+returns-in-ElementaryExcess c = rw c.in-ElementaryExcess.is c.write_excess-in-ElementaryExcess.ensures

@@ -1,7 +1,9 @@
-use Rattle.std.proofs.Common.{◌≡◌, ◌∙◌, ◌+◌, ◌*◌, ◌/◌, max, refl, arith}
+use Rattle.std.proofs.Common.{◌≡◌, ◌∙◌, ◌+◌, ◌*◌, ◌/◌, ◌≤◌, max, refl, arith}
+use Rattle.std.proofs.Math.Nat.{div-le_of_le-mul}
 use Rattle.packet_arrival.specs.declared.row.Row.{Row}
 use Rattle.transport_buffer.specs.Buffers.{free_row}
 use Rattle.transport_buffer.proofs.EvenRows.{no_bytes, fast_left, fast_last}
+use Rattle.transport_buffer.proofs.SoonRows.{rows_soon}
 use Rattle.transport_buffer.proofs.leaving.leave_fast.Goals as goal
 
 -- the first of the row, or the byte before it
@@ -22,3 +24,11 @@ returns-clause-last c =
     let row : Row = c.args.row.now in
     rw (c.leaving_rows.ensures.last, c.from.ensures, c.from-2.ensures)
     (fast_last c.args.step c.args.prev row.from row.pace row.parts row.bytes c.max-first.result c.requires.bytes c.requires.timed.some c.requires.fast (first c))
+
+pub returns-clause-soon : goal.returns-clause-soon
+returns-clause-soon c = λ latest low early.
+    let row : Row = c.args.row.now in
+    let here : row.from / row.parts ≤ latest = div-le_of_le-mul row.parts (omega (arith, early)) in
+    let same : row.bytes ≤ row.bytes = omega arith in
+    rows_soon c.args.step c.max-first.result latest row.bytes row c.leaving_rows.result c.leaving_rows.ensures.waiting c.leaving_rows.ensures.free same
+    (rw (first c) (omega (arith, here, low))) early

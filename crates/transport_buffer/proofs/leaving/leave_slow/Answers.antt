@@ -1,6 +1,7 @@
 use Rattle.std.proofs.Common.{◌≡◌, ◌∙◌, ℕ, ◌+◌, ◌-◌, ◌*◌, ◌<◌, ◌≤◌, arith}
 use Rattle.packet_arrival.specs.declared.row.Row.{Row}
 use Rattle.transport_buffer.proofs.EvenRows.{slow_left, slow_last, slow_wait_last}
+use Rattle.transport_buffer.proofs.SoonRows.{rows_soon}
 use Rattle.transport_buffer.proofs.leaving.leave_slow.Goals as goal
 use Rattle.transport_buffer.proofs.leaving.leave_slow.Goals.{then-count-row, else-count-row}
 
@@ -34,3 +35,8 @@ returns-clause-last c =
           w.last-is ∙ rw (w.from-else-count-row.ensures, w.from-else-count-row-2.ensures, all)
           (slow_wait_last c.args.step c.args.prev row.from row.pace row.parts row.bytes c.requires.timed.some c.requires.slow (rw all at (waits c)))
     ]
+
+pub returns-clause-soon : goal.returns-clause-soon
+returns-clause-soon c = λ latest low early.
+    rows_soon c.args.step c.args.prev latest c.multiples_below-count.result c.args.row.now c.leaving_rows.result c.leaving_rows.ensures.waiting c.leaving_rows.ensures.free
+    c.multiples_below-count.ensures.bound low early

@@ -56,3 +56,8 @@ returns-clause-least g c =
     let old = c.args.self.now in
     c.enter_leaving-found.ensures.least
     ∙ least_left old.main c.arrive-arrived.result.leaving (departures old.transport.step old.transport.last (times_of c.args.row.now)) c.arrive-arrived.ensures.left
+
+pub returns-clause-many : goal.returns-clause-many
+returns-clause-many g c =
+    let old = c.args.self.now in
+    left_bytes old.transport.step old.transport.last c.arrive-arrived.result.leaving c.args.row.now c.arrive-arrived.ensures.left

@@ -4,8 +4,8 @@ use Rattle.transport_buffer.proofs.ExcessBytes.{in_two_after, in_two_ended, firs
 use Rattle.transport_buffer.proofs.excess.ExcessWatch.enter.Goals as goal
 
 -- all that have come leave by the end of a stream
-soon : (last prev bytes more few step : ℕ) → last ≤ max (2 ^ 86) prev + few * step → few ≤ more → prev ≤ 2 ^ 86 + bytes * step → bytes + more ≤ 2 ^ 40 → step ≤ 2 ^ 28 →
-    last ≤ 2 ^ 86 + 2 ^ 69
+soon : (last prev bytes more few step : ℕ) → last ≤ max (2 ^ 86 + 2 ^ 69) prev + few * step → few ≤ more → prev ≤ 2 ^ 86 + 2 ^ 69 + bytes * step → bytes + more ≤ 2 ^ 40 → step ≤ 2 ^ 40 →
+    last ≤ 2 ^ 86 + 2 ^ 81
 soon last prev bytes more few step late le paced all slow =
     let bound = mul-le-mul all slow in
     let part = mul-le-mul_right step le in
