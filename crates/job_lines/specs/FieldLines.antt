@@ -14,7 +14,7 @@ field_text Scrambling = codes " scrambled in PES packets: taken as it is\n"
 field_text LongHeader = codes " PES headers of 45 bytes: written without stuffing\n"
 field_text PrivateData = codes " private data of PES headers left out\n"
 field_text OtherHeaderData = codes " other data of PES headers left out\n"
-field_text UnreadHeader = codes " PES header goes on in another packet: not read\n"
+field_text UnreadHeader = codes " PES header continues in another packet: not read\n"
 
 unfoldable pub field_line : FieldLeftOut → List ℕ
 field_line f = codes "pid " ++ decimal f.pid ++ field_text f.field

@@ -23,8 +23,8 @@ table_line (table.NoMap program) = codes "program " ++ decimal program ++ codes 
 table_line (table.ConditionalAccess program) = codes "CA descriptors of program " ++ decimal program ++ codes " left out\n"
 table_line (table.Multiplex program) = codes "multiplex descriptors of program " ++ decimal program ++ codes " left out\n"
 table_line (table.NoPes program pid stream_type) = codes "pid " ++ decimal pid ++ codes " of program " ++ decimal program ++ codes " stream_type " ++ decimal stream_type ++ codes " has no PES: left out\n"
-table_line (table.Reserved program pid) = codes "pid " ++ decimal pid ++ codes " of program " ++ decimal program ++ codes " is none of a stream: left out\n"
-table_line (table.Taken program pid holder) = codes "pid " ++ decimal pid ++ codes " of program " ++ decimal program ++ codes " stands in program " ++ decimal holder ++ codes " already: left out\n"
+table_line (table.Reserved program pid) = codes "pid " ++ decimal pid ++ codes " of program " ++ decimal program ++ codes " is reserved: left out\n"
+table_line (table.Taken program pid holder) = codes "pid " ++ decimal pid ++ codes " of program " ++ decimal program ++ codes " is in program " ++ decimal holder ++ codes " already: left out\n"
 table_line (table.SharedOtherwise program pid holder) = codes "pid " ++ decimal pid ++ codes " of program " ++ decimal program ++ codes " has the stream_type and descriptors of program " ++ decimal holder ++ codes ": its own left out\n"
 table_line (table.NoStream program) = codes "program " ++ decimal program ++ codes " has no stream: left out\n"
 
@@ -55,7 +55,7 @@ unit_line pid left_out = codes "packet " ++ decimal left_out.packet ++ codes " p
 unfoldable pub packet_text : PacketWarning → List ℕ
 packet_text Bad = codes " bad-packet\n"
 packet_text Errored = codes " errored\n"
-packet_text AssociationChanges = codes " PAT changes: the first one stands\n"
+packet_text AssociationChanges = codes " PAT changes: the first is used\n"
 packet_text NetworkSurplus = codes " NIT says other or more than one network and this stream: left out\n"
 
 unfoldable pub packet_line : ℕ → PacketWarning → List ℕ
@@ -63,7 +63,7 @@ packet_line packet what = codes "packet " ++ decimal packet ++ packet_text what
 
 -- a map that is other than the last one of its program
 unfoldable pub map_text : MapPart → List ℕ
-map_text NamedStreams = codes " names other streams: the last one stands\n"
+map_text NamedStreams = codes " names other streams: the last is used\n"
 map_text Descriptors = codes " has descriptors that the last one has not: left out\n"
 
 unfoldable pub map_line : ℕ → ℕ → MapPart → List ℕ
@@ -74,6 +74,14 @@ unfoldable pub program_line : ℕ → ProgramWarning → List ℕ
 program_line program Missing = codes "program " ++ decimal program ++ codes " is not there\n"
 program_line program NoStream = codes "program " ++ decimal program ++ codes " has no stream with units: left out\n"
 program_line program UnreadText = codes "name of program " ++ decimal program ++ codes " has characters that cannot be read\n"
+
+-- the buffer that a stream says
+unfoldable pub header_line : ℕ → ℕ → ℕ → ℕ → List ℕ
+header_line pid said unit counted = codes "pid " ++ decimal pid ++ codes " says a buffer of " ++ decimal said ++ codes " bytes and has a unit of " ++ decimal unit ++ codes ": its level's " ++ decimal counted ++ codes " declared\n"
+
+-- the leak that nothing keeps
+unfoldable pub leak_line : ℕ → ℕ → ℕ → List ℕ
+leak_line pid rate leak = codes "pid " ++ decimal pid ++ codes " asks for " ++ decimal rate ++ codes " bits/s and its leak gives " ++ decimal leak ++ codes ": declared without rbx and mb\n"
 
 unfoldable pub warning_line : Warning → List ℕ
 warning_line (warning.Packet packet what) = packet_line packet what
@@ -89,6 +97,8 @@ warning_line (warning.StreamId program pid packet id) = id_line program pid pack
 warning_line warning.UnreadNetwork = codes "name of the network has characters that cannot be read\n"
 warning_line (warning.Information about) = information_line about
 warning_line (warning.MapMoved program from to) = codes "PMT of program " ++ decimal program ++ codes " moved from pid " ++ decimal from ++ codes " to " ++ decimal to ++ codes "\n"
+warning_line (warning.HeaderBuffer pid said unit counted) = header_line pid said unit counted
+warning_line (warning.Leak pid rate leak) = leak_line pid rate leak
 
 -- 2. All of them
 

@@ -26,7 +26,7 @@ fn field_text(field: Field) -> &'static str
         Field::LongHeader => " PES headers of 45 bytes: written without stuffing\n",
         Field::PrivateData => " private data of PES headers left out\n",
         Field::OtherHeaderData => " other data of PES headers left out\n",
-        Field::UnreadHeader => " PES header goes on in another packet: not read\n",
+        Field::UnreadHeader => " PES header continues in another packet: not read\n",
     }
 }
 
@@ -40,7 +40,7 @@ fn write_field(left_out: &FieldLeftOut, text: &mut String) -> Result<(), AllocEr
     text.push_str(field_text(field))
 }
 
-/// A line for each field on a PID.
+/// Returns a line for each field on a PID.
 pub fn write_fields(fields: &[FieldLeftOut], text: &mut String) -> Result<(), AllocError>
     ensures { OnOk result (string_bytes text.new ≡ string_bytes text.old ++ spec.field_lines fields.now) }
 {
@@ -50,7 +50,7 @@ pub fn write_fields(fields: &[FieldLeftOut], text: &mut String) -> Result<(), Al
     Ok(())
 }
 
-/// Those of streams that are carried.
+/// Returns the fields of streams that are carried.
 pub fn told_fields(
     alloc: Global,
     input: &JobInput,
@@ -65,7 +65,7 @@ pub fn told_fields(
         .collect(alloc)
 }
 
-/// Whether a viewer may lose something by one of these.
+/// Returns whether a viewer may lose something by any of these.
 pub fn are_needed(fields: &[FieldLeftOut]) -> bool
     ensures { result ≡ list_any (λ f. is_loss f.field) fields.now }
 {

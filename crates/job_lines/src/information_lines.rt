@@ -7,7 +7,7 @@ use service_information::InformationWarning;
 use std::alloc::AllocError;
 use std::fmt::Write;
 
-/// The line of a warning.
+/// Returns the line of a warning.
 #[tactic(auto, unfolding(crate::specs::InformationLines::information_line))]
 pub(crate) fn write_information(
     warning: InformationWarning,

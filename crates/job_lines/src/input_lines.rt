@@ -1,4 +1,4 @@
-//! The lines about one of several inputs.
+//! The lines about an input, if there are several.
 
 ghost use Rattle.std.specs.Prelude.{◌≡◌, ◌++◌, OnOk, map, string_bytes};
 ghost use Rattle.job_lines.specs.InputLines as spec;
@@ -16,7 +16,7 @@ fn write_head(number: usize, name: &str, text: &mut String) -> Result<(), AllocE
     write!(text, "input {shown} {name}:")
 }
 
-/// The line above those of an input; inputs are numbered from 0 on.
+/// Appends the line above the lines of an input; inputs are numbered from 0 on.
 #[tactic(auto, unfolding(crate::specs::InputLines::input_line))]
 pub fn write_input(number: usize, name: &str, text: &mut String) -> Result<(), AllocError>
     ensures { OnOk result (string_bytes text.new ≡ string_bytes text.old ++ spec.input_line number name.now) }
@@ -65,7 +65,7 @@ fn write_note(names: &[&str], note: InputNote, text: &mut String) -> Result<(), 
     write_cause(note.cause, text)
 }
 
-/// A line for each note; the inputs have these names.
+/// Returns a line for each note; the inputs have these names.
 pub fn write_notes(names: &[&str], notes: &[InputNote], text: &mut String) -> Result<(), AllocError>
     ensures { OnOk result (string_bytes text.new ≡ string_bytes text.old
         ++ spec.note_lines (map (λ s. s.now) names.now) notes.now) }
@@ -87,7 +87,7 @@ fn is_cause_loss(cause: NoteCause) -> bool
     }
 }
 
-/// Whether one of these notes does.
+/// Returns whether any of these notes says that something is lost.
 pub fn are_lost(notes: &[InputNote]) -> bool
     ensures { result ≡ spec.are_lost notes.now }
 {

@@ -1,9 +1,13 @@
-//! What is told of a stream that becomes a job: a line for each thing that is left out or changed, and the line of a refusal.
+//! The lines about a stream that becomes a job: a line for each thing that is left out or changed, and the line of a refusal.
 //!
-//! `slip_lines` has those for packets that do not stand in step or are of another size, `field_lines` those for fields that are not
-//! written again, `table_lines` those for tables that no job is made of, `warning_lines` those for the warnings of a job
-//! (`information_lines` of its service information), and `refusal_line` the one for a stream that is refused; `input_lines` those
-//! about one of several inputs. `specs/` has the text of each.
+//! - `slip_lines`: packets that are not in step or have another size.
+//! - `field_lines`: fields that are not written again.
+//! - `table_lines`: tables that no job is made of.
+//! - `warning_lines`: the warnings of a job; `information_lines`: of its service information.
+//! - `refusal_line`: a stream that is refused.
+//! - `input_lines`: an input, if there are several.
+//!
+//! `specs/` has the text of each.
 #![tactic(auto)]
 
 mod field_lines;

@@ -147,7 +147,7 @@ fn write_description(fault: DescFault, text: &mut String) -> Result<(), AllocErr
     write!(text, "description {code} {item}\n")
 }
 
-/// The line of a refusal.
+/// Returns the line of a refusal.
 #[tactic(auto, unfolding(crate::specs::RefusalLine::refusal_line))]
 pub fn write_refusal(refusal: JobRefusal, text: &mut String) -> Result<(), AllocError>
     ensures { OnOk result (string_bytes text.new ≡ string_bytes text.old ++ spec.refusal_line refusal) }
@@ -185,8 +185,6 @@ pub fn write_refusal(refusal: JobRefusal, text: &mut String) -> Result<(), Alloc
         JobRefusal::Pids => text.push_str("no PID is left for a PMT or a PCR\n"),
         JobRefusal::Description(fault) => write_description(fault, text),
         JobRefusal::Plan(rate) => write!(text, "no plan at rate {rate}\n"),
-        JobRefusal::Declaration(pid) => {
-            write!(text, "pid {pid} does not keep what is declared of it\n")
-        }
+        JobRefusal::Declaration(pid) => { write!(text, "pid {pid} breaks its own declaration\n") }
     }
 }

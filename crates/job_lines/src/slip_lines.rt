@@ -1,4 +1,4 @@
-//! The lines for packets: those that do not stand in step, and those of other sizes.
+//! The lines for packets that are not in step, and for packets of other sizes.
 
 ghost use Rattle.std.specs.Prelude.{◌≡◌, ◌++◌, OnOk, string_bytes};
 ghost use Rattle.job_lines.specs.SlipLines as spec;
@@ -16,7 +16,7 @@ fn write_slip(slip: &Slip, text: &mut String) -> Result<(), AllocError>
     write!(text, "packet {packet} slip of {size} bytes\n")
 }
 
-/// A line for each slip.
+/// Returns a line for each slip.
 pub fn write_slips(slips: &[Slip], text: &mut String) -> Result<(), AllocError>
     ensures { OnOk result (string_bytes text.new ≡ string_bytes text.old ++ spec.slip_lines slips.now) }
 {
@@ -26,7 +26,7 @@ pub fn write_slips(slips: &[Slip], text: &mut String) -> Result<(), AllocError>
     Ok(())
 }
 
-/// The line for a stream of other packets than those of 188 bytes.
+/// Appends the line for a stream whose packets have not 188 bytes.
 #[tactic(auto, unfolding(crate::specs::SlipLines::packets_line))]
 pub fn write_packets(packets: OtherPackets, text: &mut String) -> Result<(), AllocError>
     ensures { OnOk result (string_bytes text.new ≡ string_bytes text.old ++ spec.packets_line packets) }

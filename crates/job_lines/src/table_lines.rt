@@ -40,7 +40,7 @@ fn write_other_table(table: &OtherTable, text: &mut String) -> Result<(), AllocE
     text.push_str(": left out\n")
 }
 
-/// A line for each table.
+/// Returns a line for each table.
 pub fn write_other_tables(tables: &[OtherTable], text: &mut String) -> Result<(), AllocError>
     ensures { OnOk result (string_bytes text.new ≡ string_bytes text.old ++ spec.other_table_lines tables.now) }
 {
@@ -50,7 +50,7 @@ pub fn write_other_tables(tables: &[OtherTable], text: &mut String) -> Result<()
     Ok(())
 }
 
-/// Those that are not carried.
+/// Returns the tables that are not carried.
 pub fn told_tables(
     alloc: Global,
     input: &JobInput,
@@ -65,7 +65,7 @@ pub fn told_tables(
         .collect(alloc)
 }
 
-/// Whether a viewer loses anything without these tables.
+/// Returns whether a viewer loses anything without these tables.
 pub fn are_missed(tables: &[OtherTable]) -> bool
     ensures { result ≡ list_any (λ t. is_loss t.kind) tables.now }
 {

@@ -39,7 +39,7 @@ fn write_table(left_out: TableOmission, text: &mut String) -> Result<(), AllocEr
         ),
         TableOmission::Reserved { program, pid } => write!(
             text,
-            "pid {pid} of program {program} is none of a stream: left out\n"
+            "pid {pid} of program {program} is reserved: left out\n"
         ),
         TableOmission::Taken {
             program,
@@ -47,7 +47,7 @@ fn write_table(left_out: TableOmission, text: &mut String) -> Result<(), AllocEr
             holder,
         } => write!(
             text,
-            "pid {pid} of program {program} stands in program {holder} already: left out\n"
+            "pid {pid} of program {program} is in program {holder} already: left out\n"
         ),
         TableOmission::SharedOtherwise {
             program,
@@ -128,7 +128,7 @@ fn packet_text(what: PacketWarning) -> &'static str
     match what {
         PacketWarning::Bad => " bad-packet\n",
         PacketWarning::Errored => " errored\n",
-        PacketWarning::AssociationChanges => " PAT changes: the first one stands\n",
+        PacketWarning::AssociationChanges => " PAT changes: the first is used\n",
         PacketWarning::NetworkSurplus => {
             " NIT says other or more than one network and this stream: left out\n"
         }
@@ -150,7 +150,7 @@ fn map_text(part: MapPart) -> &'static str
     ensures { result.now ≡ spec.map_text part }
 {
     match part {
-        MapPart::NamedStreams => " names other streams: the last one stands\n",
+        MapPart::NamedStreams => " names other streams: the last is used\n",
         MapPart::Descriptors => " has descriptors that the last one has not: left out\n",
     }
 }
@@ -180,6 +180,34 @@ fn write_program(program: u16, what: ProgramWarning, text: &mut String) -> Resul
             "name of program {program} has characters that cannot be read\n"
         ),
     }
+}
+
+// The line for the buffer that a stream says.
+#[tactic(auto, unfolding(crate::specs::WarningLines::header_line))]
+fn write_header_buffer(
+    pid: u16,
+    said: u32,
+    unit: usize,
+    counted: u32,
+    text: &mut String,
+) -> Result<(), AllocError>
+    ensures { OnOk result (string_bytes text.new ≡ string_bytes text.old ++ spec.header_line pid said unit counted) }
+{
+    write!(
+        text,
+        "pid {pid} says a buffer of {said} bytes and has a unit of {unit}: its level's {counted} declared\n"
+    )
+}
+
+// The line for the leak that nothing keeps.
+#[tactic(auto, unfolding(crate::specs::WarningLines::leak_line))]
+fn write_leak(pid: u16, rate: u64, leak: u32, text: &mut String) -> Result<(), AllocError>
+    ensures { OnOk result (string_bytes text.new ≡ string_bytes text.old ++ spec.leak_line pid rate leak) }
+{
+    write!(
+        text,
+        "pid {pid} asks for {rate} bits/s and its leak gives {leak}: declared without rbx and mb\n"
+    )
 }
 
 // The line of a warning.
@@ -221,6 +249,13 @@ fn write_warning(warning: Warning, text: &mut String) -> Result<(), AllocError>
             text,
             "PMT of program {program} moved from pid {from} to {to}\n"
         ),
+        Warning::HeaderBuffer {
+            pid,
+            said,
+            unit,
+            counted,
+        } => write_header_buffer(pid, said, unit, counted, text),
+        Warning::Leak { pid, rate, leak } => write_leak(pid, rate, leak, text),
     }
 }
 
@@ -251,7 +286,7 @@ fn is_told(whole: bool, warning: &Warning) -> bool
     !(whole && is_open_ended(warning))
 }
 
-/// The warnings that are told of an input that is said to be whole, or is not.
+/// Returns the warnings that are reported for an input, which `--whole` declares to be whole or not.
 pub fn told_warnings(
     alloc: Global,
     whole: bool,
@@ -314,7 +349,7 @@ fn write_after(before: Option<u16>, warning: Warning, text: &mut String) -> Resu
     write_warning(warning, text)
 }
 
-/// A line for each warning; one for each run of scrambled packets of a PID.
+/// Returns a line for each warning; one for each run of scrambled packets of a PID.
 pub fn write_warnings(all: &[Warning], text: &mut String) -> Result<(), AllocError>
     ensures { OnOk result (string_bytes text.new ≡ string_bytes text.old ++ spec.warning_lines all.now) }
 {
@@ -326,7 +361,7 @@ pub fn write_warnings(all: &[Warning], text: &mut String) -> Result<(), AllocErr
     Ok(())
 }
 
-/// Whether one of the warnings says that something is lost.
+/// Returns whether any of the warnings says that something is lost.
 pub fn is_damaged(warnings: &[Warning]) -> bool
     ensures { result ≡ are_damaged warnings.now }
 {

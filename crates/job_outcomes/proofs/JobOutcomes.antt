@@ -3,6 +3,7 @@ use Rattle.std.proofs.Common.{◌≡◌, ◌∙◌, ◌++◌, ◌∷◌, ◌/◌
 use Rattle.std.specs.List.{AllZip}
 use Rattle.std.proofs.lemmas.Bool.Decides.{nat_tests}
 use Rattle.pes_packet.specs.AccessUnits.{AccessUnit}
+use Rattle.pes_packet.specs.declared.marks.Marks.{Marks}
 use Rattle.description.specs.Described.{Described}
 use Rattle.slot_plan.specs.Conditions.{IsServing}
 use Rattle.slot_plan.specs.Planned.{Planned, plan_error}
@@ -33,7 +34,7 @@ use Rattle.packet_sync.specs.declared.packet_sizes.OtherPackets.{OtherPackets}
 use Rattle.job_lines.specs.SlipLines.{packets_line}
 use Rattle.job_outcomes.specs.Outcomes.{BytesLead, FindingsLead, Gives, GivesJob, GivesReasons, GivesUnits, IsFound, IsTold, IsWritten, Leads, InputLeads, ReportsWhy, Withholds, found_line}
 use Rattle.std.specs.Int.{bytes_high_first}
-use Rattle.unit_records.specs.Records.{record_head}
+use Rattle.unit_records.specs.Records.{record_head, word_of}
 use Rattle.unit_output.specs.Records.{records_of, written}
 use Rattle.job_outcomes.specs.SeveralInputs.{GivesJobIn}
 use Rattle.job_outcomes.specs.Streams.{IsOfStream, IsRead, PacketNotesView, ReadingView, findings_of}
@@ -52,15 +53,15 @@ suc_is_not n = grind (arith, nat_tests)
 cons_is_not : {A : Type 0} (x : A) (xs : List A) → (length (x ∷ xs) == 0) ≡ false
 cons_is_not x xs = suc_is_not (length xs)
 
-record_is_not : (stream size dts pts : ℕ) (unit more : List ℕ) → (length ((record_head stream size dts pts ++ unit) ++ more) == 0) ≡ false
+record_is_not : (stream size : ℕ) (marks : Marks) (dts pts : ℕ) (unit more : List ℕ) → (length ((record_head stream marks size dts pts ++ unit) ++ more) == 0) ≡ false
 unfolding record_head
-record_is_not stream size dts pts unit more =
-    cons_is_not stream (((bytes_high_first 4 size ++ (bytes_high_first 8 dts ++ bytes_high_first 8 pts)) ++ unit) ++ more)
+record_is_not stream size marks dts pts unit more =
+    cons_is_not stream (((bytes_high_first 4 (word_of marks size) ++ (bytes_high_first 8 dts ++ bytes_high_first 8 pts)) ++ unit) ++ more)
 
 -- nothing is written where there is no text, no plan and no unit
 pub nothing_written : (text plan : List ℕ) (units : List (ℕ × AccessUnit)) → ((length text == 0) && ((length plan == 0) && (length units == 0))) ≡ (length (written text plan units) == 0)
 nothing_written [] [] [] = refl
-nothing_written [] [] (u ∷ units) = cons_is_not u units ∙ sym (record_is_not u.0 (length u.1.bytes) u.1.dts u.1.pts u.1.bytes (records_of units))
+nothing_written [] [] (u ∷ units) = cons_is_not u units ∙ sym (record_is_not u.0 (length u.1.bytes) u.1.marks u.1.dts u.1.pts u.1.bytes (records_of units))
 nothing_written [] (p ∷ plan) units = rw (cons_is_not p plan) (sym (cons_is_not p (plan ++ records_of units)))
 nothing_written (t ∷ text) plan units = rw (cons_is_not t text) (sym (cons_is_not t ((text ++ plan) ++ records_of units)))
 

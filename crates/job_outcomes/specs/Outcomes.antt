@@ -70,7 +70,7 @@ pub record GivesUnits (m : JobInputView) (output : List ℕ) : Type 0 where
 
 -- the line of the first rate at which a plan is found, of those that are tried
 unfoldable pub found_line : Option ℕ → List ℕ
-found_line (Some rate) = codes "rate " ++ decimal rate ++ codes " has a plan, the first of those tried\n"
+found_line (Some rate) = codes "rate " ++ decimal rate ++ codes " has a plan, the first found\n"
 found_line None = codes "no rate that was tried has a plan\n"
 
 -- no plan is found, or rates cannot be tried

@@ -1,4 +1,4 @@
-//! The packets of a transport stream that stand in step, through a demultiplexer while its bytes come.
+//! The packets of a transport stream that are in step, through a demultiplexer while the stream arrives.
 ghost use Rattle.std.specs.Prelude.{◌≡◌, ◌≤◌, ◌++◌, [], IfOk, List, OnOk, ℕ, true, false, drop, length};
 ghost use Rattle.demux.specs.Stream.{finished};
 ghost use Rattle.job_outcomes.specs.Streams as spec;
@@ -129,7 +129,7 @@ impl Model for CarriedStream {
 }
 
 impl CarriedStream {
-    /// Before the first byte.
+    /// Returns the state before the first byte.
     pub(crate) fn new(alloc: Global) -> CarriedStream
         ensures { (stream : List ℕ) → stream ≡ [] → spec.IsCarriedTo stream false result }
     {
@@ -173,7 +173,7 @@ impl CarriedStream {
         Ok(())
     }
 
-    /// The stream ends.
+    /// Ends the stream.
     pub(crate) fn end(self) -> Result<ReadStream, AllocError>
         ensures { (bytes : List ℕ) → spec.IsCarriedTo bytes false self →
             IfOk result (λ r. spec.IsOfStream bytes r.notes r.demux.found r.size) }

@@ -1,4 +1,4 @@
-//! What is asked for of a stream.
+//! The requests about a stream.
 
 ghost use Rattle.std.specs.Prelude.{◌≡◌, option_map};
 
@@ -7,7 +7,7 @@ use std::marker::Model;
 use stream_coding::PidBuffers;
 use stream_jobs::JobOptions;
 
-/// What is written to the output.
+/// The kind of output.
 #[derive(Clone, Copy, Debug, PartialEq, Eq)]
 pub enum Subcommand {
     /// The whole job.
@@ -26,7 +26,7 @@ pub struct JobArguments<'a> {
     pub subcommand: Subcommand,
     /// The file of a description whose units are written while the stream comes.
     pub stream: Option<&'a str>,
-    /// Whether the input is said to end with its last PES packets: then it is no warning that an end is not known.
+    /// Whether the input is declared to end with its last PES packets: then an unknown end is no warning.
     pub whole: bool,
     /// The rate in bits a second, 100,000 to 100,000,000; none: the least rate at which a plan is found.
     pub rate: Option<u64>,
@@ -42,15 +42,15 @@ pub struct JobArguments<'a> {
     pub make_dts: bool,
     /// What the system clock shows as the run begins.
     pub base: ClockBase,
-    /// The network, in place of that of the stream.
+    /// The network, in place of the stream's network.
     pub network: Option<NetworkName<'a>>,
-    /// Names of services in place of those of the stream.
+    /// Names of services in place of the stream's names.
     pub names: Vec<ServiceName<'a>>,
     /// The programs that are taken; none: all.
     pub programs: Vec<u16>,
     /// The PIDs that are left out.
     pub without: Vec<u16>,
-    /// Buffers in place of those by coding and level.
+    /// Buffers in place of the buffers by coding and level.
     pub buffers: Vec<PidBuffers>,
 }
 
@@ -84,14 +84,14 @@ impl<'a> Model for JobArguments<'a> {
 }
 
 impl JobArguments<'_> {
-    /// The file of a description, where one is named.
+    /// Returns the file of a description, where one is named.
     pub fn stream(&self) -> Option<&str>
         ensures { option_map (λ s. s.now) result ≡ self.now.stream }
     {
         self.stream
     }
 
-    /// The options of the job.
+    /// Returns the options of the job.
     pub fn options(&self) -> JobOptions<'_>
         ensures { result ≡ self.now.options }
     {

@@ -72,7 +72,7 @@ impl Model for JobText {
     ghost view = { λ p. written (string_bytes p.text) (string_bytes p.plan) p.units.items };
 }
 
-/// A text alone.
+/// Returns a text alone.
 #[tactic(auto, using(crate::proofs::JobOutcomes::text_alone))]
 pub fn only_text(alloc: Global, text: String) -> JobText
     ensures { result ≡ string_bytes text }
@@ -348,7 +348,7 @@ fn carried_outcome(
     Ok(outcome)
 }
 
-/// The outcome for a stream that was read.
+/// Returns the outcome for a stream that was read.
 #[tactic(auto, using(crate::proofs::JobOutcomes::none_lead, crate::proofs::JobOutcomes::other_lead))]
 pub(crate) fn stream_outcome(
     alloc: Global,

@@ -50,7 +50,7 @@ fn is_other(front: &[u8]) -> bool
 }
 
 impl StreamReading {
-    /// Before the first byte.
+    /// Returns the state before the first byte.
     pub(crate) fn new(alloc: Global) -> StreamReading
         ensures { (stream : List ℕ) → stream ≡ [] → spec.IsRead stream result }
     {
@@ -77,14 +77,14 @@ impl StreamReading {
         Ok(())
     }
 
-    /// What other packets than those of 188 bytes the stream has, if any.
+    /// Returns what other packets than those of 188 bytes the stream has, if any.
     pub(crate) fn other_packets(&self) -> Option<OtherPackets>
         ensures { (bytes : List ℕ) → spec.IsRead bytes self.now → result ≡ other_packets bytes }
     {
         other_packets(&self.front)
     }
 
-    /// The stream ends, and has no other packets.
+    /// Ends the stream, which has no other packets.
     pub(crate) fn end(self) -> Result<ReadStream, AllocError>
         ensures { (bytes : List ℕ) → spec.IsRead bytes self → other_packets bytes ≡ None →
             IfOk result (λ r. spec.IsOfStream bytes r.notes r.demux.found r.size) }

@@ -31,7 +31,7 @@ fn write_rate(found: Option<u64>, lines: &mut String) -> Result<(), AllocError>
     ensures { OnOk result (string_bytes lines.new ≡ string_bytes lines.old ++ spec.found_line found) }
 {
     match found {
-        Some(rate) => write!(lines, "rate {rate} has a plan, the first of those tried\n"),
+        Some(rate) => write!(lines, "rate {rate} has a plan, the first found\n"),
         None => lines.push_str("no rate that was tried has a plan\n"),
     }
 }
@@ -54,7 +54,7 @@ fn write_found(
     write_rate(found, lines)
 }
 
-/// Why no plan serves the description of a stream.
+/// Returns why no plan serves the description of a stream.
 pub(crate) fn reason_output(
     alloc: Global,
     options: &JobOptions<'_>,

@@ -191,7 +191,8 @@ impl Model for TakenStreams {
     ghost view = { λ t. t.streams.items };
 }
 
-/// What a job takes of the streams in the files of these names; or the outcome for the first of which it takes nothing.
+/// Returns what a job takes of the streams in the files of these names; or the outcome for the first of which it takes
+/// nothing.
 pub(crate) fn named_inputs<F: NamedFiles>(
     alloc: Global,
     arguments: &JobArguments<'_>,

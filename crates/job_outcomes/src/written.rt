@@ -1,4 +1,4 @@
-//! What is written of an outcome: the output, and then the lines for the second writer.
+//! Writes an outcome: the output, and then the lines for the second writer.
 
 ghost use Rattle.devices.specs.Devices.{reads, writes};
 ghost use Rattle.devices.specs.Runs.{Performs};

@@ -28,7 +28,7 @@ pub enum TableKind {
     Private,
 }
 
-/// What table a section with this table_id is of; `None` for those that a job is made of, and for stuffing.
+/// Returns which table a section with this table_id belongs to; `None` for the tables of a job, and for stuffing.
 #[tactic(auto, unfolding(crate::specs::TableKinds::kind_of))]
 pub fn kind_of(table_id: u8) -> Option<TableKind>
     ensures { result ≡ spec.kind_of table_id }
@@ -66,8 +66,8 @@ fn kind_in_range(table_id: u8) -> TableKind
 }
 
 impl TableKind {
-    /// Whether a viewer loses anything without such a table: not by one of conditional access, since no scrambled stream is
-    /// carried.
+    /// Returns whether a viewer loses anything without such a table: not with a table of conditional access, since no scrambled
+    /// stream is carried.
     #[tactic(auto, unfolding(crate::specs::TableKinds::is_loss))]
     pub fn is_loss(self) -> bool
         ensures { result ≡ spec.is_loss self }

@@ -9,10 +9,10 @@ use demux::{Finding, What};
 use std::alloc::{AllocError, Global};
 use std::marker::Model;
 
-/// Sections of a PID that do not change: 1 to 8, each of which comes again.
+/// Sections of a PID that do not change: 1 to 8, and each recurs.
 #[derive(Drop)]
 pub struct SteadySections {
-    /// Their bytes, in the order in which they come first.
+    /// Their bytes, in the order of their first packets.
     pub sections: Vec<Vec<u8>>,
     /// The greatest number of packets from one start of a section to its next.
     pub gap: u64,
@@ -31,7 +31,7 @@ impl Model for SteadySections {
 /// A section that is found on a PID.
 #[derive(Clone, Copy)]
 pub(crate) struct FoundSection<'f> {
-    /// The packet in which it begins.
+    /// The packet where it begins.
     pub begun: u64,
     pub bytes: &'f [u8],
 }
@@ -306,8 +306,8 @@ fn steady_if(
     }))
 }
 
-/// The sections of a PID in a stream of `count` whole packets, if nothing but whole sections is found on it, at most 8, each of
-/// which comes again with the same bytes.
+/// Returns the sections of a PID in a stream of `count` whole packets, if nothing but whole sections is found on it, at most 8,
+/// each of which comes again with the same bytes.
 #[tactic(auto, unfolding(crate::specs::SteadySections::steady_sections))]
 pub fn steady_sections(
     alloc: Global,

@@ -134,7 +134,7 @@ fn push_table(
     Ok(())
 }
 
-/// The PIDs with sections of tables that no job is made of, in the order of their first such section.
+/// Returns the PIDs with sections of tables that no job is made of, in the order of their first such section.
 #[tactic(auto, unfolding(crate::specs::OtherTables::other_tables))]
 pub fn other_tables(alloc: Global, findings: &[Finding<'_>]) -> Result<Vec<OtherTable>, AllocError>
     ensures { IfOk result (λ found. found.items ≡ spec.other_tables (map finding_view findings.now)) }

@@ -73,7 +73,7 @@ fn event_section_in(bytes: &[u8]) -> Option<EventSection<'_>>
     }
 }
 
-/// The section that a finding has.
+/// Returns the section that a finding has.
 #[tactic(auto, unfolding(crate::specs::EventSections::event_section_found))]
 pub(crate) fn event_section_found<'f>(finding: &'f Finding<'_>) -> Option<EventSection<'f>>
     ensures { option_map spec.event_section_view result ≡ spec.event_section_found (finding_view finding.now) }

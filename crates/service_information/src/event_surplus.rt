@@ -127,7 +127,7 @@ fn has_whole_texts(alloc: Global, event: &FoundEvent<'_>) -> Result<bool, AllocE
     Ok(name && text)
 }
 
-/// Whether all texts of events are whole.
+/// Returns whether all texts of events are whole.
 #[tactic(auto, unfolding(crate::specs::EventSurplus::have_whole_texts))]
 pub(crate) fn have_whole_texts(alloc: Global, taken: &[FoundEvent<'_>]) -> Result<bool, AllocError>
     ensures { IfOk result (λ whole. whole ≡ spec.have_whole_texts taken.now) }

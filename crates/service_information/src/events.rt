@@ -101,7 +101,7 @@ fn timed_event<'f>(
     }
 }
 
-/// What an entry says of an event of a program, if a description can say it.
+/// Returns what an entry says of an event of a program, if a description can say it.
 #[tactic(auto, unfolding(crate::specs::Events::event_in))]
 pub(crate) fn event_in<'f>(program: u16, entry: EventEntry<'f>) -> Option<FoundEvent<'f>>
     ensures { result ≡ spec.event_in program (event_view entry.entry) }
@@ -191,7 +191,7 @@ fn take_entries<'f>(
     Ok(())
 }
 
-/// Whether a number is one of these.
+/// Returns whether a number is one of these.
 #[tactic(auto, unfolding(crate::specs::Events::is_among))]
 pub(crate) fn is_among(number: u16, numbers: &[u16]) -> bool
     ensures { result ≡ spec.is_among number numbers.now }
@@ -221,9 +221,9 @@ fn take_section<'f>(
     }
 }
 
-/// The events of programs, by their numbers: of those that sections in force on PID 0x12 say (table_id 0x4E) the first, as they come, that
-/// overlap none before them of the same program, 256 at most; in the order of their starts. Of an event there are a time from
-/// 1970 to 2037, a length, and a short event descriptor with a language of three letters.
+/// Returns the events of programs, by their numbers: from the sections in force on PID 0x12 (table_id 0x4E) the events, in their order, that
+/// overlap no earlier event of the same program, 256 at most; in the order of their starts. An event needs a time from 1970 to 2037,
+/// a length, and a short event descriptor with a language of three letters.
 #[tactic(auto, unfolding(crate::specs::Events::stream_events))]
 pub fn stream_events<'f>(
     alloc: Global,

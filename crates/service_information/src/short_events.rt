@@ -57,7 +57,7 @@ fn of_descriptor<'f>(descriptor: Descriptor<'f>) -> Option<ShortEvent<'f>>
     }
 }
 
-/// What the first short event descriptor of a loop says.
+/// Returns what the first short event descriptor of a loop says.
 #[tactic(auto, unfolding(crate::specs::ShortEvents::in_descriptors))]
 pub(crate) fn short_event(bytes: &[u8]) -> Option<ShortEvent<'_>>
     ensures { option_map spec.short_event_view result ≡ spec.in_descriptors (descriptors_in bytes.now) }
@@ -70,7 +70,7 @@ pub(crate) fn short_event(bytes: &[u8]) -> Option<ShortEvent<'_>>
     None
 }
 
-/// Whether a loop has a short event descriptor and nothing else.
+/// Returns whether a loop has a short event descriptor and nothing else.
 #[tactic(auto, unfolding(crate::specs::ShortEvents::is_alone))]
 pub(crate) fn is_alone(bytes: &[u8]) -> bool
     ensures { result ≡ spec.is_alone bytes.now }

@@ -6,7 +6,7 @@ ghost use Rattle.service_information.specs.FirstFindings as spec;
 
 use demux::What;
 
-/// Whether it is a section with this table_id.
+/// Returns whether it is a section with this table_id.
 #[tactic(auto, unfolding(crate::specs::FirstFindings::has_table_id))]
 pub(crate) fn has_table_id(id: u8, what: &What<'_>) -> bool
     ensures { result ≡ spec.has_table_id id (what_view what.now) }

@@ -1,4 +1,4 @@
-//! Warnings about service information that is not taken as it stands.
+//! Warnings about service information that is not taken unchanged.
 
 ghost use Rattle.std.specs.Prelude.{◌≡◌, ◌++◌, IfOk, OnOk, map, flat_map, option_to_list};
 ghost use Rattle.demux.specs.Shown.{finding_view, what_view};
@@ -133,8 +133,8 @@ fn push_event_texts(
     Ok(())
 }
 
-/// The warnings about service information: the first section that can't be read of each of its PIDs (0x10, 0x11, 0x12 and 0x14), the first
-/// time and date section that says no time, the first section with table_id 0x4E that says more of these programs than
+/// Returns the warnings about service information: the first section that can't be read of each of its PIDs (0x10, 0x11, 0x12 and 0x14),
+/// the first time and date section that says no time, the first section with table_id 0x4E that says more of these programs than
 /// `stream_events`, and whether a text of an event is cut or can't be read.
 #[tactic(auto, unfolding(crate::specs::Warnings::information_warnings))]
 pub fn information_warnings(

@@ -12,14 +12,14 @@ use clock27::SLOT_UNITS_AT_1BPS;
 use unit_timing::allowance::Allowance;
 use unit_timing::shares::PARTS;
 
-/// Whether the transport buffer is drained no slower than packets of that share come.
+/// Returns whether the transport buffer is drained no slower than packets of that share come.
 pub fn drains(needs: Needs, share: u64) -> bool
     ensures { result ≡ spec.drains needs share }
 {
     u128::from(share) * SLOT_UNITS_AT_1BPS <= u128::from(needs.rx) * u128::from(PARTS)
 }
 
-/// The most packets of `units` units in a row, in groups and a rest.
+/// Returns the most packets of `units` units in a row, in groups and a rest.
 fn grouped_packets(needs: Needs, group: u64, packets: u32, units: u64) -> u64
     requires ranges { IsNeeds needs }
     requires group { IsGroup group packets }
@@ -33,7 +33,7 @@ fn grouped_packets(needs: Needs, group: u64, packets: u32, units: u64) -> u64
     units / group * packets + rest
 }
 
-/// The most packets of units that wait at once: of so many, within a lead.
+/// Returns the most packets of units that wait at once: of so many, within a lead.
 fn packets_within(needs: Needs, allowance: Allowance, units: u64, lead: u32) -> u128
     requires ranges { IsNeeds needs }
     requires allowance { IsAllowance allowance }
@@ -53,7 +53,7 @@ fn packets_within(needs: Needs, allowance: Allowance, units: u64, lead: u32) -> 
     }
 }
 
-/// The most packets of that share that come within a lead.
+/// Returns the most packets of that share that come within a lead.
 fn packets_of_share(lead: u32, share: u64) -> u128
     requires lead { lead ≤ 90000 }
     ensures value { result ≡ spec.packets_of_share lead share }
@@ -62,7 +62,7 @@ fn packets_of_share(lead: u32, share: u64) -> u128
     u128::from(lead) * u128::from(share) / u128::from(PARTS) + 2
 }
 
-/// The most bytes that wait for their decoding at once.
+/// Returns the most bytes that wait for their decoding at once.
 fn waiting_bytes(needs: Needs, allowance: Allowance, lead: u32, share: u64) -> u128
     requires ranges { IsNeeds needs }
     requires allowance { IsAllowance allowance }
@@ -85,7 +85,7 @@ fn waiting_bytes(needs: Needs, allowance: Allowance, lead: u32, share: u64) -> u
     }
 }
 
-/// Whether the main buffer holds them.
+/// Returns whether the main buffer holds them.
 pub fn holds(needs: Needs, allowance: Allowance, lead: u32, share: u64) -> bool
     requires ranges { IsNeeds needs }
     requires allowance { IsAllowance allowance }

@@ -1,11 +1,11 @@
-//! What is chosen.
+//! The choice for a stream.
 
 ghost use Rattle.std.specs.Prelude.{◌≡◌, ◌<◌};
 ghost use Rattle.stream_choice.specs.Choices as spec;
 
 use unit_timing::allowance::Allowance;
 
-/// What is declared of the packets of units in a row, a lead, and the share of an output that they ask for.
+/// The declaration of the packets of units in a row, a lead, and the share of an output that they ask for.
 #[derive(Clone, Copy)]
 pub struct Choice {
     /// The most packets of units in a row.
@@ -16,7 +16,7 @@ pub struct Choice {
     pub share: u64,
 }
 
-/// The rank of a choice among others: the better, the lower.
+/// Returns the rank of a choice among others: the better, the lower.
 fn rank(choice: Choice) -> u128
     ensures { result ≡ spec.rank choice }
 {
@@ -24,7 +24,7 @@ fn rank(choice: Choice) -> u128
         + u128::from(choice.allowance.rows())
 }
 
-/// The first of two choices, where the second is not better.
+/// Returns the first of two choices, where the second is not better.
 pub fn better(one: Option<Choice>, other: Option<Choice>) -> Option<Choice>
     ensures { result ≡ spec.better one other }
 {
@@ -35,7 +35,7 @@ pub fn better(one: Option<Choice>, other: Option<Choice>) -> Option<Choice>
     }
 }
 
-/// Of a choice by groups and one by pace, that by groups where it asks for at most a 64th more.
+/// Returns the choice by groups if it asks for at most a 64th more than the choice by pace, otherwise the choice by pace.
 pub fn preferred(groups: Option<Choice>, pace: Option<Choice>) -> Option<Choice>
     ensures { result ≡ spec.preferred groups pace }
 {

@@ -9,7 +9,8 @@ use crate::needs::{Needs, packets_in_row};
 /// The number of leads that are tried of each group.
 pub const LEADS: u64 = 129;
 
-/// The lead with which `units` units in a row ask for no more than the share of their groups, in units of 90 kHz.
+/// Returns the lead with which `units` units in a row ask for no more than the share of their groups, in units of
+/// 90 kHz.
 fn row_lead(needs: Needs, group: u64, packets: u32, units: u64) -> u64
     requires ranges { IsNeeds needs }
     requires group { IsGroup group packets }
@@ -24,7 +25,7 @@ fn row_lead(needs: Needs, group: u64, packets: u32, units: u64) -> u64
         .saturating_sub((units - 1) * interval)
 }
 
-/// The least lead with which no units in a row ask for more than their groups do.
+/// Returns the least lead that lets no units in a row ask for more than their groups do.
 pub fn sufficient_lead(needs: Needs, group: u64, packets: u32, delay: u32) -> u64
     requires ranges { IsNeeds needs }
     requires group { IsGroup group packets }
@@ -38,7 +39,7 @@ pub fn sufficient_lead(needs: Needs, group: u64, packets: u32, delay: u32) -> u6
     greatest + u64::from(delay) + interval.div_ceil(u64::from(packets))
 }
 
-/// A lead by its number: the sufficient one, then distances of units, then even steps to the greatest.
+/// Returns a lead by its number: the sufficient one, then distances of units, then even steps to the greatest.
 pub fn numbered_lead(needs: Needs, sufficient: u64, max_lead: u32, number: u64) -> u64
     requires ranges { IsNeeds needs }
     requires lead { max_lead ≤ 90000 }

@@ -1,4 +1,4 @@
-//! What a stream declares beside what is counted of its units: the most packets of units in a row, by groups or by pace,
+//! What a stream declares beside the counts of its units: the most packets of units in a row, by groups or by pace,
 //! and the lead; and the least rate that its multiplex needs.
 //!
 //! A stream's share is the packets that it asks for in a unit of 90 kHz (`specs/Shares`): those of its groups, one
@@ -9,8 +9,9 @@
 //! least share is chosen that the stream's buffers hold (`specs/Choices`). A pace is found by halving the range of
 //! paces (`specs/Paces`); how many packets the units have over a pace is asked of them through `PacedUnits`. Of both
 //! choices that by groups is preferred where it asks for little more. The shares of all streams, PCRs and tables give
-//! the least rate of an output that has slots enough for them (`specs/Rates`). A law says what a share is for: own
-//! slots of that share, even enough, keep the conditions on packets in the long run and on units in a row
+//! the least rate of an output that has slots enough for them (`specs/Rates`). A choice is also asked whether the main
+//! buffer holds what waits if the access units of a unit leave it one by one (`specs/Frames`). A law says what a share
+//! is for: own slots of that share, even enough, keep the conditions on packets in the long run and on units in a row
 //! (`specs/ShareLaws`).
 //!
 //! Everything is in plain numbers, and nothing here takes memory.
@@ -18,6 +19,7 @@
 
 mod buffers;
 mod choice;
+mod frames;
 pub mod laws;
 mod leads;
 mod needs;
@@ -29,6 +31,7 @@ mod selection;
 mod shares;
 
 pub use choice::{Choice, preferred};
+pub use frames::keeps_framing;
 pub use needs::Needs;
 pub use pace_selection::{PacedUnits, choose_pace};
 pub use ranges::are_max_packets;

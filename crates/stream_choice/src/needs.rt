@@ -1,10 +1,10 @@
-//! What is known of a stream.
+//! The known numbers of a stream.
 
 ghost use Rattle.std.specs.Prelude.{◌≡◌, ◌≤◌};
 ghost use Rattle.stream_choice.specs.Ranges.{IsNeeds};
 ghost use Rattle.stream_choice.specs.Shares as spec;
 
-/// What is known of a stream's units and buffers.
+/// The known numbers of a stream's units and buffers.
 #[derive(Clone, Copy)]
 pub struct Needs {
     /// The least time from one DTS to the next, in units of 90 kHz: 1 to 90,000.
@@ -17,7 +17,7 @@ pub struct Needs {
     pub main: u32,
 }
 
-/// The packets of the greatest unit.
+/// Returns the packets of the greatest unit.
 pub fn packets_of_unit(needs: Needs) -> u64
     requires ranges { IsNeeds needs }
     ensures value { result ≡ spec.packets_of_unit needs }
@@ -26,7 +26,7 @@ pub fn packets_of_unit(needs: Needs) -> u64
     (19 + u64::from(needs.size) + 183) / 184
 }
 
-/// The most packets of `units` units in a row, at most those of a group.
+/// Returns the most packets of `units` units in a row, at most the packets of a group.
 pub fn packets_in_row(needs: Needs, packets: u32, units: u64) -> u64
     requires ranges { IsNeeds needs }
     requires units { units ≤ 64 }

@@ -18,7 +18,7 @@ fn is_within(low: u32, high: u32, n: u32) -> bool
 }
 
 impl Needs {
-    /// Whether its numbers are in their ranges.
+    /// Returns whether its numbers are in their ranges.
     #[tactic(auto, unfolding(crate::specs::Ranges::is_within, crate::specs::Ranges::is_needs))]
     pub fn is_in_range(self) -> bool
         ensures ranges { IsTrue result ↔ spec.IsNeeds self }
@@ -43,7 +43,7 @@ fn are_packets(max_packets: &[u32]) -> bool
         .all(|packets| is_within(1, MAX_PACKETS, *packets))
 }
 
-/// Whether there are 1 to 64 numbers of packets, each 1 to 2^21.
+/// Returns whether there are 1 to 64 numbers of packets, each 1 to 2^21.
 #[tactic(auto, unfolding(crate::specs::Ranges::is_within, crate::specs::Ranges::are_max_packets))]
 pub fn are_max_packets(max_packets: &[u32]) -> bool
     ensures ranges { IsTrue result ↔ spec.AreMaxPackets max_packets.now }

@@ -24,7 +24,7 @@ impl Load for Items<'_> {
     }
 }
 
-/// The slots of a stream of that share, in parts of all slots.
+/// Returns the slots of a stream of that share, in parts of all slots.
 fn stream_part(rate: u64, share: u64) -> u128
     requires positive { 1 ≤ rate }
     ensures { result ≡ spec.stream_part rate share }
@@ -56,7 +56,7 @@ fn streams_parts(rate: u64, shares: &[u64]) -> u128
     total
 }
 
-/// The same of all that recurs.
+/// Returns the same of all that recurs.
 fn recurring_parts(rate: u64, recurring: &[Recurring]) -> u128
     ensures { result ≡ min (sum_by (spec.recurring_part rate) recurring.now) (2 ^ 128 - 1) }
 {
@@ -67,8 +67,8 @@ fn recurring_parts(rate: u64, recurring: &[Recurring]) -> u128
     total
 }
 
-/// The least rate in bits/s, of 100,000 to 100,000,000, at which the shares of all items sum to at most the whole
-/// output: of streams, in packets a unit of 90 kHz in parts of 2^40, and of what recurs. None where there is none.
+/// Returns the least rate in bits/s, from 100,000 to 100,000,000, that makes the shares of all items sum to at most the whole
+/// output: streams, in packets a unit of 90 kHz in parts of 2^40, and recurring items. `None` if no such rate serves.
 pub fn least_rate(shares: &[u64], recurring: &[Recurring]) -> Option<u64>
     ensures least { IfSome result (spec.IsLeastRate shares.now recurring.now) }
     ensures refused { IsNone result → spec.IsTooMuch shares.now recurring.now }

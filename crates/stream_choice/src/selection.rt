@@ -12,7 +12,7 @@ use crate::needs::Needs;
 use crate::shares::lead_share;
 use unit_timing::allowance::Allowance;
 
-/// The choice of a group and a lead; None where the lead is too short or a buffer does not hold what comes.
+/// Returns the choice of a group and a lead; None where the lead is too short or a buffer does not hold what comes.
 fn choice_of(needs: Needs, group: u8, packets: u32, delay: u32, lead: u32) -> Option<Choice>
     requires ranges { IsNeeds needs }
     requires group { IsGroup group packets }
@@ -35,7 +35,7 @@ fn choice_of(needs: Needs, group: u8, packets: u32, delay: u32, lead: u32) -> Op
     }
 }
 
-/// The choice of a lead by its number, where it is not above the sufficient one or the greatest.
+/// Returns the choice of a lead by its number, where it is not above the sufficient one or the greatest.
 fn numbered_choice(
     needs: Needs,
     delay: u32,
@@ -60,7 +60,7 @@ fn numbered_choice(
     }
 }
 
-/// The best of one group.
+/// Returns the best of one group.
 fn group_choice(needs: Needs, delay: u32, max_lead: u32, group: u8, packets: u32) -> Option<Choice>
     requires ranges { IsNeeds needs }
     requires group { IsGroup group packets }
@@ -78,8 +78,8 @@ fn group_choice(needs: Needs, delay: u32, max_lead: u32, group: u8, packets: u32
     best
 }
 
-/// The group and the lead, at most `max_lead`, with which a stream asks for the least share, of those that its buffers
-/// hold; None where none does. `max_packets[g - 1]` are the most packets of `g` units in a row, and `delay` is the
+/// Returns the group and the lead, at most `max_lead`, that ask for the least share among the pairs that the stream's
+/// buffers hold; `None` if they hold none. `max_packets[g - 1]` are the most packets of `g` units in a row, and `delay` is the
 /// longest time from a packet's slot to its end in the transport buffer; times are in units of 90 kHz.
 ///
 /// Up to 129 leads of up to 64 groups are tried, with as many divisions each as the group has units, twice.

@@ -13,7 +13,7 @@ use unit_timing::shares::PARTS;
 /// The most bytes of a multiplexing buffer that are reckoned with after a packet: those of four.
 const STRAYED_BYTES: u64 = 4 * 188;
 
-/// The share of `packets` packets in a time, in units of 90 kHz.
+/// Returns the share of `packets` packets in a time, in units of 90 kHz.
 fn share_in(time: u64, packets: u64) -> u64
     requires positive { 1 ≤ time }
     requires packets { packets ≤ 2 ^ 21 }
@@ -23,7 +23,7 @@ fn share_in(time: u64, packets: u64) -> u64
     (PARTS * packets).div_ceil(time)
 }
 
-/// The share of groups of units that come one after another.
+/// Returns the share of groups of units that come one after another.
 fn group_share(needs: Needs, group: u64, packets: u32) -> u64
     requires ranges { IsNeeds needs }
     requires group { IsGroup group packets }
@@ -49,7 +49,7 @@ fn row_share(needs: Needs, packets: u32, free: u64, units: u64) -> u64
     share_in(time, packets_in_row(needs, packets, units))
 }
 
-/// The share that groups and units in a row ask for, with that time free for each unit.
+/// Returns the share that groups and units in a row ask for, with that time free for each unit.
 fn share_for_time(needs: Needs, group: u64, packets: u32, free: u64) -> u64
     requires ranges { IsNeeds needs }
     requires group { IsGroup group packets }
@@ -66,7 +66,7 @@ fn share_for_time(needs: Needs, group: u64, packets: u32, free: u64) -> u64
     group_share(needs, group, packets).max(greatest)
 }
 
-/// The distance of two packets of that share, in units of 90 kHz.
+/// Returns the distance of two packets of that share, in units of 90 kHz.
 fn packet_distance(share: u64) -> u64
     requires positive { 1 ≤ share }
     ensures value { result ≡ spec.packet_distance share }
@@ -75,8 +75,8 @@ fn packet_distance(share: u64) -> u64
     PARTS.div_ceil(share)
 }
 
-/// The time, in units of 90 kHz, that the last packet of a unit may take beyond what its packets ask for: the transport
-/// delay, and one distance of packets of the share.
+/// Returns the time, in units of 90 kHz, that the last packet of a unit may take beyond what its packets ask for: the
+/// transport delay, and one distance of packets of the share.
 pub fn lateness(delay: u32, share: u64) -> u64
     requires positive { 1 ≤ share }
     ensures value { result ≡ spec.lateness delay share }
@@ -85,7 +85,7 @@ pub fn lateness(delay: u32, share: u64) -> u64
     u64::from(delay) + packet_distance(share)
 }
 
-/// The share of packets that come at a pace, in bits/s of whole packets.
+/// Returns the share of packets that come at a pace, in bits/s of whole packets.
 pub fn pace_share(pace: u32) -> u64
     requires some { 1 ≤ pace }
     requires most { pace ≤ 100000000 }
@@ -96,7 +96,7 @@ pub fn pace_share(pace: u32) -> u64
     (u128::from(PARTS) * u128::from(pace)).div_ceil(SLOT_UNITS_AT_1BPS) as u64
 }
 
-/// The share with a lead; None where the lead is too short.
+/// Returns the share with a lead; None where the lead is too short.
 pub fn lead_share(needs: Needs, group: u64, packets: u32, delay: u32, lead: u32) -> Option<u64>
     requires ranges { IsNeeds needs }
     requires group { IsGroup group packets }
@@ -116,7 +116,7 @@ pub fn lead_share(needs: Needs, group: u64, packets: u32, delay: u32, lead: u32)
     Some(share_for_time(needs, group, packets, lead - late))
 }
 
-/// The least share that any group of a stream asks for, whatever its lead: in packets a unit of 90 kHz, in parts of
+/// Returns the least share that any group of a stream asks for, whatever its lead: in packets a unit of 90 kHz, in parts of
 /// 2^40 of a packet, rounded up. `max_packets[g - 1]` are the most packets of `g` units in a row.
 pub fn least_share(needs: Needs, max_packets: &[u32]) -> u64
     requires ranges { IsNeeds needs }
@@ -145,7 +145,7 @@ fn buffer_delay(bytes: u64, drain: u32, share: u64) -> u32
     (buffer.div_ceil(u64::from(drain)) + (3 * PARTS).div_ceil(share)) as u32
 }
 
-/// The bytes that wait at most after a packet, before the buffer of units.
+/// Returns the bytes that wait at most after a packet, before the buffer of units.
 #[tactic(auto, unfolding(crate::specs::Shares::held_bytes))]
 fn held_bytes(buffer: Option<MultiplexingBuffer>) -> u64
     ensures value { result ≡ spec.held_bytes buffer }
@@ -158,7 +158,7 @@ fn held_bytes(buffer: Option<MultiplexingBuffer>) -> u64
     }
 }
 
-/// Returns what is known of a stream with the leak of its multiplexing buffer, if it has one, for the rate out of its
+/// Returns the numbers of a stream with the leak of its multiplexing buffer, if it has one, for the rate out of its
 /// transport buffer: the last drain before the buffer of units.
 #[tactic(auto, unfolding(crate::specs::Shares::leaking_needs))]
 pub fn leaking_needs(buffer: Option<MultiplexingBuffer>, needs: Needs) -> Needs
@@ -175,9 +175,9 @@ pub fn leaking_needs(buffer: Option<MultiplexingBuffer>, needs: Needs) -> Needs
     }
 }
 
-/// Returns the longest time from a packet's slot to its end in the last buffer before that of units, in units of 90 kHz:
-/// until all bytes that wait in it are drained at `rx` bits/s, and three slots of an output of that share. The share is
-/// the sum of the least ones of its streams, so the delay does not depend on what they choose.
+/// Returns the longest time from a packet's slot to its end in the last buffer before the units' buffer, in units of 90
+/// kHz: until all bytes that wait in it are drained at `rx` bits/s, and three slots of an output of that share. The share is
+/// the sum of the least shares of its streams, so the delay does not depend on their choices.
 pub fn delay_before(buffer: Option<MultiplexingBuffer>, needs: Needs, share: u64) -> u32
     requires rx { 1 ≤ needs.rx }
     requires share { 2 ^ 17 ≤ share }

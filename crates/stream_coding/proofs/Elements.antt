@@ -1,6 +1,6 @@
 -- Elements of the syntax step by step.
 use Rattle.std.proofs.Common.{◌≡◌, ◌∙◌, sym, ℕ, zero, suc, ◌+◌, ◌-◌, ◌*◌, ◌%◌, ◌^◌, ◌<◌, ◌≤◌, nat_lt, Bool, true, false, inl, inr, refl, lit<, arith, List, [], ◌∷◌, None, Some}
-use Rattle.std.specs.Prelude.{find, if◌then◌else◌}
+use Rattle.std.specs.Prelude.{find}
 use Rattle.std.specs.List.{range_with_len}
 use Rattle.std.proofs.lemmas.Bool.{cases_Bool, ltb-true}
 use Rattle.std.proofs.Math.Nat.{pow-le-pow_right}

@@ -2,3 +2,4 @@ pub mod StructureSearch
 pub mod RbspBytes
 pub mod Elements
 pub mod ScalingLists
+mod FrameWalks

@@ -1,5 +1,5 @@
 -- Scaling lists step by step.
-use Rattle.std.proofs.Common.{◌≡◌, ℕ, zero, suc, ◌+◌, ◌-◌, ◌<◌, ◌≤◌, rules, false, ◌==◌, refl, ap, ◌∙◌, arith, List, None, Some}
+use Rattle.std.proofs.Common.{◌≡◌, ℕ, zero, suc, ◌+◌, ◌-◌, ◌<◌, rules, false, ◌==◌, refl, arith, List, None, Some}
 use Rattle.stream_coding.specs.Rbsp.{ue}
 use Rattle.stream_coding.specs.Avc.{next_scale, scaling_list, scaling_list_at, scaling_matrix}
 

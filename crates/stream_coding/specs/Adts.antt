@@ -1,5 +1,5 @@
 -- How many channels an ADTS header has (ISO/IEC 13818-7); its bytes from protection_absent on.
-use Rattle.std.specs.Prelude.{ℕ, ◌+◌, ◌*◌, ◌/◌, ◌%◌, ◌==◌, if◌then◌else◌, List, [], ◌∷◌, drop}
+use Rattle.std.specs.Prelude.{ℕ, ◌+◌, ◌*◌, ◌/◌, ◌%◌, ◌==◌, if◌then◌else◌, List, ◌∷◌, drop}
 
 -- the channels of a channel_configuration (table 42)
 unfoldable pub channel_count : ℕ → ℕ

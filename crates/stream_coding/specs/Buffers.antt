@@ -1,12 +1,10 @@
 -- The buffers that a decoder has for a stream (ISO/IEC 13818-1, 2.4.2.3): the rate out of its transport buffer in bits a second, and
 -- its main buffer in bytes, which of video is the elementary stream buffer, behind a multiplexing buffer.
-use Rattle.std.specs.Prelude.{ℕ, ◌+◌, ◌/◌, ◌==◌, nat_le, nat_lt, min, if◌then◌else◌, List, find, Option, Some, None, option_map}
+use Rattle.std.specs.Prelude.{ℕ, ◌+◌, ◌/◌, ◌==◌, nat_le, nat_lt, min, if◌then◌else◌, List, find, Option, option_map}
 use Rattle.std.specs.Option.{option_map_or}
 use Rattle.unit_timing.specs.declared.multiplexing_buffer.MultiplexingBuffer.{MultiplexingBuffer}
 use Rattle.stream_coding.specs.declared.coding.Coding.{Coding}
 use Rattle.stream_coding.specs.declared.coding.Coding.TheVariants.{Mpeg, Avc, Hevc, Audio, Aac, Ac3, Subtitles, Teletext, Other}
-use Rattle.stream_coding.specs.declared.coding.AvcSequence.{AvcSequence}
-use Rattle.stream_coding.specs.declared.coding.MpegSequence.{MpegSequence}
 use Rattle.stream_coding.specs.declared.buffers.Buffers.{Buffers}
 use Rattle.stream_coding.specs.declared.buffers.PidBuffers.{PidBuffers}
 use Rattle.stream_coding.specs.declared.video_buffers.VideoBuffers.{VideoBuffers}

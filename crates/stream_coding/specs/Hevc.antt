@@ -1,5 +1,5 @@
 -- What a sequence parameter set of ISO/IEC 23008-2 says; its bytes after the header of the NAL unit.
-use Rattle.std.specs.Prelude.{ℕ, ◌/◌, ◌%◌, ◌==◌, Bool, List, unwrap_or}
+use Rattle.std.specs.Prelude.{ℕ, ◌/◌, ◌%◌, ◌==◌, List, unwrap_or}
 use Rattle.std.specs.List.{slice_get}
 use Rattle.stream_coding.specs.Structures.{bytes_of}
 use Rattle.stream_coding.specs.declared.structures.Structure.TheVariants.{HevcParameters}

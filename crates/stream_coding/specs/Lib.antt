@@ -7,3 +7,5 @@ pub mod Adts
 pub mod Codings
 pub mod Video
 pub mod Buffers
+pub mod FrameHeaders
+pub mod Frames

@@ -1,5 +1,5 @@
 -- What the sequence header and the sequence extension of ISO/IEC 13818-2 say; each without its start code.
-use Rattle.std.specs.Prelude.{ℕ, ◌+◌, ◌*◌, ◌/◌, ◌%◌, ◌^◌, ◌==◌, if◌then◌else◌, List, [], ◌∷◌}
+use Rattle.std.specs.Prelude.{ℕ, ◌+◌, ◌*◌, ◌/◌, ◌%◌, ◌^◌, ◌==◌, if◌then◌else◌, List, ◌∷◌}
 use Rattle.stream_coding.specs.Structures.{bytes_of}
 use Rattle.stream_coding.specs.declared.structures.Structure.TheVariants.{SequenceHeader, SequenceExtension}
 use Rattle.stream_coding.specs.declared.coding.MpegSequence.{MpegSequence}

@@ -41,9 +41,9 @@ fn is_registered(descriptors: &[u8]) -> bool
     false
 }
 
-/// Whether a stream is AC-3 or Enhanced AC-3, by its stream_type and its bytes of descriptors: stream_type 0x81 or 0x87
-/// (ATSC A/53), an AC-3 or enhanced_AC-3 descriptor (EN 300 468, annex D), or private data (stream_type 6) with a
-/// registration descriptor (ISO/IEC 13818-1, 2.6.8) of "AC-3" or "EAC3".
+/// Returns whether a stream is AC-3 or Enhanced AC-3, by its stream_type and its bytes of descriptors: stream_type 0x81
+/// or 0x87 (ATSC A/53), an AC-3 or enhanced_AC-3 descriptor (EN 300 468, annex D), or private data (stream_type 6) with
+/// a registration descriptor (ISO/IEC 13818-1, 2.6.8) of "AC-3" or "EAC3".
 #[tactic(auto, unfolding(crate::specs::Codings::is_ac3))]
 pub fn is_ac3(stream_type: u8, descriptors: &[u8]) -> bool
     ensures { result ≡ spec.is_ac3 stream_type descriptors.now }

@@ -269,7 +269,7 @@ fn cpb_size(bytes: &[u8]) -> Option<u64>
     hrd_cpb_size(bytes, next)
 }
 
-/// What the first sequence parameter set of a unit says.
+/// Returns what the first sequence parameter set of a unit says.
 #[tactic(auto, unfolding(crate::specs::Avc::avc_sequence))]
 pub(crate) fn avc_sequence(unit: &[u8]) -> AvcSequence
     ensures { result ≡ spec.avc_sequence unit.now }

@@ -6,7 +6,7 @@ ghost use Rattle.stream_coding.specs.Avc as spec;
 use crate::rbsp::Element::{U, Ue};
 use crate::rbsp::{after, after_flagged, after_times, u, ue};
 
-/// The place after a flag, where it is 1.
+/// Returns the place after a flag, where it is 1.
 #[tactic(auto, unfolding(crate::specs::Avc::where_set))]
 pub(crate) fn where_set(bytes: &[u8], at: usize) -> Option<usize>
     requires { at ≤ 1048576 }
@@ -60,7 +60,7 @@ fn video_signal(bytes: &[u8], at: usize) -> Option<usize>
     }
 }
 
-/// The place of the HRD parameters of NAL units.
+/// Returns the place of the HRD parameters of NAL units.
 #[tactic(auto, unfolding(crate::specs::Avc::hrd_place))]
 pub(crate) fn hrd_place(bytes: &[u8], at: usize) -> Option<usize>
     requires { at ≤ 1048576 }

@@ -79,7 +79,7 @@ fn multiplexing(video: VideoBuffers) -> MultiplexingBuffer
     }
 }
 
-/// The buffers of a stream of this coding, cut to what a description can declare.
+/// Returns the buffers of a stream of this coding, cut to what a description can declare.
 #[tactic(auto, unfolding(crate::specs::Buffers::buffers_of))]
 pub fn buffers_of(coding: Coding) -> Buffers
     ensures { result ≡ spec.buffers_of coding }
@@ -143,7 +143,7 @@ fn without_size(coding: Coding) -> Coding
 }
 
 /// Returns the coding of a stream with a unit of this size: if the elementary stream buffer that the stream says does not
-/// hold the unit, the stream does not keep to it, and that of its level counts.
+/// hold the unit, the stream does not keep to it, and its level's buffer counts.
 #[tactic(auto, unfolding(crate::specs::Buffers::coding_holding))]
 pub fn coding_holding(size: usize, coding: Coding) -> Coding
     ensures { result ≡ spec.coding_holding size coding }
@@ -155,7 +155,7 @@ pub fn coding_holding(size: usize, coding: Coding) -> Coding
     }
 }
 
-/// The buffers that are given for a PID: the first of them; none where there are none.
+/// Returns the first buffers that are given for a PID; `None` if there are no buffers for it.
 #[tactic(auto, unfolding(crate::specs::Buffers::given_buffers))]
 pub fn given_buffers(given: &[PidBuffers], pid: u16) -> Option<Buffers>
     ensures { result ≡ spec.given_buffers given.now pid }

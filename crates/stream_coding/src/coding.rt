@@ -85,9 +85,9 @@ fn coding_by_descriptors(stream_type: u8, descriptors: &[u8]) -> Coding
     }
 }
 
-/// How a stream is coded that a program map names with this stream_type (ISO/IEC 13818-1, table 2-34) and these bytes
-/// of descriptors; `unit` is its first access unit, in which the level, the video buffer or the number of channels is
-/// looked for. A stream_type that names a coding goes before descriptors.
+/// Returns how a stream is coded that a program map names with this stream_type (ISO/IEC 13818-1, table 2-34) and
+/// these bytes of descriptors; `unit` is its first access unit, which is searched for the level, the video buffer or
+/// the number of channels. A stream_type that names a coding goes before descriptors.
 #[tactic(auto, unfolding(crate::specs::Codings::coding_of))]
 pub fn coding_of(stream_type: u8, descriptors: &[u8], unit: &[u8]) -> Coding
     ensures { result ≡ spec.coding_of stream_type descriptors.now unit.now }

@@ -14,7 +14,7 @@ fn byte_or_zero(bytes: &[u8], number: usize) -> u8
     rbsp_byte(number, bytes).unwrap_or(0)
 }
 
-/// What the first sequence parameter set of a unit says.
+/// Returns what the first sequence parameter set of a unit says.
 #[tactic(auto, unfolding(crate::specs::Hevc::hevc_sequence))]
 pub(crate) fn hevc_sequence(unit: &[u8]) -> HevcSequence
     ensures { result ≡ spec.hevc_sequence unit.now }

@@ -1,17 +1,23 @@
 //! How an elementary stream is coded, and the buffers that a decoder has for it.
 //!
-//! The coding is that of its entry in the program map (`specs/Codings`), with what its first access unit says in the
+//! The coding is the coding of its entry in the program map (`specs/Codings`), with what its first access unit says in the
 //! structures of `specs/Structures`: its level, video buffer or number of channels (`specs/Sequences`, `Avc`, `Hevc`,
-//! `Adts`); the buffers are those of the standards (`specs/Video`, `Buffers`).
+//! `Adts`); the buffers are those of the standards (`specs/Video`, `Buffers`). The frames of units of sound are counted by
+//! their headers (`specs/FrameHeaders`, `Frames`).
 #![tactic(auto)]
 
 mod ac3;
+mod ac3_frames;
 mod adts;
 mod avc;
 mod avc_vui;
 mod buffers;
 mod coding;
+mod frame;
+mod frame_headers;
+mod frames;
 mod hevc;
+mod layers;
 mod rbsp;
 mod sequences;
 mod structures;
@@ -23,3 +29,5 @@ pub use buffers::{
     multiplexing_of,
 };
 pub use coding::{AvcSequence, Coding, HevcSequence, MpegSequence, coding_of};
+pub use frame_headers::{FrameKind, frame_kind};
+pub use frames::{UnitFrames, unit_frames};

@@ -14,7 +14,7 @@ pub(crate) enum Element {
     Ue,
 }
 
-/// The byte of this number in a NAL unit without its emulation prevention bytes.
+/// Returns the byte of this number in a NAL unit without its emulation prevention bytes.
 #[tactic(auto, using(crate::proofs::RbspBytes::byte_here, crate::proofs::RbspBytes::byte_later, crate::proofs::RbspBytes::byte_second, crate::proofs::RbspBytes::byte_after, crate::proofs::RbspBytes::byte_nowhere))]
 pub(crate) fn rbsp_byte(number: usize, bytes: &[u8]) -> Option<u8>
     ensures { result ≡ slice_get (spec.rbsp_bytes bytes.now) number }
@@ -55,7 +55,7 @@ fn bit_at(bytes: &[u8], at: usize) -> Option<u8>
     }
 }
 
-/// The number of n bits from a place on, and the place after it.
+/// Returns the number of n bits from a place on, and the place after it.
 #[tactic(auto, using(crate::proofs::Elements::number_done, crate::proofs::Elements::number_step, crate::proofs::Elements::number_ends))]
 pub(crate) fn u(n: u8, bytes: &[u8], at: usize) -> Option<(u32, usize)>
     requires { at ≤ 1048576 }
@@ -106,7 +106,7 @@ fn ue_after(zeros: u8, bytes: &[u8], at: usize) -> Option<(u64, usize)>
     Some(((1u64 << zeros) - 1 + u64::from(suffix), next))
 }
 
-/// The number in Exp-Golomb code from a place on, and the place after it.
+/// Returns the number in Exp-Golomb code from a place on, and the place after it.
 #[tactic(auto, unfolding(crate::specs::Rbsp::ue), using(crate::proofs::Elements::one_place))]
 pub(crate) fn ue(bytes: &[u8], at: usize) -> Option<(u64, usize)>
     requires { at ≤ 1048576 }
@@ -137,7 +137,7 @@ fn after_element(element: Element, bytes: &[u8], at: usize) -> Option<usize>
     }
 }
 
-/// The place after several elements.
+/// Returns the place after several elements.
 #[tactic(auto, unfolding(crate::specs::Rbsp::after))]
 pub(crate) fn after(elements: &[Element], bytes: &[u8], at: usize) -> Option<usize>
     requires { at ≤ 1048576 }
@@ -153,7 +153,7 @@ pub(crate) fn after(elements: &[Element], bytes: &[u8], at: usize) -> Option<usi
     Some(place)
 }
 
-/// The place after several elements that come so many times.
+/// Returns the place after several elements that come so many times.
 #[tactic(auto, using(crate::proofs::Elements::times_done, crate::proofs::Elements::times_step, crate::proofs::Elements::times_end))]
 pub(crate) fn after_times(
     times: u64,
@@ -174,7 +174,7 @@ pub(crate) fn after_times(
     Some(place)
 }
 
-/// The place after a flag, and the elements that come where it is 1.
+/// Returns the place after a flag, and the elements that come where it is 1.
 #[tactic(auto, unfolding(crate::specs::Rbsp::after_flagged))]
 pub(crate) fn after_flagged(elements: &[Element], bytes: &[u8], at: usize) -> Option<usize>
     requires { at ≤ 1048576 }

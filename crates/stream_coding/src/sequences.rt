@@ -78,7 +78,7 @@ fn sequence_of(header: &[u8], extension: &[u8]) -> MpegSequence
     }
 }
 
-/// What the first sequence header and the first sequence extension of a unit say.
+/// Returns what the first sequence header and the first sequence extension of a unit say.
 #[tactic(auto, unfolding(crate::specs::Sequences::mpeg_sequence))]
 pub(crate) fn mpeg_sequence(unit: &[u8]) -> MpegSequence
     ensures { result ≡ spec.mpeg_sequence unit.now }

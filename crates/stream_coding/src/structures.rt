@@ -137,7 +137,7 @@ fn found_in(structure: Structure, unit: &[u8]) -> Option<&[u8]>
     None
 }
 
-/// The bytes of the first structure of this kind in a unit, without its beginning; none where there is none.
+/// Returns the bytes of the first structure of this kind in a unit, without its beginning; none where there is none.
 pub(crate) fn bytes_of(structure: Structure, unit: &[u8]) -> &[u8]
     ensures { result.now ≡ spec.bytes_of structure unit.now }
 {

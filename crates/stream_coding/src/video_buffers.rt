@@ -232,7 +232,7 @@ pub(crate) fn hevc_buffers(sequence: HevcSequence) -> VideoBuffers
     level_buffers(1_100 * rate, 1_100 * size, 0)
 }
 
-/// The buffers of a stream of this coding, if it is of video.
+/// Returns the buffers of a stream of this coding, if it is of video.
 #[tactic(auto, unfolding(crate::specs::Video::video_buffers))]
 pub(crate) fn video_buffers(coding: Coding) -> Option<VideoBuffers>
     ensures { result ≡ spec.video_buffers coding }

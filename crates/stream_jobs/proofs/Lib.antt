@@ -9,6 +9,7 @@ mod NewPlaces
 pub mod NewNumbersApart
 mod NewNumbersBecome
 mod Each
+mod FrameSums
 mod CarriedStreams
 mod StreamMoments
 mod TakenStreams

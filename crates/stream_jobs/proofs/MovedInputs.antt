@@ -1,5 +1,5 @@
 -- The streams on the wire of which those of a job are made.
-use Rattle.std.proofs.Common.{◌≡◌, ◌∙◌, ◌==◌, ℕ, List, length, Some, None, Ok, All, sym, ap, ap₂, subst, if◌then◌else◌}
+use Rattle.std.proofs.Common.{◌≡◌, ◌∙◌, ◌==◌, ◌++◌, ℕ, List, length, Some, None, Ok, All, sym, ap, ap₂, subst, if◌then◌else◌}
 use Rattle.std.specs.Prelude.{ok_or}
 use Rattle.demux.specs.Views.{FindingView}
 use Rattle.stream_programs.specs.Association.{association}
@@ -11,6 +11,7 @@ use Rattle.stream_jobs.specs.Answers.{and_then, unless}
 use Rattle.stream_jobs.specs.ClockBases.{base0_of}
 use Rattle.stream_jobs.specs.declared.declarations.StreamChoice.{StreamChoice}
 use Rattle.stream_jobs.specs.Declarations.{UnitCountsView, too_many, too_long, all_unit_counts, choices}
+use Rattle.stream_jobs.specs.BufferWarnings.{buffer_warnings}
 use Rattle.stream_jobs.specs.JobInput.{JobInputView, job_input, with_association, with_programs, with_pids, with_streams, with_moved, with_unit_counts, job_warnings, named_of, nothing_carried, tables_of}
 use Rattle.stream_jobs.specs.Information.{JobInformationView, information_of}
 use Rattle.stream_jobs.specs.JobOptions.{JobOptionsView}
@@ -44,7 +45,7 @@ made options information base programs tables warnings streams input is =
       unit_counts = all;
       choices = chosen;
       tables = tables;
-      warnings = warnings;
+      warnings = warnings ++ buffer_warnings options.buffers streams all chosen;
     } in i) in
     let counted = granted (too_long streams) (with_unit_counts options finish streams) input
     (granted (too_many (length programs) (length streams)) (unless (too_long streams) (with_unit_counts options finish streams)) input is) in

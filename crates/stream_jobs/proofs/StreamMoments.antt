@@ -7,8 +7,8 @@ use Rattle.stream_units.specs.MadeDts.{made_units}
 use Rattle.stream_units.specs.Stamps.{first_fault, moved}
 use Rattle.stream_units.specs.UnitMoments.{moment_of, units_at}
 use Rattle.stream_units.specs.declared.unit_moments.UnitMoment.{UnitMoment}
-use Rattle.stream_units.proofs.MadeDts.{made_bytes}
-use Rattle.stream_units.proofs.UnitMoments.{at_own}
+use Rattle.stream_units.proofs.MadeDts.{made_contents}
+use Rattle.stream_units.proofs.UnitMoments.{at_own, contents}
 use Rattle.stream_jobs.specs.declared.moved_streams.FirstDts.{FirstDts}
 use Rattle.stream_jobs.specs.declared.refusal.JobRefusal.{JobRefusal}
 use Rattle.stream_jobs.specs.Answers.{unless}
@@ -21,14 +21,10 @@ use Rattle.stream_jobs.specs.Jobs.{AreStreams, FitsQueue, IsCarried, IsMoved}
 use Rattle.stream_jobs.specs.JobStreams.{TimedStreamView, WireStreamView}
 use Rattle.stream_jobs.specs.Moments.{base_of, moved_by, moved_stream, wire_of, with_moments}
 
--- the bytes of the units of a PID
-abbrev bytes_of : List CarriedUnit → List (List ℕ)
-bytes_of us = map (λ u. u.unit.bytes) us
-
-source_bytes : (made : Bool) (pid : ℕ) (findings : List FindingView) → bytes_of (source_of made pid findings) ≡ bytes_of (carried_units pid findings)
+source_contents : (made : Bool) (pid : ℕ) (findings : List FindingView) → contents (source_of made pid findings) ≡ contents (carried_units pid findings)
 unfolding source_of
-source_bytes false pid findings = refl
-source_bytes true pid findings = made_bytes (carried_units pid findings)
+source_contents false pid findings = refl
+source_contents true pid findings = made_contents (carried_units pid findings)
 
 -- with these at the moments of its units it is as if they were moved
 pub at_source : (made : Bool) (pid base : ℕ) (findings : List FindingView) (us : List CarriedUnit) (ms : List UnitMoment) → us ≡ source_of made pid findings →
@@ -36,7 +32,7 @@ pub at_source : (made : Bool) (pid base : ℕ) (findings : List FindingView) (us
     units_at ms (carried_units pid findings) ≡ moved base None (map (λ (u : CarriedUnit). u.unit) us)
 at_source made pid base findings us ms are is =
     ap (λ (l : List UnitMoment). units_at l (carried_units pid findings)) is
-    ∙ at_own base None us (carried_units pid findings) (ap bytes_of are ∙ source_bytes made pid findings)
+    ∙ at_own base None us (carried_units pid findings) (ap contents are ∙ source_contents made pid findings)
 
 -- a stream of whose units these are the moments
 abbrev pub head_of : WireStreamView → List UnitMoment → StreamMomentsView

@@ -1,13 +1,15 @@
 -- What a description declares of the streams of a job.
-use Rattle.std.specs.Prelude.{ℕ, ◌+◌, ◌-◌, ◌*◌, ◌/◌, ◌^◌, ◌==◌, ◌&&◌, min, max, nat_lt, Bool, if◌then◌else◌, List, [], ◌∷◌, length, map, find, zip, sum_by, unwrap_or, ok_or, Option, Some, None, is_some, option_map, Result, Ok}
+use Rattle.std.specs.Prelude.{ℕ, ◌+◌, ◌-◌, ◌*◌, ◌/◌, ◌^◌, ◌==◌, ◌&&◌, min, max, nat_le, nat_lt, Bool, if◌then◌else◌, List, [], ◌∷◌, length, map, find, zip, sum_by, unwrap_or, ok_or, Option, Some, None, is_some, option_map, option_and_then, Result, Ok}
 use Rattle.std.specs.List.{range_with_len}
 use Rattle.clock27.specs.Units.{slot_units_at_1bps}
 use Rattle.clock27.specs.declared.rate.TheConstants.{LEAST_RATE}
 use Rattle.pes_packet.specs.AccessUnits.{AccessUnit}
 use Rattle.pes_packet.specs.StreamIds.{greatest_size}
 use Rattle.unit_timing.specs.Shares.{parts}
+use Rattle.unit_timing.specs.declared.framing.Framing.{Framing}
 use Rattle.unit_timing.specs.declared.multiplexing_buffer.MultiplexingBuffer.{MultiplexingBuffer}
 use Rattle.stream_choice.specs.Choices.{groups_choice, preferred}
+use Rattle.stream_choice.specs.Frames.{keeps_framing}
 use Rattle.stream_choice.specs.Paces.{pace_choice}
 use Rattle.stream_choice.specs.Ranges.{is_needs, are_max_packets}
 use Rattle.stream_choice.specs.Shares.{delay_before, leaking_needs, least_share}
@@ -15,6 +17,9 @@ use Rattle.stream_choice.specs.declared.choice.Choice.{Choice}
 use Rattle.stream_choice.specs.declared.needs.Needs.{Needs}
 use Rattle.stream_coding.specs.Buffers.{buffers_of, coding_holding, given_buffers, multiplexing_of}
 use Rattle.stream_coding.specs.Codings.{coding_of}
+use Rattle.stream_coding.specs.FrameHeaders.{frame_kind}
+use Rattle.stream_coding.specs.Frames.{no_frames, all_frames}
+use Rattle.stream_coding.specs.declared.frames.UnitFrames.{UnitFrames}
 use Rattle.stream_coding.specs.declared.coding.Coding.{Coding}
 use Rattle.stream_coding.specs.declared.buffers.Buffers.{Buffers}
 use Rattle.stream_coding.specs.declared.buffers.PidBuffers.{PidBuffers}
@@ -52,9 +57,13 @@ unfoldable pub first_bytes : List AccessUnit → List ℕ
 first_bytes [] = []
 first_bytes (u ∷ us) = u.bytes
 
--- by the first unit; a buffer that does not hold the greatest one is none that the stream keeps to
+-- by the first unit
+abbrev pub said_coding : TimedStreamView → Coding
+said_coding s = coding_of s.stream_type s.descriptors (first_bytes s.units)
+
+-- a buffer that does not hold the greatest one is none that the stream keeps to
 unfoldable pub coding_for : TimedStreamView → Coding
-coding_for s = coding_holding (max_unit_size s.units) (coding_of s.stream_type s.descriptors (first_bytes s.units))
+coding_for s = coding_holding (max_unit_size s.units) (said_coding s)
 
 unfoldable pub buffers_for : List PidBuffers → TimedStreamView → Buffers
 buffers_for given s = unwrap_or (given_buffers given s.pid) (buffers_of (coding_for s))
@@ -69,11 +78,22 @@ without_header b = record { rbx = b.rbx; size = if nat_lt 19 b.size then b.size 
 unfoldable pub multiplexing_for : List PidBuffers → TimedStreamView → Option MultiplexingBuffer
 multiplexing_for given s = if is_some (given_buffers given s.pid) then None else option_map without_header (multiplexing_of (coding_for s))
 
+-- the access units of a stream's units, if it is sound whose units are whole frames
+unfoldable pub framing_of : UnitFrames → Option Framing
+framing_of c = if nat_le c.count 64 && nat_lt c.time (2 ^ 32) then Some (record { frames = c.count; frame = c.time; frame_size = c.largest }) else None
+
+unfoldable pub framing_for : TimedStreamView → Option Framing
+framing_for s = elim (frame_kind s.stream_type s.descriptors) [
+  | None ↦ None
+  | Some kind ↦ option_and_then framing_of (all_frames kind no_frames (map (λ u. u.bytes) s.units))
+]
+
 -- 3. What is counted of a stream's units: what they need, and the greatest number of packets of 1, 2, .. of them in a row
 
 pub record UnitCountsView : Type 0 where
   pub needs : Needs
   pub multiplexing : Option MultiplexingBuffer
+  pub framing : Option Framing
   pub max_group_packets : List ℕ
 
 unfoldable pub needs_of : List PidBuffers → TimedStreamView → Needs
@@ -96,7 +116,7 @@ size_refusal s = if nat_lt (greatest_size s.stream_id) (max_unit_size s.units) t
 
 unfoldable pub unit_counts : List PidBuffers → TimedStreamView → Result UnitCountsView JobRefusal
 unit_counts given s =
-    unless (size_refusal s) (Ok (record { needs = needs_of given s; multiplexing = multiplexing_for given s; max_group_packets = max_group_packets s }))
+    unless (size_refusal s) (Ok (record { needs = needs_of given s; multiplexing = multiplexing_for given s; framing = framing_for s; max_group_packets = max_group_packets s }))
 
 abbrev pub all_unit_counts : List PidBuffers → List TimedStreamView → Result (List UnitCountsView) JobRefusal
 all_unit_counts given streams = each (unit_counts given) streams
@@ -168,3 +188,7 @@ chosen declare_by lead sum s =
 
 unfoldable pub choices : DeclareBy → ℕ → List TimedStreamView → List UnitCountsView → Result (List StreamChoice) JobRefusal
 choices declare_by lead streams all = each (chosen declare_by lead (shares_of all)) (zip streams all)
+
+-- the access units that a stream declares: none if its choice does not keep them, so that no stream is refused for them
+unfoldable pub kept_framing : UnitCountsView → Choice → Option Framing
+kept_framing c choice = elim c.framing [ None ↦ None | Some f ↦ if keeps_framing c.needs f choice.lead choice.share then Some f else None ]

@@ -18,6 +18,7 @@ use Rattle.stream_jobs.specs.Answers.{and_then, unless}
 use Rattle.stream_jobs.specs.ClockBases.{base0_of}
 use Rattle.stream_jobs.specs.declared.declarations.StreamChoice.{StreamChoice}
 use Rattle.stream_jobs.specs.Declarations.{UnitCountsView, too_many, too_long, all_unit_counts, choices}
+use Rattle.stream_jobs.specs.BufferWarnings.{buffer_warnings}
 use Rattle.stream_jobs.specs.JobPrograms.{JobProgramView, job_programs, all_program_warnings, text_warnings}
 use Rattle.given_values.specs.GivenNames.{ServiceNameView}
 use Rattle.stream_jobs.specs.Events.{programs_information}
@@ -88,6 +89,7 @@ unfoldable pub with_unit_counts : JobOptionsView → (List UnitCountsView → Li
 with_unit_counts options finish streams =
     and_then (λ all. and_then (λ chosen. Ok (finish all chosen)) (choices options.declare_by options.lead streams all)) (all_unit_counts options.buffers streams)
 
+-- the last warnings are about their buffers
 unfoldable pub with_moved : JobOptionsView → JobInformationView → ℕ → List JobProgramView → List JobTableView → List Warning → List TimedStreamView → Result JobInputView JobRefusal
 with_moved options information base programs tables all_warnings streams =
     unless (too_many (length programs) (length streams))
@@ -100,7 +102,7 @@ with_moved options information base programs tables all_warnings streams =
       unit_counts = all;
       choices = chosen;
       tables = tables;
-      warnings = all_warnings;
+      warnings = all_warnings ++ buffer_warnings options.buffers streams all chosen;
     }) streams))
 
 -- why no stream is carried: the first warning of a stream_id that can't be written, or of scrambled packets

@@ -14,6 +14,7 @@ pub mod Events
 pub mod Information
 pub mod Moments
 pub mod Declarations
+pub mod BufferWarnings
 pub mod JobInput
 pub mod InputDrafts
 pub mod TakenStreams

@@ -1,10 +1,10 @@
 -- The description of a job as text.
-use Rattle.std.specs.Prelude.{ℕ, ◌-◌, ◌^◌, min, List, ◌++◌, flat_map, zip}
+use Rattle.std.specs.Prelude.{ℕ, ◌-◌, ◌^◌, min, None, List, ◌++◌, flat_map, zip}
 use Rattle.job_text.specs.DescriptionParts.{EventPartView, HeadingView, ProgramPartView, StreamPartView}
 use Rattle.job_text.specs.Texts.{event_text, heading_text, network_if_any, program_text, stream_text}
 use Rattle.stream_programs.specs.Services.{FoundServiceView}
 use Rattle.stream_jobs.specs.declared.declarations.StreamChoice.{StreamChoice}
-use Rattle.stream_jobs.specs.Declarations.{UnitCountsView}
+use Rattle.stream_jobs.specs.Declarations.{UnitCountsView, kept_framing}
 use Rattle.stream_jobs.specs.JobPrograms.{JobProgramView}
 use Rattle.stream_jobs.specs.JobInput.{JobInputView}
 use Rattle.stream_jobs.specs.JobOptions.{JobOptionsView}
@@ -59,6 +59,7 @@ stream_part s = record {
   allowance = s.1.1.choice.allowance;
   shared_with = s.0.shared_with;
   multiplexing = s.1.1.multiplexing;
+  framing = kept_framing s.1.0 s.1.1.choice;
 }
 
 -- 4. The whole: the lines of private tables (`specs/JobTables`) come last

@@ -5,6 +5,7 @@ ghost use Rattle.stream_choice.specs.Ranges.{IsNeeds, AreMaxPackets};
 ghost use Rattle.stream_jobs.specs.Answers.{Answers, Refuses, each};
 ghost use Rattle.stream_jobs.specs.Declarations as spec;
 
+use crate::alike::is_alike;
 use crate::declarations::{StreamChoice, UnitCounts};
 use crate::job_stream::TimedStream;
 use crate::refusal::{JobError, JobRefusal};
@@ -57,8 +58,8 @@ fn shares_sum(all: &[UnitCounts]) -> u64
     sum
 }
 
-/// The least share of the multiplex that these streams take together by groups, at least that of an output of the least
-/// rate.
+/// Returns the least share of the multiplex that these streams take together by groups, at least that of an output of
+/// the least rate.
 #[tactic(auto, unfolding(crate::specs::Declarations::shares_of))]
 pub(crate) fn shares_of(all: &[UnitCounts]) -> u64
     ensures value { result ≡ spec.shares_of all.now }
@@ -130,30 +131,6 @@ fn pace_of(
 struct KnownGroups<'a> {
     unit_counts: &'a UnitCounts,
     choice: Option<Choice>,
-}
-
-// Whether both are none, or have one leak and one size.
-fn is_same_buffer(one: Option<MultiplexingBuffer>, other: Option<MultiplexingBuffer>) -> bool
-    ensures { IsTrue result → one ≡ other }
-{
-    match (one, other) {
-        (None, None) => true,
-        (Some(first), Some(second)) => first.rbx == second.rbx && first.size == second.size,
-        _ => false,
-    }
-}
-
-// Whether two streams are counted alike.
-fn is_alike(one: &UnitCounts, other: &UnitCounts) -> bool
-    ensures { IsTrue result → one.now ≡ other.now }
-{
-    let (needs, others) = (one.needs, other.needs);
-    let same_units = needs.interval == others.interval && needs.size == others.size;
-    let same_buffers = needs.rx == others.rx && needs.main == others.main;
-    same_units
-        && same_buffers
-        && is_same_buffer(one.multiplexing, other.multiplexing)
-        && one.max_group_packets.as_slice() == other.max_group_packets.as_slice()
 }
 
 // What a stream declares by groups with this multiplexing buffer, where that is asked for.
@@ -380,7 +357,7 @@ fn each_choice(
     Ok(choices)
 }
 
-/// What each stream declares.
+/// Returns what each stream declares.
 #[tactic(auto, unfolding(crate::specs::Declarations::choices))]
 pub(crate) fn choices(
     alloc: Global,

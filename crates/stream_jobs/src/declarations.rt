@@ -1,23 +1,25 @@
-//! What is counted of a stream's units.
+//! The counts of a stream's units.
 
-ghost use Rattle.std.specs.Prelude.{◌≡◌, ◌≤◌, IfErr, IfNone, IfOk, List, Ok, All};
+ghost use Rattle.std.specs.Prelude.{◌≡◌, ◌≤◌, map, IfErr, IfNone, IfOk, List, Ok, All};
 ghost use Rattle.pes_packet.specs.AccessUnits.{AccessUnit};
 ghost use Rattle.stream_units.specs.Declaration.{counted_packets, max_unit_size};
+ghost use Rattle.stream_coding.specs.Frames.{no_frames, all_frames};
 ghost use Rattle.stream_jobs.specs.Answers.{Answers, Refuses};
 ghost use Rattle.stream_jobs.specs.Declarations as spec;
 ghost use Rattle.stream_jobs.specs.Jobs.{FitsQueue};
 
 use crate::job_stream::TimedStream;
 use crate::refusal::{JobError, JobRefusal};
-use pes_packet::greatest_size;
+use pes_packet::{Unit, greatest_size};
 use std::alloc::{AllocError, Global};
 use std::marker::Model;
 use stream_choice::{Choice, Needs};
 use stream_coding::{
-    Buffers, Coding, PidBuffers, buffers_of, coding_holding, coding_of, given_buffers,
-    multiplexing_of,
+    Buffers, Coding, FrameKind, PidBuffers, UnitFrames, buffers_of, coding_holding, coding_of,
+    frame_kind, given_buffers, multiplexing_of, unit_frames,
 };
 use stream_units::{CountedPackets, max_unit_size, min_interval};
+use unit_timing::framing::Framing;
 use unit_timing::multiplexing_buffer::MultiplexingBuffer;
 
 /// The greatest number of programs, and of streams, in a description.
@@ -34,12 +36,13 @@ const MAX_GROUP: usize = 64;
 /// The most bytes of a PES packet header in a job.
 const MAX_HEADER: u32 = 19;
 
-/// What is counted of a stream's units: what they need, the multiplexing buffer that the stream has if it is video, and the
-/// greatest number of packets of 1, 2, .. units in a row.
+/// The counts of a stream's units: what they need, the multiplexing buffer of a stream of video, the access units of a
+/// stream of sound whose units are whole frames, and the greatest number of packets of 1, 2, .. units in a row.
 #[derive(Drop)]
 pub(crate) struct UnitCounts {
     pub needs: Needs,
     pub multiplexing: Option<MultiplexingBuffer>,
+    pub framing: Option<Framing>,
     pub max_group_packets: Vec<u32>,
 }
 
@@ -59,11 +62,12 @@ impl Model for UnitCounts {
     ghost view = { λ c. record {
       needs = c.needs;
       multiplexing = c.multiplexing;
+      framing = c.framing;
       max_group_packets = c.max_group_packets.items;
     } };
 }
 
-/// The refusal of too many programs or streams, or of no stream.
+/// Returns the refusal of too many programs or streams, or of no stream.
 #[tactic(auto, unfolding(crate::specs::Declarations::too_many))]
 pub(crate) fn too_many(programs: usize, streams: usize) -> Option<JobRefusal>
     ensures value { result ≡ spec.too_many programs streams }
@@ -114,13 +118,19 @@ fn first_bytes(stream: &TimedStream) -> &[u8]
     }
 }
 
-// How a stream is coded: by its first unit, and by a buffer that holds its greatest one.
+/// Returns how a stream is coded by its first unit.
+pub(crate) fn said_coding(stream: &TimedStream) -> Coding
+    ensures { result ≡ spec.said_coding stream.now }
+{
+    coding_of(stream.stream_type, &stream.descriptors, first_bytes(stream))
+}
+
+/// Returns how a stream is coded: by its first unit, and by a buffer that holds its greatest one.
 #[tactic(auto, unfolding(crate::specs::Declarations::coding_for))]
-fn coding_for(stream: &TimedStream) -> Coding
+pub(crate) fn coding_for(stream: &TimedStream) -> Coding
     ensures { result ≡ spec.coding_for stream.now }
 {
-    let coding = coding_of(stream.stream_type, &stream.descriptors, first_bytes(stream));
-    coding_holding(max_unit_size(&stream.units), coding)
+    coding_holding(max_unit_size(&stream.units), said_coding(stream))
 }
 
 // The buffers of a stream: those that the options give, or those of its coding.
@@ -162,6 +172,45 @@ fn multiplexing_for(given: &[PidBuffers], stream: &TimedStream) -> Option<Multip
         None => None,
         Some(buffer) => Some(without_header(buffer)),
     }
+}
+
+// The access units of a unit as a description declares them.
+#[tactic(auto, unfolding(crate::specs::Declarations::framing_of))]
+fn framing_of(frames: UnitFrames) -> Option<Framing>
+    ensures { result ≡ spec.framing_of frames }
+{
+    if frames.count <= 64 && frames.time < 1 << 32 {
+        Some(Framing {
+            frames: frames.count as u8,
+            frame: frames.time as u32,
+            frame_size: frames.largest,
+        })
+    } else {
+        None
+    }
+}
+
+// The frames of all units; none if a unit is not whole frames.
+fn all_frames(kind: FrameKind, units: &[Unit]) -> Option<UnitFrames>
+    ensures { result ≡ all_frames kind no_frames (map (λ u. u.bytes) units.now) }
+{
+    let mut frames = UnitFrames::none();
+    let mut left = units;
+    while let Some((unit, later)) = left.split_first() {
+        let others = unit_frames(kind, unit.bytes.as_slice())?;
+        frames = frames.joined(others);
+        left = later;
+    }
+    Some(frames)
+}
+
+// The access units of a stream's units, if it is sound whose units are whole frames.
+#[tactic(auto, unfolding(crate::specs::Declarations::framing_for))]
+fn framing_for(stream: &TimedStream) -> Option<Framing>
+    ensures { result ≡ spec.framing_for stream.now }
+{
+    let kind = frame_kind(stream.stream_type, &stream.descriptors)?;
+    framing_of(all_frames(kind, &stream.units)?)
 }
 
 // The greatest number of packets of `group` units in a row, as a number of 32 bits.
@@ -232,10 +281,12 @@ fn count_stream(
     }
     let needs = needs_of(given, stream);
     let multiplexing = multiplexing_for(given, stream);
+    let framing = framing_for(stream);
     let max_group_packets = max_group_packets(alloc, stream)?;
     Ok(UnitCounts {
         needs,
         multiplexing,
+        framing,
         max_group_packets,
     })
 }

@@ -2,6 +2,7 @@
 
 ghost use Rattle.std.specs.Prelude.{◌≡◌, ◌++◌, IfOk, IfErr, OnOk, Ok, string_bytes};
 ghost use Rattle.job_text.specs.Texts.{heading_text, program_text, stream_text};
+ghost use Rattle.stream_jobs.specs.Declarations.{kept_framing};
 ghost use Rattle.stream_jobs.specs.Rates.{IsText};
 ghost use Rattle.stream_jobs.specs.Texts as spec;
 ghost use Rattle.stream_jobs.specs.WhyNoJob.{IsWhyNotRead};
@@ -19,6 +20,8 @@ use crate::table_lines::write_tables;
 use description::{DescError, Description};
 use job_text::{Heading, ProgramPart, StreamPart};
 use std::alloc::{AllocError, Global};
+use stream_choice::{Choice, keeps_framing};
+use unit_timing::framing::Framing;
 
 /// All that the description of a job says but for its rate.
 #[derive(Clone, Copy)]
@@ -47,7 +50,7 @@ impl<'a> DescriptionDraft<'a> {
         heading.write_text(text)
     }
 
-    /// The text of the description at a rate in bits a second.
+    /// Returns the text of the description at a rate in bits a second.
     #[tactic(auto, unfolding(crate::specs::Texts::description_text))]
     pub fn text(&self, alloc: Global, rate: u64) -> Result<String, AllocError>
         ensures { IfOk result (λ text. string_bytes text
@@ -124,6 +127,19 @@ fn write_programs(
     Ok(())
 }
 
+// The access units that a stream declares: those that its choice keeps.
+#[tactic(auto, unfolding(crate::specs::Declarations::kept_framing))]
+fn kept_framing(unit_counts: &UnitCounts, choice: Choice) -> Option<Framing>
+    ensures { result ≡ kept_framing unit_counts.now choice }
+{
+    let framing = unit_counts.framing?;
+    if keeps_framing(unit_counts.needs, framing, choice.lead, choice.share) {
+        Some(framing)
+    } else {
+        None
+    }
+}
+
 #[tactic(auto, unfolding(crate::specs::Texts::stream_part))]
 fn write_stream(
     stream: &TimedStream,
@@ -148,6 +164,7 @@ fn write_stream(
         allowance: choice.choice.allowance,
         shared_with: &stream.shared_with,
         multiplexing: choice.multiplexing,
+        framing: kept_framing(unit_counts, choice.choice),
     };
     entry.write_text(text)
 }
@@ -180,7 +197,7 @@ fn write_streams(
     Ok(())
 }
 
-/// The description that a text says.
+/// Returns the description that a text says.
 pub(crate) fn described(alloc: Global, text: &str) -> Result<Description, JobError>
     ensures read { IfOk result (λ d. IsText d text.now) }
     ensures refused { IfErr result (IsWhyNotRead text.now) }

@@ -81,7 +81,7 @@ fn has_long_map(programs: &[JobProgram], tables: &[JobTable], streams: &[WireStr
         .any(|program| is_long_map(program, tables, streams))
 }
 
-/// When the first unit of each clock is due, in units of 90 kHz.
+/// Returns when the first unit of each clock is due, in units of 90 kHz.
 #[tactic(auto, unfolding(crate::specs::Moments::earliest))]
 pub(crate) fn earliest_of(
     programs: &[JobProgram],

@@ -55,7 +55,7 @@ impl Model for JobInformation {
     } };
 }
 
-/// What is said of a stream with this transport_stream_id and these programs.
+/// Returns what is said of a stream with this transport_stream_id and these programs.
 #[tactic(auto, unfolding(crate::specs::Information::information_of))]
 pub(crate) fn information_of(
     alloc: Global,

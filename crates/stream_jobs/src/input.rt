@@ -1,4 +1,4 @@
-//! What a job is made of: the programs and streams of a transport stream, and what is declared of their units.
+//! The input of a job: the programs and streams of a transport stream, and the declarations of their units.
 
 ghost use Rattle.std.specs.Prelude.{◌≡◌, ◌≤◌, IfOk, All, length, map};
 ghost use Rattle.demux.specs.Shown.{finding_view};
@@ -8,6 +8,7 @@ ghost use Rattle.stream_jobs.specs.InputDrafts as drafts;
 ghost use Rattle.stream_jobs.specs.Jobs.{AreStreams, FitsQueue, IsMoved};
 ghost use Rattle.stream_jobs.specs.JobInput as spec;
 
+use crate::buffer_warnings::push_buffer_warnings;
 use crate::choices::choices;
 use crate::declarations::{StreamChoice, UnitCounts, count_units, too_long, too_many};
 use crate::information::JobInformation;
@@ -56,14 +57,14 @@ impl Model for JobInput {
 }
 
 impl JobInput {
-    /// Whether a stream of this PID is carried.
+    /// Returns whether a stream of this PID is carried.
     pub fn has_stream(&self, pid: u16) -> bool
         ensures { result ≡ spec.has_stream self.now pid }
     {
         self.streams.iter().any(|stream| stream.pid == pid)
     }
 
-    /// Whether sections of this PID are carried.
+    /// Returns whether sections of this PID are carried.
     pub fn carries_table(&self, pid: u16) -> bool
         ensures { result ≡ spec.carries_table self.now pid }
     {
@@ -102,6 +103,14 @@ fn with_moved(
         options.lead,
         &streams,
         &unit_counts,
+    )?;
+    let mut warnings = warnings;
+    push_buffer_warnings(
+        options.buffers,
+        &streams,
+        &unit_counts,
+        &choices,
+        &mut warnings,
     )?;
     Ok(JobInput {
         information,
@@ -164,12 +173,12 @@ fn input_of(
     finished(alloc, options, draft, findings)
 }
 
-/// What a job of these findings is made of; `count` is the number of whole packets of the stream. The streams of all
-/// programs on one clock are moved by one constant. Refusals, the first one that holds: more than half of the packets are
-/// none, no program association table, no program with a map, no PID left; of a stream two stream_ids, DTS that can't be
-/// made; no stream, since none can be written or is clear; stamps that are no moments; too many programs, streams, or
-/// units of a stream; a unit that is too large, and buffers in which units can't wait. The bodies of the units are moved
-/// out of the findings.
+/// Returns what a job of these findings is made of; `count` is the number of whole packets of the stream. The streams of
+/// all programs on one clock are moved by one constant. Returns the first refusal that applies: more than half of the
+/// packets are none, no program association table, no program with a map, no PID left; a stream with two stream_ids, or
+/// whose DTS can't be made; no stream, since none can be written or is clear; stamps that are no moments; too many
+/// programs, streams, or units of a stream; a unit that is too large, and buffers where units can't wait. The bodies of the
+/// units are moved out of the findings.
 #[tactic(auto, using(crate::proofs::ClockConstants::constants_answered, crate::proofs::ClockConstants::distances_answered))]
 pub fn job_input(
     alloc: Global,

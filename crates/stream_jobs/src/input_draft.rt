@@ -299,7 +299,7 @@ fn with_association(
     with_programs(alloc, options, count, findings, association, &named, found)
 }
 
-/// What a job of these findings is made of, step by step, but for the bytes of its units.
+/// Returns what a job of these findings is made of, step by step, but for the bytes of its units.
 #[tactic(auto, unfolding(crate::specs::JobInput::job_input, crate::specs::Answers::unless, crate::specs::Answers::and_then, crate::specs::InputDrafts::Leads, crate::specs::Answers::Refuses))]
 pub(crate) fn input_draft(
     alloc: Global,

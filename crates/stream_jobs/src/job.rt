@@ -78,7 +78,7 @@ fn agreed_plan(
     }
 }
 
-/// The job of this input. Its units are those of the streams, wherever these were found: in one input, or in several that are joined.
+/// Returns the job of this input. Its units are the streams' units, wherever these were found: in one input, or in several joined inputs.
 pub fn make_job(alloc: Global, options: &JobOptions<'_>, input: JobInput) -> Result<Job, JobError>
     requires { length input.streams ≤ 32 }
     ensures job { IfOk result (λ j. IsJob options.now input j.plan.description
@@ -119,7 +119,7 @@ fn served_rate(planned: PlannedDescription) -> u64
     planned.rate
 }
 
-/// The text of the description of a job, at the rate of the options, else at the least at which a plan is found.
+/// Returns the text of the description of a job, at the rate of the options, else at the least at which a plan is found.
 pub fn describe(
     alloc: Global,
     options: &JobOptions<'_>,
@@ -136,7 +136,7 @@ pub fn describe(
     }
 }
 
-/// The units of a job without its description, by their DTS, each with the number of its stream.
+/// Returns the units of a job without its description, by their DTS, each with the number of its stream.
 pub fn units(alloc: Global, input: JobInput) -> Result<Vec<(u8, Unit)>, JobError>
     requires { length input.streams ≤ 32 }
     ensures units { IfOk result (λ units. AreMerged (map (λ t. t.units) input.streams) units.items) }
@@ -157,7 +157,7 @@ fn rate_of(alloc: Global, draft: &DescriptionDraft<'_>) -> Result<u64, JobError>
     }
 }
 
-/// The description of a job at the rate of the options, else at the least at which all have slots, whether or not a plan
+/// Returns the description of a job at the rate of the options, or at the least rate that gives all streams slots, whether or not a plan
 /// serves it.
 pub fn unplanned_description(
     alloc: Global,
@@ -173,7 +173,7 @@ pub fn unplanned_description(
     described(alloc, &text)
 }
 
-/// The least of the rates that are tried at which a plan is found, whatever rate is asked for.
+/// Returns the least of the tried rates that has a plan, whatever rate is asked for.
 pub fn found_rate(
     alloc: Global,
     options: &JobOptions<'_>,

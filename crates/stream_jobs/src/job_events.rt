@@ -38,7 +38,7 @@ fn numbers_of(alloc: Global, programs: &[JobProgram]) -> Result<Vec<u16>, AllocE
     programs.iter().map(|program| program.number).collect(alloc)
 }
 
-/// The events of these programs.
+/// Returns the events of these programs.
 #[tactic(auto, unfolding(crate::specs::Events::job_events))]
 pub(crate) fn job_events<'f>(
     alloc: Global,
@@ -73,8 +73,8 @@ fn start_found(alloc: Global, moment: Option<u32>) -> Result<String, AllocError>
     }
 }
 
-/// The moment of the first slot: the one that is given, else that of the stream's time and date table, else the start of the first
-/// of its events, else 2000-01-01T00:00:00.
+/// Returns the moment of the first slot: the one that is given, else that of the stream's time and date table, else the start of
+/// the first of its events, else 2000-01-01T00:00:00.
 #[tactic(auto, unfolding(crate::specs::Events::start_of))]
 pub(crate) fn start_of(
     alloc: Global,
@@ -151,7 +151,7 @@ fn push_events(
     Ok(())
 }
 
-/// What a description says of these events.
+/// Returns what a description says of these events.
 pub(crate) fn event_parts(
     alloc: Global,
     found: &[FoundEvent<'_>],
@@ -179,7 +179,7 @@ fn write_event(event: &JobEvent, text: &mut String) -> Result<(), AllocError>
     entry.write_text(text)
 }
 
-/// The lines of all events.
+/// Returns the lines of all events.
 pub(crate) fn write_events(events: &[JobEvent], text: &mut String) -> Result<(), AllocError>
     ensures { OnOk result (string_bytes text.new ≡ string_bytes text.old ++ events_text events.now) }
 {

@@ -1,4 +1,4 @@
-//! The network of a job: the one that is given, or that of the stream.
+//! The network of a job: the given network, or the stream's network.
 
 ghost use Rattle.std.specs.Prelude.{◌≡◌, ◌++◌, IfOk, OnOk, Some, map, option_map, option_to_list, string_bytes};
 ghost use Rattle.demux.specs.Shown.{finding_view};
@@ -107,7 +107,7 @@ fn network_if_found(
     }
 }
 
-/// The network, if one is given or the stream has one.
+/// Returns the network, if one is given or the stream has one.
 #[tactic(auto, unfolding(crate::specs::Information::network_or))]
 pub(crate) fn network_or(
     alloc: Global,
@@ -123,7 +123,7 @@ pub(crate) fn network_or(
     }
 }
 
-/// The lines of the network, if there is one.
+/// Returns the lines of the network, if there is one.
 pub(crate) fn write_network(
     network: &Option<JobNetwork>,
     text: &mut String,

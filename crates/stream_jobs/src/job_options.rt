@@ -12,7 +12,7 @@ use stream_coding::PidBuffers;
 pub struct JobOptions<'a> {
     /// The rate of the new stream in bits a second; without it the least at which a plan is found.
     pub rate: Option<u64>,
-    /// The moment of its first slot, as a description has it; without it that of the stream's time and date table.
+    /// The moment of its first slot, as a description has it; without it the moment of the stream's time and date table.
     pub start: Option<&'a str>,
     /// The greatest time between two clock references, 1 to 100 ms.
     pub pcr_limit: u8,
@@ -24,15 +24,15 @@ pub struct JobOptions<'a> {
     pub make_dts: bool,
     /// What the system clock shows as the run begins.
     pub base: ClockBase,
-    /// The network, in place of that of the stream.
+    /// The network, in place of the stream's network.
     pub network: Option<NetworkName<'a>>,
-    /// Names of services in place of those of the stream.
+    /// Names of services in place of the stream's names.
     pub names: &'a [ServiceName<'a>],
     /// The programs that are taken; none: all.
     pub programs: &'a [u16],
     /// The PIDs that are left out.
     pub without: &'a [u16],
-    /// Buffers in place of those by coding and level.
+    /// Buffers in place of the buffers by coding and level.
     pub buffers: &'a [PidBuffers],
 }
 
@@ -60,7 +60,7 @@ impl<'a> Model for JobOptions<'a> {
     } };
 }
 
-/// Whether a number is one of these.
+/// Returns whether a number is one of these.
 #[tactic(auto, unfolding(crate::specs::JobOptions::is_among))]
 pub(crate) fn is_among(number: u16, numbers: &[u16]) -> bool
     ensures { result ≡ is_among number numbers.now }

@@ -44,7 +44,7 @@ fn first_of(programs: &[JobProgram], number: u16) -> Option<&JobProgram>
     programs.iter().find(|program| program.number == number)
 }
 
-/// The clock of the first of some programs that has a number.
+/// Returns the clock of the first of some programs that has a number.
 #[tactic(auto, unfolding(crate::specs::JobPrograms::clock_in, crate::specs::JobPrograms::clock_if))]
 pub(crate) fn clock_in(programs: &[JobProgram], number: u16) -> ProgramClock
     ensures { result ≡ spec.clock_in programs.now number }
@@ -124,7 +124,8 @@ fn push_program(
     Ok(())
 }
 
-/// The programs with a stream that has units, each with the PIDs that it is given, and the warnings about the others.
+/// Returns the programs with a stream that has units, each with the PIDs that it is given, and the warnings about the
+/// others.
 pub(crate) fn job_programs(
     alloc: Global,
     streams: &[WireStream<'_>],

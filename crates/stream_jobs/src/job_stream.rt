@@ -18,7 +18,7 @@ pub(crate) struct JobStream<U> {
     pub stream_id: u8,
     /// The descriptors of the stream in the program map.
     pub descriptors: Vec<u8>,
-    /// The numbers of the other programs that share it.
+    /// The numbers of further programs that share it.
     pub shared_with: Vec<u16>,
     pub units: Vec<U>,
 }
@@ -51,7 +51,7 @@ impl<U> Model for JobStream<U> {
     } };
 }
 
-/// Whether a program has a stream, as its own or a shared one.
+/// Returns whether a program has a stream, as its own or a shared one.
 #[tactic(auto, unfolding(crate::specs::JobStreams::is_stream_of))]
 pub(crate) fn is_stream_of<U>(number: u16, stream: &JobStream<U>) -> bool
     ensures { result ≡ spec.is_stream_of number stream.now }

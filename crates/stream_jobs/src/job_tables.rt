@@ -26,7 +26,7 @@ pub(crate) struct JobTable {
     pub stream_type: u8,
     /// Its descriptors in the program map.
     pub descriptors: Vec<u8>,
-    /// Their bytes, in the order in which they come first.
+    /// Their bytes, in the order of their first packets.
     pub sections: Vec<Vec<u8>>,
     /// The greatest number of packets from one start of a section to its next.
     pub gap: u64,
@@ -181,8 +181,8 @@ fn all_tables(
     Ok(tables)
 }
 
-/// The private tables of these programs: sections that do not change and are not left out; `count` is the number of whole
-/// packets of the stream.
+/// Returns the private tables of these programs: sections that do not change and are not left out; `count` is the number
+/// of whole packets of the stream.
 #[tactic(auto, unfolding(crate::specs::JobTables::job_tables))]
 pub(crate) fn job_tables(
     alloc: Global,
@@ -224,7 +224,7 @@ fn is_told(tables: &[JobTable], warning: &Warning) -> bool
     }
 }
 
-/// The warnings that are not of sections that are carried.
+/// Returns the warnings that are not of sections that are carried.
 pub(crate) fn told(tables: &[JobTable], warnings: Vec<Warning>) -> Vec<Warning>
     ensures { result.items ≡ spec.told tables.now warnings.items }
 {

@@ -28,7 +28,7 @@ use std::marker::Model;
 /// The most events of a description.
 const MOST_EVENTS: usize = 256;
 
-/// Where a stream of a job was found: the number of an input, from 0 on, its PID there, and the clock by which it counts there.
+/// Where a stream of a job was found: the number of an input, from 0 on, its PID there, and the clock of its stamps there.
 #[derive(Clone, Copy)]
 pub struct Origin {
     pub input: usize,
@@ -36,7 +36,7 @@ pub struct Origin {
     pub(crate) clock: ProgramClock,
 }
 
-/// What is told of an input after the first.
+/// A note about an input after the first.
 #[derive(Clone, Copy, PartialEq, Eq)]
 pub enum NoteCause {
     /// A program has a new number.
@@ -58,7 +58,7 @@ pub struct InputNote {
     pub cause: NoteCause,
 }
 
-/// The inputs of a job as one; of each stream where it was found; and what is told of the inputs after the first.
+/// The inputs of a job as one; where each stream was found; and the notes about the inputs after the first.
 #[derive(Drop)]
 pub struct JoinedInputs {
     pub input: JobInput,
@@ -341,8 +341,8 @@ fn all_joined(alloc: Global, first: JobInput, more: Vec<JobInput>) -> Result<Joi
     Ok(all)
 }
 
-/// The inputs of a job as one: the programs and streams of the first one, and of each after it, with new numbers where those before
-/// it have them. Refusals: no PID left for an input, or more programs or streams than a description may have.
+/// Returns the inputs of a job as one: the programs and streams of the first, and of each after it, with new numbers if earlier inputs
+/// have their numbers. Refusals: no PID left for an input, or more programs or streams than a description may have.
 #[tactic(auto, unfolding(crate::specs::Answers::Answers))]
 pub fn join_inputs(
     alloc: Global,

@@ -3,7 +3,7 @@
 ghost use Rattle.stream_jobs.specs.NewNumbers.{PlacesAreApart};
 ghost use Rattle.stream_jobs.specs.NumbersApart.{JoinedAreApart};
 
-/// No number that an input is given is one of the inputs before, and no two are equal.
+/// States that no number given to an input belongs to an input before, and that no two are equal.
 pub fn places_are_apart()
     ensures { PlacesAreApart }
 {}

@@ -1,16 +1,18 @@
 //! Jobs from any transport stream: a description, a plan that serves it, and the units of its streams.
 //!
-//! `job_input` says what a job takes from what a demultiplexer finds, with which warnings, and what it refuses
+//! `job_input` says what a job takes from a demultiplexer's findings, its warnings, and what it refuses
 //! (`specs/JobInput`). Step by step: the packets (`specs/Packets`), the programs and streams that the options select
-//! (`specs/JobOptions`, `specs/GivenNames`, `specs/JobPrograms`), their private sections (`specs/JobTables`), what is said of the transport stream as a
+//! (`specs/JobOptions`, `specs/GivenNames`, `specs/JobPrograms`), their private sections (`specs/JobTables`), the information of the transport stream as a
 //! whole (`specs/Information`), the units of the streams with the stamps on the wire (`specs/WireStreams`) and at
 //! moments of a run (`specs/Moments`, `specs/ProgramClocks`, `specs/ClockBases`), whose bytes are moved out of the findings last
-//! (`specs/InputDrafts`, `specs/TakenStreams`), and what is declared of them (`specs/Declarations`). `specs/Warnings` has the
+//! (`specs/InputDrafts`, `specs/TakenStreams`), and their declarations (`specs/Declarations`). `specs/Warnings` has the
 //! warnings. `describe` and `make_job` write the description (`specs/Texts`), find a rate with a plan (`specs/Rates`),
-//! and give the units in order (`specs/Jobs`), or say why there is no job (`specs/WhyNoJob`). `join_inputs` makes one input of several
-//! (`specs/JoinedInputs`): program numbers and PIDs that the inputs before have become others (`specs/NewNumbers`, `specs/RenumberedInputs`).
+//! and give the units in order (`specs/Jobs`), or say why there is no job (`specs/WhyNoJob`). `join_inputs` joins several inputs
+//! (`specs/JoinedInputs`): program numbers and PIDs that earlier inputs have are replaced (`specs/NewNumbers`, `specs/RenumberedInputs`).
 #![tactic(auto)]
 
+mod alike;
+mod buffer_warnings;
 mod choices;
 mod clock_base;
 mod declaration_check;

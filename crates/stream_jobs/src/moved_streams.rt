@@ -216,7 +216,8 @@ fn each_moved(
     Ok(moved)
 }
 
-/// What the clock of the first stream shows at moment 0, if the first unit that counts by it is due at `earliest`.
+/// Returns what the clock of the first stream shows at moment 0, if the first unit that counts by it is due at
+/// `earliest`.
 #[tactic(auto, unfolding(crate::specs::Moments::first_base, crate::specs::Moments::base_of_first))]
 pub(crate) fn first_base(
     alloc: Global,
@@ -233,7 +234,7 @@ pub(crate) fn first_base(
     }
 }
 
-/// The moments of the streams' units, by which the first unit of each clock is due at `earliest`.
+/// Returns the moments of the streams' units, by which the first unit of each clock is due at `earliest`.
 #[tactic(auto, unfolding(crate::specs::Moments::moved_streams, crate::specs::Answers::Refuses))]
 pub(crate) fn moved_streams(
     alloc: Global,

@@ -72,7 +72,7 @@ fn has_service(names: &[ServiceName<'_>], findings: &[Finding<'_>], number: u16)
     is_described(findings, number) || is_named(names, number)
 }
 
-/// Whether a service of one of these programs is described, or given a name.
+/// Returns whether a service of one of these programs is described, or given a name.
 #[tactic(auto, unfolding(crate::specs::Information::has_services))]
 pub(crate) fn has_services(
     names: &[ServiceName<'_>],
@@ -108,7 +108,7 @@ fn named_service(
     }
 }
 
-/// The bytes of a text as a text of its own.
+/// Returns the bytes of a text as a text of its own.
 pub(crate) fn copied(alloc: Global, text: &str) -> Result<String, AllocError>
     ensures { IfOk result (λ copy. string_bytes copy ≡ text.now) }
 {
@@ -172,7 +172,7 @@ fn push_services(
     Ok(())
 }
 
-/// What is said of the service of each program.
+/// Returns what is said of the service of each program.
 pub(crate) fn services_of(
     alloc: Global,
     names: &[ServiceName<'_>],

@@ -78,9 +78,9 @@ fn pairs(alloc: Global, own: &[u16], places: &[u16]) -> Result<Vec<NewNumber>, A
         .collect(alloc)
 }
 
-/// What the numbers of an input become beside those of the inputs before: a number that none of these has stays; another becomes
-/// the first free one from it on, up to 8,190, else the first from `least` on. Free is what no input has. `None` where there is
-/// none left.
+/// Returns what the numbers of an input become beside those of the inputs before: a number that none of these has stays; another
+/// becomes the first free one from it on, up to 8,190, else the first from `least` on. Free is what no input has. `None` where
+/// there is none left.
 pub(crate) fn new_numbers(
     alloc: Global,
     least: u16,
@@ -103,7 +103,7 @@ fn first_of(all: &[NewNumber], number: u16) -> Option<&NewNumber>
     all.iter().find(|one| one.from == number)
 }
 
-/// What a number becomes.
+/// Returns what a number becomes.
 #[tactic(auto, unfolding(crate::specs::NewNumbers::becomes))]
 pub(crate) fn becomes(all: &[NewNumber], number: u16) -> u16
     ensures { result ≡ spec.becomes all.now number }
@@ -114,7 +114,7 @@ pub(crate) fn becomes(all: &[NewNumber], number: u16) -> u16
     }
 }
 
-/// What these numbers become.
+/// Returns what these numbers become.
 pub(crate) fn all_become(
     alloc: Global,
     all: &[NewNumber],

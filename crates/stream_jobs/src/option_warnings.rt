@@ -1,4 +1,4 @@
-//! The warnings about options that name what is not there.
+//! The warnings about options that name a missing thing.
 
 ghost use Rattle.std.specs.Prelude.{◌≡◌, ◌==◌, ◌++◌, OnOk, flat_map};
 ghost use Rattle.std.specs.List.{list_any};

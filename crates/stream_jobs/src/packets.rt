@@ -1,4 +1,4 @@
-//! Whether a stream is one of packets of 188 bytes (ISO/IEC 13818-1, 2.4.3.2).
+//! Whether a stream has packets of 188 bytes (ISO/IEC 13818-1, 2.4.3.2).
 
 ghost use Rattle.std.specs.Prelude.{◌≡◌, map};
 ghost use Rattle.demux.specs.Shown.{finding_view};
@@ -22,7 +22,7 @@ fn bad_packets(findings: &[Finding<'_>]) -> usize
     findings.iter().filter(|finding| is_bad(finding)).count()
 }
 
-/// The refusal of `count` whole packets of which more than half are none.
+/// Returns the refusal of `count` whole packets of which more than half are none.
 #[tactic(auto, unfolding(crate::specs::Packets::no_packets))]
 pub(crate) fn no_packets(count: u64, findings: &[Finding<'_>]) -> Option<JobRefusal>
     ensures { result ≡ spec.no_packets count (map finding_view findings.now) }

@@ -1,4 +1,4 @@
-//! By which clock the time stamps of a program count.
+//! The clock of a program's time stamps.
 
 ghost use Rattle.std.specs.Prelude.{◌≡◌};
 ghost use Rattle.stream_jobs.specs.ProgramClocks as spec;
@@ -27,7 +27,7 @@ pub(crate) fn clock_by(number: u16, pcr_pid: u16) -> ProgramClock
     }
 }
 
-/// Whether two are one.
+/// Returns whether two are one.
 #[tactic(auto, unfolding(crate::specs::ProgramClocks::is_same_clock))]
 pub(crate) fn is_same_clock(one: ProgramClock, other: ProgramClock) -> bool
     ensures { result ≡ spec.is_same_clock one other }

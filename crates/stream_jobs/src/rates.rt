@@ -97,7 +97,7 @@ fn shares_of(alloc: Global, choices: &[StreamChoice]) -> Result<Vec<u64>, AllocE
         .collect(alloc)
 }
 
-/// The rate at which all shares together are the whole.
+/// Returns the rate at which all shares together are the whole.
 pub(crate) fn first_rate(alloc: Global, draft: &DescriptionDraft<'_>) -> Result<u64, JobError>
     ensures first { IfOk result (spec.IsFirstRate draft.now.options.now draft.now.input.now) }
     ensures refused { IfErr result (IsWhyNoRate draft.now.options.now draft.now.input.now) }
@@ -181,7 +181,7 @@ fn plan_from(
     Ok(None)
 }
 
-/// The first plan that is found from the least rate on.
+/// Returns the first plan that is found from the least rate on.
 pub(crate) fn first_plan(
     alloc: Global,
     draft: &DescriptionDraft<'_>,
@@ -213,7 +213,8 @@ fn asked_plan(
     }
 }
 
-/// The description at the rate of the options, else at the least at which a plan is found, with a plan that serves it.
+/// Returns the description at the rate of the options, else at the least at which a plan is found, with a plan that
+/// serves it.
 pub(crate) fn plan_draft(
     alloc: Global,
     draft: &DescriptionDraft<'_>,

@@ -1,4 +1,4 @@
-//! An input of a job beside those before it: its programs and PIDs have new numbers where those before have them.
+//! An input of a job beside earlier inputs: its programs and PIDs have new numbers if earlier inputs have their numbers.
 
 ghost use Rattle.std.specs.Prelude.{◌≡◌, ◌++◌, IfOk, OnOk, map, option_map};
 ghost use Rattle.stream_jobs.specs.RenumberedInputs as spec;
@@ -35,7 +35,7 @@ impl Model for Renumbering {
     ghost view = { λ r. record { input = r.input; programs = r.programs.items; pids = r.pids.items } };
 }
 
-/// The numbers of an input's programs.
+/// Returns the numbers of an input's programs.
 pub(crate) fn program_numbers(alloc: Global, input: &JobInput) -> Result<Vec<u16>, AllocError>
     ensures { IfOk result (λ numbers. numbers.items ≡ spec.program_numbers input.now) }
 {
@@ -73,7 +73,7 @@ fn table_pids(alloc: Global, tables: &[JobTable]) -> Result<Vec<u16>, AllocError
     tables.iter().map(|table| table.pid).collect(alloc)
 }
 
-/// The PIDs of its maps, its streams and its private sections.
+/// Returns the PIDs of its maps, its streams and its private sections.
 pub(crate) fn found_pids(alloc: Global, input: &JobInput) -> Result<Vec<u16>, AllocError>
     ensures { IfOk result (λ pids. pids.items ≡ spec.found_pids input.now) }
 {
@@ -122,7 +122,7 @@ fn new_pids(
     new_numbers(alloc, LEAST_PID, &taken, &own)
 }
 
-/// What the numbers and PIDs of an input become beside those before it; `None` where there are none left.
+/// Returns what the numbers and PIDs of an input become beside those before it; `None` where there are none left.
 #[tactic(auto, unfolding(crate::specs::RenumberedInputs::renumbering_of, crate::specs::RenumberedInputs::renumbering_with))]
 pub(crate) fn renumbering_of(
     alloc: Global,
@@ -293,7 +293,7 @@ fn information_with(
     })
 }
 
-/// The input with its new numbers.
+/// Returns the input with its new numbers.
 #[tactic(auto, unfolding(crate::specs::RenumberedInputs::renumbered))]
 pub(crate) fn renumbered(
     alloc: Global,

@@ -61,7 +61,7 @@ fn is_table(declared: &PrivateTable, table: &JobTable) -> bool
     has_parts(declared, table)
 }
 
-/// The PID of the first table that is not the declared one in its place.
+/// Returns the PID of the first table that is not the declared one in its place.
 #[tactic(auto, unfolding(crate::specs::Jobs::TablesInTurn, crate::specs::Jobs::first_other_table))]
 pub(crate) fn first_other_table(declared: &[PrivateTable], tables: &[JobTable]) -> Option<u16>
     ensures value { result ≡ spec.first_other_table declared.now tables.now }

@@ -1,4 +1,4 @@
-//! The units of streams, moved out of what is found.
+//! The units of streams, moved out of the findings.
 
 ghost use Rattle.std.specs.Prelude.{◌≡◌, IfOk, map};
 ghost use Rattle.demux.specs.Shown.{finding_view};
@@ -60,7 +60,7 @@ fn pids_of(alloc: Global, streams: &[StreamMoments]) -> Result<Vec<u16>, AllocEr
     streams.iter().map(|stream| stream.pid).collect(alloc)
 }
 
-/// The streams with their units at their moments. The bodies of these are moved out of the findings.
+/// Returns the streams with their units at their moments. The bodies of these are moved out of the findings.
 pub(crate) fn timed_streams(
     alloc: Global,
     streams: Vec<StreamMoments>,

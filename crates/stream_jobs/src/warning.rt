@@ -7,7 +7,7 @@ use service_information::InformationWarning;
 use stream_programs::{MapPart, TableOmission};
 use stream_units::UnitWarning;
 
-/// What is said of a packet, or of the section that ends in it.
+/// A warning about a packet, or about the section that ends in it.
 #[derive(Clone, Copy)]
 pub enum PacketWarning {
     /// 188 bytes that are no packet.
@@ -21,7 +21,7 @@ pub enum PacketWarning {
     NetworkSurplus,
 }
 
-/// What is said of a program.
+/// A warning about a program.
 #[derive(Clone, Copy)]
 pub enum ProgramWarning {
     /// It is asked for, and is not there.
@@ -32,7 +32,7 @@ pub enum ProgramWarning {
     UnreadText,
 }
 
-/// A warning: what of a stream is not taken as it stands.
+/// A warning: a part of a stream that is not taken unchanged.
 #[derive(Clone, Copy)]
 pub enum Warning {
     /// About a packet.
@@ -93,6 +93,20 @@ pub enum Warning {
         from: u16,
         to: u16,
     },
+    /// A stream says that a buffer of this size is enough for it, which does not hold this unit of it: another one counts.
+    HeaderBuffer {
+        pid: u16,
+        said: u32,
+        unit: usize,
+        counted: u32,
+    },
+    /// The packets of a stream ask for this rate, and with the leak of its multiplexing buffer nothing serves it: the buffer is
+    /// not declared. Both are in bits/s.
+    Leak {
+        pid: u16,
+        rate: u64,
+        leak: u32,
+    },
 }
 
 impl PacketWarning {
@@ -120,7 +134,8 @@ impl ProgramWarning {
 }
 
 impl Warning {
-    /// Whether it says that something is lost: the stream is damaged, or a part of it or of what was asked for is left out.
+    /// Returns whether it says that something is lost: the stream is damaged, or a part of it or of what was asked for is
+    /// left out.
     #[tactic(auto, unfolding(crate::specs::Warnings::is_damage))]
     pub fn is_damage(self) -> bool
         ensures { result ≡ spec.is_damage self }
@@ -139,6 +154,8 @@ impl Warning {
             Warning::UnreadNetwork => true,
             Warning::Information(_) => true,
             Warning::MapMoved { .. } => false,
+            Warning::HeaderBuffer { .. } => false,
+            Warning::Leak { .. } => false,
         }
     }
 }

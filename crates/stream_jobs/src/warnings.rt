@@ -1,7 +1,9 @@
 //! The warnings about the packets and the streams of a job.
 
-ghost use Rattle.std.specs.Prelude.{◌≡◌, ◌++◌, IfOk, OnOk, map, flat_map, option_to_list};
+ghost use Rattle.std.specs.Prelude.{◌≡◌, ◌++◌, ◌∷◌, [], IfOk, OnOk, List, length, map, flat_map, option_to_list};
 ghost use Rattle.demux.specs.Shown.{finding_view};
+ghost use Rattle.demux.specs.Views.{FindingView};
+ghost use Rattle.stream_programs.specs.PesCounts.{AreCounts};
 ghost use Rattle.stream_jobs.specs.Warnings as spec;
 ghost use Rattle.stream_jobs.specs.declared.warning.Warning.TheVariants.{Table, Units};
 
@@ -12,7 +14,7 @@ use psi_tables::Program;
 use std::alloc::{AllocError, Global};
 use stream_programs::{
     Association, MapPart, TableOmission, association_change, found_programs, map_change,
-    mapped_pids, pes_count, stray_pids,
+    mapped_pids, pes_counts, stray_pids,
 };
 use stream_units::{UnitWarning, unit_warnings};
 
@@ -149,21 +151,32 @@ fn known_pids(
     Ok(pids)
 }
 
-// Appends the warnings about PES packets of these PIDs.
+// Appends the warning about PES packets of a PID.
 #[tactic(auto, unfolding(crate::specs::Warnings::stray_warning))]
+fn push_stray(pid: u16, counts: &[usize], warnings: &mut Vec<Warning>) -> Result<(), AllocError>
+    requires { length counts.now ≡ 65_536 }
+    ensures { (findings : List FindingView) → AreCounts counts.now findings →
+        OnOk result (warnings.new.items ≡ warnings.old.items ++ spec.stray_warning findings pid ∷ []) }
+{
+    warnings.push(Warning::StrayPes {
+        pid,
+        count: counts[pid as usize],
+    })?;
+    Ok(())
+}
+
+// Appends the warnings about PES packets of these PIDs.
 fn push_strays(
     pids: &[u16],
-    findings: &[Finding<'_>],
+    counts: &[usize],
     warnings: &mut Vec<Warning>,
 ) -> Result<(), AllocError>
-    ensures { OnOk result (warnings.new.items ≡ warnings.old.items
-        ++ map (spec.stray_warning (map finding_view findings.now)) pids.now) }
+    requires { length counts.now ≡ 65_536 }
+    ensures { (findings : List FindingView) → AreCounts counts.now findings →
+        OnOk result (warnings.new.items ≡ warnings.old.items ++ map (spec.stray_warning findings) pids.now) }
 {
     for pid in pids {
-        warnings.push(Warning::StrayPes {
-            pid: *pid,
-            count: pes_count(*pid, findings),
-        })?;
+        push_stray(*pid, counts, warnings)?;
     }
     Ok(())
 }
@@ -181,7 +194,9 @@ pub(crate) fn push_stray_warnings(
         ++ spec.stray_warnings without.now association.now (map finding_view findings.now)) }
 {
     let known = known_pids(alloc, without, association, findings)?;
-    push_strays(&stray_pids(alloc, &known, findings)?, findings, warnings)
+    let strays = stray_pids(alloc, &known, findings)?;
+    let counts = pes_counts(alloc, findings)?;
+    push_strays(&strays, &counts, warnings)
 }
 
 // Appends the warnings about the units of a PID.

@@ -7,6 +7,7 @@ pub mod LastServices
 pub mod FirstNetworks
 pub mod NetworkSteps
 pub mod ProgramSteps
+pub mod PidLists
 pub mod TakenPids
 pub mod LeastFreePid
 pub mod AssignedPids
@@ -16,3 +17,4 @@ pub mod Sharers
 pub mod DistinctPids
 pub mod TablesAlone
 pub mod StrayPids
+pub mod PesCounts

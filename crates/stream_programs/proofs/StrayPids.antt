@@ -1,7 +1,7 @@
 -- PES packets of no program, finding by finding.
-use Rattle.std.proofs.Common.{◌≡◌, ◌≤◌, ◌<◌, ℕ, ◌+◌, List, [], ◌∷◌, ◌++◌, length, map, drop, get_or, refl, arith}
+use Rattle.std.proofs.Common.{◌≡◌, ◌≤◌, ◌<◌, ℕ, ◌+◌, List, ◌++◌, length, map, drop, get_or, refl}
 use Rattle.demux.specs.Views.{FindingView}
-use Rattle.stream_programs.specs.StrayPids.{stray_pid, stray_pids, pes_number, pes_count}
+use Rattle.stream_programs.specs.StrayPids.{stray_pid, stray_pids}
 use Rattle.stream_programs.proofs.Slices.{more, done}
 
 pub strays_more : {X : Type 0} (view : X → FindingView) (known : List ℕ) (i : ℕ) (fs : List X) (f : X) (found after : List ℕ) → i < length fs → f ≡ get_or fs i f →
@@ -14,12 +14,3 @@ pub strays_end : {X : Type 0} (view : X → FindingView) (known : List ℕ) (i :
     stray_pids known found (map view (drop i fs)) ≡ found
 unfolding stray_pids
 strays_end view known i fs found over = rw (done view i fs over) refl
-
-pub count_more : {X : Type 0} (view : X → FindingView) (pid i : ℕ) (fs : List X) (f : X) (count one : ℕ) → i < length fs → f ≡ get_or fs i f → one ≡ pes_number pid (view f) →
-    count + pes_count pid (map view (drop i fs)) ≡ (count + one) + pes_count pid (map view (drop (i + 1) fs))
-unfolding pes_count
-count_more view pid i fs f count one below at is = rw (more view i fs f below at, is) (omega (arith))
-
-pub count_end : {X : Type 0} (view : X → FindingView) (pid i : ℕ) (fs : List X) (count : ℕ) → length fs ≤ i → count + pes_count pid (map view (drop i fs)) ≡ count
-unfolding pes_count
-count_end view pid i fs count over = rw (done view i fs over) (omega (arith))

@@ -6,7 +6,9 @@ pub mod Omissions
 pub mod Streams
 pub mod Programs
 pub mod FreePids
+pub mod PidLists
 pub mod StrayPids
+pub mod PesCounts
 pub mod PidAssignment
 pub mod ServiceDescriptions
 pub mod Services

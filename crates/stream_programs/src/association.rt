@@ -135,8 +135,8 @@ fn add_all<A: Allocator>(
     Ok(())
 }
 
-/// The programs of a stream, by what is found of it: those that the program association sections of the first one's
-/// version name. Where there is no such section in force there is no answer.
+/// Returns the programs of a stream, by its findings: the programs that program association sections of the first
+/// section's version name. `None` if no such section is in force.
 #[tactic(auto, unfolding(crate::specs::Association::association))]
 pub fn named_programs<A: Allocator>(
     alloc: A,
@@ -242,8 +242,8 @@ fn is_other<A: Allocator>(
     }
 }
 
-/// The packet in which the first program association section in force ends that says something else than the
-/// association: it has another version or transport_stream_id, or names a program's map on another PID.
+/// Returns the packet where the first program association section in force ends that differs from the association:
+/// it has another version or transport_stream_id, or names a program's map on another PID.
 pub fn association_change<A: Allocator>(
     association: &Association<A>,
     findings: &[Finding<'_, A>],

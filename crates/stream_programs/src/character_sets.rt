@@ -64,7 +64,7 @@ fn unread_character(byte: u8) -> char
     if byte < 0xa0 { byte as char } else { UNREAD }
 }
 
-/// The characters of a table that is not read.
+/// Returns the characters of a table that is not read.
 pub(crate) fn unread_characters<A: Allocator>(
     alloc: A,
     bytes: &[u8],
@@ -77,7 +77,7 @@ pub(crate) fn unread_characters<A: Allocator>(
         .collect(alloc)
 }
 
-/// The characters of a part of ISO/IEC 8859.
+/// Returns the characters of a part of ISO/IEC 8859.
 #[tactic(auto, unfolding(crate::specs::CharacterTables::by_part))]
 pub(crate) fn by_part<A: Allocator>(
     alloc: A,
@@ -190,7 +190,7 @@ fn next_character(wide: bool, first: u8, rest: &[u8]) -> (char, &[u8])
     }
 }
 
-/// The characters of ISO/IEC 10646 in two bytes each, if `wide`, else those of ISO/IEC 6937.
+/// Returns the characters of ISO/IEC 10646 in two bytes each, if `wide`, else those of ISO/IEC 6937.
 pub(crate) fn in_doubles<A: Allocator>(
     alloc: A,
     wide: bool,

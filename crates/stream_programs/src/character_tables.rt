@@ -1,6 +1,6 @@
-//! The character tables of EN 300 468, annex A: the characters of bytes 0xA0 to 0xFF, U+FFFD where there is none.
+//! The character tables of EN 300 468, annex A: the characters of bytes 0xA0 to 0xFF, U+FFFD for a byte without a character.
 
-/// ISO/IEC 6937 with the euro sign (figure A.1), without the diacritical marks 0xC1 to 0xCF, which stand before a letter.
+/// ISO/IEC 6937 with the euro sign (figure A.1), without the diacritical marks 0xC1 to 0xCF, which precede a letter.
 pub static ISO_6937: [char; 96] = [
     '\u{a0}', '\u{a1}', '\u{a2}', '\u{a3}', '\u{20ac}', '\u{a5}', '\u{fffd}', '\u{a7}', '\u{a4}',
     '\u{2018}', '\u{201c}', '\u{ab}', '\u{2190}', '\u{2191}', '\u{2192}', '\u{2193}', '\u{b0}',

@@ -3,15 +3,15 @@
 ghost use Rattle.std.specs.Prelude.{◌≡◌, IfSome, IfNone};
 ghost use Rattle.stream_programs.specs.FreePids as spec;
 
-/// Whether a PID is one of these.
+// Whether a PID is one of these.
 #[tactic(auto, unfolding(crate::specs::FreePids::is_taken))]
-pub(crate) fn is_taken(pid: u16, taken: &[u16]) -> bool
+fn is_taken(pid: u16, taken: &[u16]) -> bool
     ensures { result ≡ spec.is_taken pid taken.now }
 {
     taken.iter().any(|other| *other == pid)
 }
 
-/// The least PID from one on that is not taken, up to 8,190: 8,191 is that of null packets.
+/// Returns the least PID from `from` on that is not taken, up to 8,190: null packets have 8,191.
 pub fn free_pid(from: u16, taken: &[u16]) -> Option<u16>
     ensures least { IfSome result (λ pid. spec.IsLeastFree from taken.now pid) }
     ensures none { IfNone result (spec.AreTaken from 8191 taken.now) }

@@ -2,11 +2,11 @@
 //!
 //! The program association table in force names the programs (`specs/Association`), and the last program map table of
 //! each its streams (`specs/ProgramMaps`, `specs/Streams`, `specs/Programs`); the service description has its name
-//! (`specs/Services`), as characters (`specs/Texts`, `specs/CharacterTables`), and the network in which it began (`specs/Networks`);
+//! (`specs/Services`), as characters (`specs/Texts`, `specs/CharacterTables`), and its original network (`specs/Networks`);
 //! the network information table has its network (`specs/NetworkInformation`). Maps and
 //! PCRs are assigned PIDs that nothing else has (`specs/PidAssignment`); PES packets of no program are counted by PID
-//! (`specs/StrayPids`). What is left out of the tables is said, and in
-//! which packets they change. The laws say that the findings of PID 0 and of the maps' PIDs alone decide, and that no
+//! (`specs/StrayPids`). The omissions of the tables are
+//! reported, and the packets where they change. The laws say that the findings of PID 0 and of the maps' PIDs alone decide, and that no
 //! two PIDs are equal.
 #![tactic(auto)]
 
@@ -20,6 +20,8 @@ mod network_information;
 mod networks;
 mod omission;
 mod pid_assignment;
+mod pid_counts;
+mod pid_list;
 mod program_list;
 mod program_map;
 mod programs;
@@ -39,10 +41,11 @@ pub use network_information::{FoundNetwork, network_surplus, stream_network};
 pub use networks::original_network;
 pub use omission::TableOmission;
 pub use pid_assignment::{ProgramPids, assigned_pids};
+pub use pid_counts::pes_counts;
 pub use program_map::{MapPart, last_program_map, map_change};
 pub use programs::{FoundProgram, FoundPrograms, found_programs};
 pub use sections::section_on;
 pub use services::{FoundService, last_service, length_prefixed};
-pub use strays::{mapped_pids, pes_count, stray_pids};
+pub use strays::{mapped_pids, stray_pids};
 pub use streams::FoundStream;
 pub use texts::{decode_text, has_unread};

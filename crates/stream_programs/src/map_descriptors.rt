@@ -85,7 +85,7 @@ fn keeps_streams(streams: Streams<'_>, others: Streams<'_>) -> bool
     true
 }
 
-/// Whether a table has all descriptors of another one: of the program, and of each stream that both name.
+/// Returns whether a table has all descriptors of another one: of the program, and of each stream that both name.
 #[tactic(auto, unfolding(crate::specs::ProgramMaps::keeps_descriptors))]
 pub(crate) fn keeps_descriptors(one: &Pmt<'_>, other: &Pmt<'_>) -> bool
     ensures { result ≡ spec.keeps_descriptors (pmt_view one.now) (pmt_view other.now) }

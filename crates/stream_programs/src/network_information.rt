@@ -206,8 +206,8 @@ fn known_stream<A: Allocator>(transport_stream_id: u16, findings: &[Finding<'_, 
     }
 }
 
-/// What the first network information section in force says that has this transport stream, with descriptors that a
-/// description can have.
+/// Returns what the first network information section in force says that has this transport stream, with descriptors
+/// that a description can have.
 #[tactic(auto, unfolding(crate::specs::NetworkInformation::stream_network))]
 pub fn stream_network<'f, A: Allocator>(
     transport_stream_id: u16,
@@ -332,9 +332,9 @@ fn surplus_from<A: Allocator>(
     None
 }
 
-/// The packet in which the first network information section of the actual network ends that `stream_network` does not
-/// say: one that is not in force or can't be read, one on another PID, one of another network, or one with other or
-/// more descriptors or transport streams.
+/// Returns the packet where the first network information section of the actual network ends that `stream_network` does
+/// not say: a section that is not in force or can't be read, on another PID, of another network, or with other or more
+/// descriptors or transport streams.
 #[tactic(auto, unfolding(crate::specs::NetworkInformation::network_surplus))]
 pub fn network_surplus<A: Allocator>(
     transport_stream_id: u16,

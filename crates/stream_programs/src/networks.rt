@@ -1,4 +1,4 @@
-//! The network in which a stream's services began (EN 300 468, 5.2.3).
+//! The original network of a stream's services (EN 300 468, 5.2.3).
 
 ghost use Rattle.std.specs.Prelude.{◌≡◌, map};
 ghost use Rattle.demux.specs.Shown.{finding_view};
@@ -19,7 +19,7 @@ fn network_found<A: Allocator>(finding: &Finding<'_, A>) -> Option<u16>
     }
 }
 
-/// original_network_id of the first service description section in force.
+/// Returns original_network_id of the first service description section in force.
 pub fn original_network<A: Allocator>(findings: &[Finding<'_, A>]) -> Option<u16>
     ensures { result ≡ spec.network (map finding_view findings.now) }
 {

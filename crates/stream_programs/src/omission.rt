@@ -1,4 +1,4 @@
-//! What is left out of the tables of a stream.
+//! Omissions from the tables of a stream.
 
 ghost use Rattle.std.specs.Prelude.{◌≡◌};
 ghost use Rattle.stream_programs.specs.Omissions.{is_loss};
@@ -49,8 +49,8 @@ pub enum TableOmission {
 }
 
 impl TableOmission {
-    /// Whether a receiver loses something by it: a stream that is there. A program without a map or without streams has none,
-    /// and what is not scrambled needs no conditional access; what is said of rates and buffers is not true of another multiplex.
+    /// Returns whether a receiver loses something by it: a stream of the input. A program without a map or without streams has
+    /// no stream, clear streams need no conditional access, and rates and buffers of the input's multiplex are not true of another.
     pub fn is_loss(self) -> bool
         ensures { result ≡ is_loss self }
     {

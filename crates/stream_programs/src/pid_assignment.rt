@@ -3,10 +3,10 @@
 //! A PID of a multiplex has the packets of one table, one stream or one program's PCR. Streams as they come may have
 //! their PCR on a stream's PID, two programs one PID of maps, or a map one below 32.
 
-ghost use Rattle.std.specs.Prelude.{◌≡◌, ◌++◌, [], IfOk, map, option_map};
+ghost use Rattle.std.specs.Prelude.{◌≡◌, ◌++◌, [], IfOk, List, map, option_map, ℕ};
 ghost use Rattle.stream_programs.specs.PidAssignment as spec;
 
-use crate::free_pids::{free_pid, is_taken};
+use crate::pid_list::PidList;
 use crate::programs::{FoundProgram, FoundPrograms};
 use crate::streams::{FoundStream, is_reserved};
 use std::alloc::{AllocError, Allocator};
@@ -56,13 +56,14 @@ fn joined<A: Allocator>(alloc: A, one: &[u16], other: &[u16]) -> Result<Vec<u16,
     Ok(pids)
 }
 
-// The PID of a map, which is none of the streams' and none assigned before; a new one is none of those taken.
-#[tactic(auto, unfolding(crate::specs::PidAssignment::assigned_map_pid))]
-fn assigned_map_pid(streams: &[u16], given: &[u16], taken: &[u16], pid: u16) -> Option<u16>
-    ensures { result ≡ spec.assigned_map_pid streams.now given.now taken.now pid }
+// The PID of a map, which is none of the streams' and none assigned before (`own`); a new one is none of those taken.
+#[tactic(auto, unfolding(crate::specs::PidAssignment::assigned_map_pid), using(crate::proofs::PidLists::taken_both))]
+fn assigned_map_pid<A: Allocator>(own: &PidList<A>, taken: &PidList<A>, pid: u16) -> Option<u16>
+    ensures { (streams given : List ℕ) → own.now ≡ streams ++ given →
+        result ≡ spec.assigned_map_pid streams given taken.now pid }
 {
-    if is_reserved(pid) || is_taken(pid, streams) || is_taken(pid, given) {
-        free_pid(32, taken)
+    if is_reserved(pid) || own.has(pid) {
+        taken.free_from(32)
     } else {
         Some(pid)
     }
@@ -77,14 +78,17 @@ fn assigned_map_pids<A: Allocator + Copy>(
     ensures { IfOk result (λ places. option_map (λ pids. pids.items) places
         ≡ spec.assigned_map_pids streams.now maps.now [] maps.now) }
 {
-    let mut taken = joined(alloc, streams, maps)?;
+    let mut own = PidList::of(alloc, streams)?;
+    let mut taken = PidList::of(alloc, streams)?;
+    taken.add_all(maps)?;
     let mut given = Vec::new(alloc);
     for pid in maps {
-        let Some(place) = assigned_map_pid(streams, &given, &taken, *pid) else {
+        let Some(place) = assigned_map_pid(&own, &taken, *pid) else {
             return Ok(None);
         };
         given.push(place)?;
-        taken.push(place)?;
+        own.add(place)?;
+        taken.add(place)?;
     }
     Ok(Some(given))
 }
@@ -98,13 +102,14 @@ fn with_pcr_pids<A: Allocator + Copy>(
     ensures { IfOk result (λ places. option_map (λ given. given.items) places ≡ spec.with_pcr_pids
         (streams.now ++ maps.now) [] maps.now) }
 {
-    let mut used = joined(alloc, streams, maps)?;
+    let mut used = PidList::of(alloc, streams)?;
+    used.add_all(maps)?;
     let mut given = Vec::new(alloc);
     for map_pid in maps {
-        let Some(pcr_pid) = free_pid(256, &used) else {
+        let Some(pcr_pid) = used.free_from(256) else {
             return Ok(None);
         };
-        used.push(pcr_pid)?;
+        used.add(pcr_pid)?;
         given.push(ProgramPids {
             map_pid: *map_pid,
             pcr_pid,
@@ -113,10 +118,10 @@ fn with_pcr_pids<A: Allocator + Copy>(
     Ok(Some(given))
 }
 
-/// For each program in order a PID of its map and one of its PCR, so that no two of these and the streams' PIDs are
-/// equal (`pids_are_distinct`). A map stays on its PID where that is 32 to 8,190 and neither a stream's nor an earlier
-/// program's map's; else it gets the least PID from 32 on that no stream and no map has. Each PCR gets the least one
-/// from 256 on that is left. `None` where there is none left.
+/// Returns for each program in order a PID for its map and a PID for its PCR, so that no two of these and the streams'
+/// PIDs are equal (`pids_are_distinct`). A map keeps its PID if that is 32 to 8,190 and neither a stream nor an earlier
+/// program's map has it; otherwise it gets the least PID from 32 on that no stream and no map has. Each PCR gets the least
+/// free PID from 256 on. `None` if no PID is free.
 #[tactic(auto, unfolding(crate::specs::PidAssignment::assigned_pids))]
 pub fn assigned_pids<A: Allocator + Copy>(
     alloc: A,

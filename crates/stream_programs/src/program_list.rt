@@ -32,7 +32,7 @@ impl<A: Allocator> Model for ProgramList<A> {
 }
 
 impl<A: Allocator> ProgramList<A> {
-    /// No programs.
+    /// Returns no programs.
     pub fn new(alloc: A) -> ProgramList<A>
         ensures { result ≡ [] }
     {
@@ -49,7 +49,7 @@ impl<A: Allocator> ProgramList<A> {
         number == 0 || self.numbers[number as usize]
     }
 
-    /// The next entry of a table.
+    /// Returns the next entry of a table.
     #[tactic(auto, unfolding(crate::specs::Association::with_program))]
     pub fn add(&mut self, program: Program) -> Result<(), AllocError>
         ensures { OnOk result (self.new ≡ with_program self.old program) }
@@ -62,7 +62,7 @@ impl<A: Allocator> ProgramList<A> {
         Ok(())
     }
 
-    /// The programs alone.
+    /// Returns the programs alone.
     pub fn into_programs(self) -> Vec<Program, A>
         ensures { result.items ≡ self }
     {

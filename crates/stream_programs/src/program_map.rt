@@ -59,7 +59,7 @@ fn pmt_found<'f, A: Allocator>(program: Program, finding: &'f Finding<'_, A>) ->
     }
 }
 
-/// The program map table of a program: the last one in force that is found on its PID and has its number.
+/// Returns the program map table of a program: the last one in force that is found on its PID and has its number.
 pub fn last_program_map<'f, A: Allocator>(
     program: Program,
     findings: &'f [Finding<'_, A>],
@@ -155,8 +155,8 @@ fn first_differing<A: Allocator>(
     None
 }
 
-/// The packet in which a program map section in force of this program ends that is other in this part than the last one;
-/// of several the first. The last one counts all the same.
+/// Returns the packet where the first program map section in force of this program ends that differs in this part from the
+/// last section. The last section is used regardless.
 #[tactic(auto, unfolding(crate::specs::ProgramMaps::map_change))]
 pub fn map_change<A: Allocator>(
     part: MapPart,

@@ -30,7 +30,7 @@ pub struct FoundProgram<A: Allocator = Global> {
     pub map_pid: u16,
     /// As declared: 0x1FFF where it has no PCR.
     pub pcr_pid: u16,
-    /// Its whole descriptors but for those of conditional access and of a multiplex.
+    /// Its whole descriptors except descriptors of conditional access and of a multiplex.
     pub descriptors: Vec<u8, A>,
 }
 
@@ -53,12 +53,12 @@ impl<A: Allocator> Model for FoundProgram<A> {
 pub struct FoundPrograms<A: Allocator = Global> {
     /// In the order of the program association table.
     pub programs: Vec<FoundProgram<A>, A>,
-    /// By program, then in the order of its program map table. No two have the same PID: one that several programs have is the
-    /// first one's.
+    /// By program, then in the order of its program map table. No two have the same PID: a stream that several programs have
+    /// belongs to the first.
     pub streams: Vec<FoundStream<A>, A>,
     /// Streams of sections, each on a PID that no stream and none of these has before it.
     pub tables: Vec<FoundStream<A>, A>,
-    /// What is left out, program by program; all streams of sections are.
+    /// The omissions, program by program; all streams of sections are left out.
     pub left_out: Vec<TableOmission, A>,
 }
 
@@ -353,8 +353,8 @@ impl<A: Allocator + Copy> FoundPrograms<A> {
     }
 }
 
-/// The programs of a stream, by what is found of it: of those that are named the ones with a program map table that has
-/// a stream, each as its last table says. Of streams with one PID the first is kept, and programs with its program's clock share it.
+/// Returns the programs of a stream, by its findings: the named programs with a program map table that has a stream, each
+/// as its last table says. The first of streams with one PID is kept, and programs with its program's clock share it.
 #[tactic(auto, unfolding(crate::specs::Programs::programs_of))]
 pub fn found_programs<A: Allocator + Copy>(
     alloc: A,

@@ -7,7 +7,7 @@ ghost use Rattle.stream_programs.specs.Sections as spec;
 use demux::{Finding, What};
 use std::alloc::Allocator;
 
-/// The bytes of a section that is found on a PID.
+/// Returns the bytes of a section that is found on a PID.
 #[tactic(auto, unfolding(crate::specs::Sections::section_on, crate::specs::Sections::section_bytes))]
 pub fn section_on<'f, A: Allocator>(pid: u16, finding: &'f Finding<'_, A>) -> Option<&'f [u8]>
     ensures { option_map (λ bytes. bytes.now) result ≡ spec.section_on pid (finding_view finding.now) }
@@ -21,7 +21,7 @@ pub fn section_on<'f, A: Allocator>(pid: u16, finding: &'f Finding<'_, A>) -> Op
     }
 }
 
-/// Whether a finding is of a PID: one that is not has no section of it.
+/// Returns whether a finding is of a PID: one that is not has no section of it.
 #[tactic(auto, unfolding(crate::specs::Sections::section_on))]
 pub(crate) fn is_on<A: Allocator>(pid: u16, finding: &Finding<'_, A>) -> bool
     ensures { result ≡ false → spec.section_on pid (finding_view finding.now) ≡ None }

@@ -42,7 +42,7 @@ fn sdt_in(bytes: &[u8]) -> Option<Sdt<'_>>
     }
 }
 
-/// The table that a finding has.
+/// Returns the table that a finding has.
 #[tactic(auto, unfolding(crate::specs::ServiceDescriptions::sdt_found))]
 pub(crate) fn sdt_found<'f, A: Allocator>(finding: &'f Finding<'_, A>) -> Option<Sdt<'f>>
     ensures { option_map sdt_view result ≡ spec.sdt_found (finding_view finding.now) }

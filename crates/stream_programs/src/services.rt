@@ -24,7 +24,7 @@ pub struct FoundService<'f> {
     pub name: &'f [u8],
 }
 
-/// The bytes after a byte with their number, and what follows them, if there are as many.
+/// Returns the bytes after a byte with their number, and what follows them, if there are as many.
 #[tactic(auto, unfolding(crate::specs::Services::length_prefixed))]
 pub fn length_prefixed(bytes: &[u8]) -> Option<(&[u8], &[u8])>
     ensures { option_map (λ p. (p.0.now, p.1.now)) result ≡ spec.length_prefixed bytes.now }
@@ -129,7 +129,8 @@ fn service_found<'f, A: Allocator>(
     }
 }
 
-/// What the service descriptor of a program says, in the last service description section in force that has one.
+/// Returns what the service descriptor of a program says, in the last service description section in force that
+/// has one.
 pub fn last_service<'f, A: Allocator>(
     number: u16,
     findings: &'f [Finding<'_, A>],

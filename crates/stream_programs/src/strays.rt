@@ -1,14 +1,15 @@
 //! PIDs with PES packets that no program has.
 
-ghost use Rattle.std.specs.Prelude.{◌≡◌, ◌≤◌, ◌++◌, [], IfOk, OnOk, flat_map, map, option_to_list};
-ghost use Rattle.demux.specs.Shown.{finding_view, what_view};
+ghost use Rattle.std.specs.Prelude.{◌≡◌, ◌++◌, [], IfOk, OnOk, flat_map, map, option_to_list};
+ghost use Rattle.demux.specs.Shown.{finding_view};
 ghost use Rattle.stream_programs.specs.StrayPids as spec;
 
-use crate::free_pids::is_taken;
 use crate::omission::TableOmission;
+use crate::pid_counts::is_pes;
+use crate::pid_list::PidList;
 use crate::programs::FoundPrograms;
 use crate::streams::FoundStream;
-use demux::{Finding, What};
+use demux::Finding;
 use std::alloc::{AllocError, Allocator};
 
 // Appends the PIDs of streams.
@@ -67,7 +68,7 @@ fn push_omissions<A: Allocator>(
     Ok(())
 }
 
-/// The PIDs of the streams of programs, also of those that are left out.
+/// Returns the PIDs of the streams of programs, also of streams that are left out.
 pub fn mapped_pids<A: Allocator>(
     alloc: A,
     found: &FoundPrograms<A>,
@@ -80,26 +81,23 @@ pub fn mapped_pids<A: Allocator>(
     Ok(pids)
 }
 
-#[tactic(auto, unfolding(crate::specs::StrayPids::is_pes))]
-fn is_pes<A: Allocator>(what: &What<'_, A>) -> bool
-    ensures { result ≡ spec.is_pes (what_view what.now) }
-{
-    matches!(what, What::Pes { .. })
-}
-
 // The PID of a PES packet that is none of these.
 #[tactic(auto, unfolding(crate::specs::StrayPids::stray_pid, crate::specs::StrayPids::unknown_pid))]
-fn stray_pid<A: Allocator>(known: &[u16], found: &[u16], finding: &Finding<'_, A>) -> Option<u16>
+fn stray_pid<A: Allocator>(
+    known: &PidList<A>,
+    found: &PidList<A>,
+    finding: &Finding<'_, A>,
+) -> Option<u16>
     ensures { option_to_list result ≡ spec.stray_pid known.now found.now (finding_view finding.now) }
 {
     if !is_pes(&finding.what) {
         return None;
     }
     let pid = finding.pid?;
-    if is_taken(pid, known) {
+    if known.has(pid) {
         return None;
     }
-    if is_taken(pid, found) {
+    if found.has(pid) {
         return None;
     }
     Some(pid)
@@ -107,20 +105,33 @@ fn stray_pid<A: Allocator>(known: &[u16], found: &[u16], finding: &Finding<'_, A
 
 // Appends the PID of a PES packet that is none of these.
 fn push_stray<A: Allocator>(
-    known: &[u16],
+    known: &PidList<A>,
     finding: &Finding<'_, A>,
-    found: &mut Vec<u16, A>,
+    found: &mut PidList<A>,
 ) -> Result<(), AllocError>
-    ensures { OnOk result (found.new.items ≡ found.old.items
-        ++ spec.stray_pid known.now found.old.items (finding_view finding.now)) }
+    ensures { OnOk result (found.new ≡ found.old ++ spec.stray_pid known.now found.old (finding_view finding.now)) }
 {
     if let Some(pid) = stray_pid(known, found, finding) {
-        found.push(pid)?;
+        found.add(pid)?;
     }
     Ok(())
 }
 
-/// The PIDs with PES packets that are none of these, each once, in the order of their first PES packet.
+// Appends the PIDs of PES packets that are none of these, each once.
+fn push_strays<A: Allocator>(
+    known: &PidList<A>,
+    findings: &[Finding<'_, A>],
+    found: &mut PidList<A>,
+) -> Result<(), AllocError>
+    ensures { OnOk result (found.new ≡ spec.stray_pids known.now found.old (map finding_view findings.now)) }
+{
+    for finding in findings {
+        push_stray(known, finding, found)?;
+    }
+    Ok(())
+}
+
+/// Returns the PIDs with PES packets that are none of these, each once, in the order of their first PES packet.
 pub fn stray_pids<A: Allocator + Copy>(
     alloc: A,
     known: &[u16],
@@ -128,33 +139,8 @@ pub fn stray_pids<A: Allocator + Copy>(
 ) -> Result<Vec<u16, A>, AllocError>
     ensures { IfOk result (λ found. found.items ≡ spec.stray_pids known.now [] (map finding_view findings.now)) }
 {
-    let mut found = Vec::new(alloc);
-    for finding in findings {
-        push_stray(known, finding, &mut found)?;
-    }
-    Ok(found)
-}
-
-// 1 for a PES packet of a PID, else 0.
-#[tactic(auto, unfolding(crate::specs::StrayPids::pes_number))]
-fn pes_number<A: Allocator>(pid: u16, finding: &Finding<'_, A>) -> usize
-    ensures value { result ≡ spec.pes_number pid (finding_view finding.now) }
-    ensures bound { result ≤ 1 }
-{
-    if finding.pid == Some(pid) && is_pes(&finding.what) {
-        1
-    } else {
-        0
-    }
-}
-
-/// The number of PES packets of a PID.
-pub fn pes_count<A: Allocator>(pid: u16, findings: &[Finding<'_, A>]) -> usize
-    ensures { result ≡ spec.pes_count pid (map finding_view findings.now) }
-{
-    let mut count = 0;
-    for finding in findings {
-        count += pes_number(pid, finding);
-    }
-    count
+    let listed = PidList::of(alloc, known)?;
+    let mut found = PidList::new(alloc);
+    push_strays(&listed, findings, &mut found)?;
+    Ok(found.into_pids())
 }

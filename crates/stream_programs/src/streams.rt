@@ -10,16 +10,17 @@ use std::marker::Model;
 
 /// An elementary stream of a program.
 ///
-/// Several programs may have it (regional services with one picture): it is the first one's that names it, and the others share it.
+/// Several programs may have it (regional services with one picture): it belongs to the first program that names it, and later
+/// programs share it.
 #[derive(Drop)]
 pub struct FoundStream<A: Allocator = Global> {
     /// program_number of its program.
     pub program: u16,
     pub stream_type: u8,
     pub pid: u16,
-    /// Its whole descriptors but for those of conditional access and of a multiplex.
+    /// Its whole descriptors except descriptors of conditional access and of a multiplex.
     pub descriptors: Vec<u8, A>,
-    /// The program_numbers of the other programs whose program map tables name it.
+    /// The program_numbers of further programs whose program map tables name it.
     pub shared_with: Vec<u16, A>,
 }
 
@@ -53,7 +54,7 @@ fn has_no_pes(stream_type: u8) -> bool
         || stream_type == 0x86
 }
 
-/// Whether a PID is kept for tables (below 32) or null packets (ISO/IEC 13818-1, table 2-3; EN 300 468, 5.1.3).
+/// Returns whether a PID is kept for tables (below 32) or null packets (ISO/IEC 13818-1, table 2-3; EN 300 468, 5.1.3).
 #[tactic(auto, unfolding(crate::specs::Streams::is_reserved))]
 pub(crate) fn is_reserved(pid: u16) -> bool
     ensures { result ≡ spec.is_reserved pid }
@@ -61,7 +62,7 @@ pub(crate) fn is_reserved(pid: u16) -> bool
     pid < 32 || pid >= 8191
 }
 
-/// The program of the stream that has a PID.
+/// Returns the program of the stream that has a PID.
 pub(crate) fn holder<A: Allocator>(pid: u16, streams: &[FoundStream<A>]) -> Option<u16>
     ensures { result ≡ spec.holder pid streams.now }
 {
@@ -74,7 +75,7 @@ pub(crate) fn holder<A: Allocator>(pid: u16, streams: &[FoundStream<A>]) -> Opti
 }
 
 impl<A: Allocator> FoundStream<A> {
-    /// Whether a program shares it.
+    /// Returns whether a program shares it.
     #[tactic(auto, unfolding(crate::specs::Streams::is_shared_with))]
     pub fn is_shared_with(&self, number: u16) -> bool
         ensures { result ≡ spec.is_shared_with number self.now }
@@ -82,7 +83,7 @@ impl<A: Allocator> FoundStream<A> {
         self.shared_with.iter().any(|other| *other == number)
     }
 
-    /// Whether a program has it, as its own or a shared one.
+    /// Returns whether a program has it, as its own or a shared one.
     #[tactic(auto, unfolding(crate::specs::Streams::is_stream_of))]
     pub fn is_stream_of(&self, number: u16) -> bool
         ensures { result ≡ spec.is_stream_of number self.now }
@@ -108,21 +109,21 @@ impl<A: Allocator> FoundStream<A> {
     }
 }
 
-/// Whether one of these streams is as another map's entry says.
+/// Returns whether one of these streams is as another map's entry says.
 pub(crate) fn has_alike<A: Allocator>(streams: &[FoundStream<A>], other: &FoundStream<A>) -> bool
     ensures { result ≡ list_any (spec.is_alike other.now) streams.now }
 {
     streams.iter().any(|stream| other.is_alike(stream))
 }
 
-/// Whether one of these streams is a program's, or shared by it.
+/// Returns whether one of these streams is a program's, or shared by it.
 pub(crate) fn has_stream_of<A: Allocator>(streams: &[FoundStream<A>], number: u16) -> bool
     ensures { result ≡ list_any (spec.is_stream_of number) streams.now }
 {
     streams.iter().any(|stream| stream.is_stream_of(number))
 }
 
-/// A program shares the stream of a PID.
+/// Returns a program shares the stream of a PID.
 pub(crate) fn share<A: Allocator>(
     number: u16,
     pid: u16,
@@ -139,7 +140,7 @@ pub(crate) fn share<A: Allocator>(
     Ok(())
 }
 
-/// Why a stream is left out, where its PID has this holder.
+/// Returns why a stream is left out, where its PID has this holder.
 #[tactic(auto, unfolding(crate::specs::Streams::omission_of))]
 pub(crate) fn omission_of(
     program: u16,

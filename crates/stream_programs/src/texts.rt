@@ -135,7 +135,7 @@ fn characters<A: Allocator + Copy>(alloc: A, bytes: &[u8]) -> Result<Vec<char, A
         .collect(alloc)
 }
 
-/// Whether a character of a text of service information can't be read.
+/// Returns whether a character of a text of service information can't be read.
 #[tactic(auto, unfolding(crate::specs::Texts::has_unread))]
 pub fn has_unread<A: Allocator>(alloc: A, bytes: &[u8]) -> Result<bool, AllocError>
     ensures { IfOk result (λ has. has ≡ spec.has_unread bytes.now) }
@@ -195,12 +195,12 @@ fn fitting<A: Allocator>(
     Ok(text)
 }
 
-/// A text of service information as characters, without control characters, cut before the first character with which
-/// it would take more than `max_bytes` bytes as a descriptor writes it (`dvb_tables::Text`).
+/// Returns a text of service information as characters, without control characters, cut before the first character that
+/// would make it longer than `max_bytes` bytes as a descriptor writes it (`dvb_tables::Text`).
 ///
-/// The first byte names a table: parts of ISO/IEC 8859, ISO/IEC 10646, or UTF-8. Without one it is UTF-8 where all of it
-/// is, and else ISO/IEC 6937. A question mark stands for each character that can't be read: of a table that is none of
-/// these, or that the table does not have.
+/// The first byte names a table: parts of ISO/IEC 8859, ISO/IEC 10646, or UTF-8. A text without a table is UTF-8 if all of
+/// it is, and otherwise ISO/IEC 6937. A question mark replaces each character that can't be read: from any other table, or
+/// missing in its table.
 #[tactic(auto, unfolding(crate::specs::Texts::decode_text), using(crate::proofs::FittingText::decoded_within))]
 pub fn decode_text<A: Allocator + Copy>(
     alloc: A,

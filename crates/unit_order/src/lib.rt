@@ -1,4 +1,4 @@
-//! The units of several streams in the order of their decoding times.
+//! Units of many streams in the order of their decoding times.
 #![tactic(auto)]
 
 mod merging;

@@ -69,8 +69,8 @@ fn take_next<A: Allocator>(queues: &mut Vec<VecDeque<Unit<A>, A>, A>, k: usize) 
     queues[k].pop_front()
 }
 
-/// The units of up to 256 streams by their DTS, those of one DTS in the order of the streams, each with
-/// the number of its stream. A unit waits for those before it in its stream, whatever their DTS.
+/// Returns the units of up to 256 streams by their DTS, units of equal DTS in the order of the streams, each with
+/// the number of its stream. A unit waits for the units before it in its stream, whatever their DTS.
 pub fn merged<A: Allocator + Clone>(
     alloc: A,
     streams: Vec<VecDeque<Unit<A>, A>, A>,

@@ -1,0 +1,19 @@
+-- Whether the main buffer holds what waits: for no access units, and for one more.
+use Rattle.std.proofs.Common.{◌≡◌, ℕ, suc, ◌+◌, ◌&&◌, true, refl, add-one}
+use Rattle.std.specs.Prelude.{nat_le}
+use Rattle.unit_timing.specs.declared.framing.Framing.{Framing}
+use Rattle.stream_choice.specs.declared.needs.Needs.{Needs}
+use Rattle.stream_choice.specs.Frames.{framed_bytes, frames_hold}
+
+pub held_none : (needs : Needs) (f : Framing) (lead share : ℕ) → frames_hold needs f lead share 0 ≡ true
+unfolding frames_hold
+held_none needs f lead share = refl
+
+held_next : (needs : Needs) (f : Framing) (lead share i : ℕ) →
+    frames_hold needs f lead share (suc i) ≡ (frames_hold needs f lead share i && nat_le (framed_bytes needs f lead share (suc i)) needs.main)
+unfolding frames_hold
+held_next needs f lead share i = refl
+
+pub held_more : (needs : Needs) (f : Framing) (lead share i : ℕ) →
+    frames_hold needs f lead share (i + 1) ≡ (frames_hold needs f lead share i && nat_le (framed_bytes needs f lead share (i + 1)) needs.main)
+held_more needs f lead share i = rw (add-one i) (held_next needs f lead share i)

@@ -1,0 +1,32 @@
+-- Whether the main buffer of a stream holds what waits if access units are removed one by one (ISO/IEC 13818-1, 2.4.2.3).
+use Rattle.std.specs.Prelude.{ℕ, zero, suc, ◌+◌, ◌-◌, ◌*◌, ◌&&◌, min, max, nat_le, nat_lt, Bool, true, if◌then◌else◌}
+use Rattle.std.specs.Int.{div_ceil}
+use Rattle.unit_timing.specs.declared.framing.Framing.{Framing}
+use Rattle.stream_choice.specs.declared.needs.Needs.{Needs}
+use Rattle.stream_choice.specs.Buffers.{packets_of_share}
+
+-- the numbers are in the ranges of a description, and a unit has two access units or more
+unfoldable pub is_framing : Needs → Framing → Bool
+is_framing needs f = nat_lt 1 f.frames && nat_le f.frames 64 && nat_lt 0 f.frame && nat_le ((f.frames - 1) * f.frame) needs.interval
+    && nat_lt 0 f.frame_size && nat_le f.frame_size needs.size
+
+-- the bytes of later units that come within a lead: by their sizes, and by the packets of the share
+abbrev pub later_bytes : Needs → ℕ → ℕ → ℕ
+later_bytes needs lead share = min (div_ceil lead (max needs.interval 1) * (19 + needs.size)) (184 * packets_of_share lead share)
+
+-- how long after access unit i is removed the next unit is due, at most the lead
+abbrev pub ahead : Needs → Framing → ℕ → ℕ → ℕ
+ahead needs f lead i = min (needs.interval - i * f.frame) lead
+
+-- what waits when i access units of a unit have been removed
+unfoldable pub framed_bytes : Needs → Framing → ℕ → ℕ → ℕ → ℕ
+framed_bytes needs f lead share i = (f.frames - i) * f.frame_size
+    + (if nat_lt (ahead needs f lead i) lead then later_bytes needs (lead - ahead needs f lead i) share else 0)
+
+-- the main buffer holds it for 1, 2, .. access units, up to the number
+unfoldable pub frames_hold : Needs → Framing → ℕ → ℕ → ℕ → Bool
+frames_hold needs f lead share zero = true
+frames_hold needs f lead share (suc i) = frames_hold needs f lead share i && nat_le (framed_bytes needs f lead share (suc i)) needs.main
+
+abbrev pub keeps_framing : Needs → Framing → ℕ → ℕ → Bool
+keeps_framing needs f lead share = is_framing needs f && frames_hold needs f lead share (f.frames - 1)

@@ -1,0 +1,91 @@
+//! Whether the main buffer of a stream holds what waits if access units are removed one by one (ISO/IEC 13818-1,
+//! 2.4.2.3).
+
+ghost use Rattle.std.specs.Prelude.{◌≡◌, ◌<◌, ◌^◌, ◌&&◌, nat_le};
+ghost use Rattle.stream_choice.specs.Frames as spec;
+
+use crate::needs::Needs;
+use unit_timing::framing::Framing;
+use unit_timing::shares::PARTS;
+
+// Whether the numbers are in the ranges of a description, of two access units or more.
+#[tactic(auto, unfolding(crate::specs::Frames::is_framing))]
+fn is_framing(needs: Needs, framing: Framing) -> bool
+    ensures { result ≡ spec.is_framing needs framing }
+{
+    let others = u64::from(framing.frames.saturating_sub(1));
+    1 < framing.frames
+        && framing.frames <= 64
+        && 0 < framing.frame
+        && others * u64::from(framing.frame) <= u64::from(needs.interval)
+        && 0 < framing.frame_size
+        && framing.frame_size <= needs.size
+}
+
+// The most bytes of later units that come within a lead.
+fn later_bytes(needs: Needs, lead: u32, share: u64) -> u128
+    ensures value { result ≡ spec.later_bytes needs lead share }
+    ensures bound { result < 2 ^ 70 }
+{
+    let units = u128::from(lead.div_ceil(needs.interval.max(1)));
+    let packets = u128::from(lead) * u128::from(share) / u128::from(PARTS) + 2;
+    (units * (19 + u128::from(needs.size))).min(184 * packets)
+}
+
+// The bytes that wait when `gone` access units of a unit have been removed.
+#[tactic(auto, unfolding(crate::specs::Frames::framed_bytes))]
+fn framed_bytes(needs: Needs, framing: Framing, lead: u32, share: u64, gone: u8) -> u128
+    ensures { result ≡ spec.framed_bytes needs framing lead share gone }
+{
+    let left = u128::from(framing.frames.saturating_sub(gone)) * u128::from(framing.frame_size);
+    let passed = u64::from(gone) * u64::from(framing.frame);
+    let ahead = u64::from(needs.interval)
+        .saturating_sub(passed)
+        .min(u64::from(lead)) as u32;
+    if ahead < lead {
+        left + later_bytes(needs, lead - ahead, share)
+    } else {
+        left
+    }
+}
+
+// Whether the main buffer holds what waits when `gone` access units of a unit have been removed.
+fn holds_after(needs: Needs, framing: Framing, lead: u32, share: u64, gone: u8) -> bool
+    ensures { result ≡ nat_le (spec.framed_bytes needs framing lead share gone) needs.main }
+{
+    framed_bytes(needs, framing, lead, share, gone) <= u128::from(needs.main)
+}
+
+// Whether both hold.
+fn both(one: bool, other: bool) -> bool
+    ensures { result ≡ (one && other) }
+{
+    one && other
+}
+
+// Whether the main buffer holds what waits, for each number of access units up to `others`.
+fn frames_hold(needs: Needs, framing: Framing, lead: u32, share: u64, others: u8) -> bool
+    ensures { result ≡ spec.frames_hold needs framing lead share others }
+{
+    let mut holds = true;
+    for before in 0..others {
+        let fits = holds_after(needs, framing, lead, share, before + 1);
+        holds = both(holds, fits);
+    }
+    holds
+}
+
+/// Returns whether a stream of this lead and share may declare these access units: their numbers are in the ranges of a
+/// description, and the main buffer holds what waits, however many of a unit's access units have been removed.
+pub fn keeps_framing(needs: Needs, framing: Framing, lead: u32, share: u64) -> bool
+    ensures { result ≡ spec.keeps_framing needs framing lead share }
+{
+    is_framing(needs, framing)
+        && frames_hold(
+            needs,
+            framing,
+            lead,
+            share,
+            framing.frames.saturating_sub(1),
+        )
+}

@@ -1,0 +1,58 @@
+-- Warnings about the buffers that are declared of the streams of a job.
+use Rattle.std.specs.Prelude.{ℕ, ◌*◌, ◌/◌, ◌==◌, ◌||◌, ◌++◌, if◌then◌else◌, List, [], ◌∷◌, flat_map, zip, Option, Some, None, is_some, option_map, option_to_list}
+use Rattle.clock27.specs.Units.{slot_units_at_1bps}
+use Rattle.unit_timing.specs.Shares.{parts}
+use Rattle.unit_timing.specs.declared.multiplexing_buffer.MultiplexingBuffer.{MultiplexingBuffer}
+use Rattle.stream_choice.specs.declared.choice.Choice.{Choice}
+use Rattle.stream_coding.specs.Buffers.{buffers_of, given_buffers}
+use Rattle.stream_coding.specs.declared.buffers.PidBuffers.{PidBuffers}
+use Rattle.stream_units.specs.Declaration.{max_unit_size}
+use Rattle.stream_jobs.specs.declared.declarations.StreamChoice.{StreamChoice}
+use Rattle.stream_jobs.specs.declared.warning.Warning.{Warning}
+use Rattle.stream_jobs.specs.declared.warning.Warning.TheVariants as warning
+use Rattle.stream_jobs.specs.Declarations.{UnitCountsView, said_coding, coding_for}
+use Rattle.stream_jobs.specs.JobStreams.{TimedStreamView}
+
+-- 1. A buffer that a stream says of itself
+
+-- the size of the buffer that a stream says by its first unit, and the one that counts in its place
+abbrev pub said_size : TimedStreamView → ℕ
+said_size s = (buffers_of (said_coding s)).main
+
+abbrev pub counted_size : TimedStreamView → ℕ
+counted_size s = (buffers_of (coding_for s)).main
+
+-- they differ, and no buffers are asked for
+unfoldable pub header_warning : List PidBuffers → TimedStreamView → List Warning
+header_warning given s =
+    if is_some (given_buffers given s.pid) || said_size s == counted_size s then []
+    else warning.HeaderBuffer s.pid (said_size s) (max_unit_size s.units) (counted_size s) ∷ []
+
+abbrev pub header_warnings : List PidBuffers → List TimedStreamView → List Warning
+header_warnings given streams = flat_map (header_warning given) streams
+
+-- 2. A multiplexing buffer that nothing keeps
+
+-- the rate of the packets that a choice asks for, in bits a second
+unfoldable pub asked_rate : Choice → ℕ
+asked_rate c = c.share * slot_units_at_1bps / parts
+
+-- the leak of a multiplexing buffer that a stream has, and does not declare
+unfoldable pub unkept_leak : Option MultiplexingBuffer → Option MultiplexingBuffer → Option ℕ
+unkept_leak None kept = None
+unkept_leak (Some buffer) (Some other) = None
+unkept_leak (Some buffer) None = Some buffer.rbx
+
+unfoldable pub leak_warning : TimedStreamView × (UnitCountsView × StreamChoice) → Option Warning
+leak_warning s = option_map (λ leak. warning.Leak s.0.pid (asked_rate s.1.1.choice) leak) (unkept_leak s.1.0.multiplexing s.1.1.multiplexing)
+
+unfoldable pub leak_warnings_of : TimedStreamView × (UnitCountsView × StreamChoice) → List Warning
+leak_warnings_of s = option_to_list (leak_warning s)
+
+abbrev pub leak_warnings : List TimedStreamView → List UnitCountsView → List StreamChoice → List Warning
+leak_warnings streams all chosen = flat_map leak_warnings_of (zip streams (zip all chosen))
+
+-- 3. All of them
+
+abbrev pub buffer_warnings : List PidBuffers → List TimedStreamView → List UnitCountsView → List StreamChoice → List Warning
+buffer_warnings given streams all chosen = header_warnings given streams ++ leak_warnings streams all chosen

@@ -1,0 +1,25 @@
+use Rattle.std.proofs.Common.{◌≡◌, ℕ, ◌+◌, ◌-◌, ◌<◌, List, length, refl, sym, subst, arith}
+use Rattle.demux.specs.Shown.{finding_view}
+use Rattle.stream_programs.proofs.PesCounts.{CountsFrom, all_counted, counted, none_yet}
+use Rattle.stream_programs.proofs.pid_counts.pes_counts.Goals as goal
+
+pub findings-init : goal.findings-init
+findings-init g c = record {
+  inside = omega arith;
+  counts = none_yet (finding_view {A = g.row.A.Denot}) c.in_ok-counts.counts.items _ c.args.findings.now refl c.in_ok-counts.ensures;
+}
+
+pub findings-preserved : goal.findings-preserved
+findings-preserved g c =
+    let before : c.findings.left ≡ c.findings.left - 1 + 1 = omega (arith, c.findings-test.true) in
+    let inside : c.findings.left - 1 < length c.args.findings.now = omega (arith, c.findings-test.true, c.findings.invariant.inside) in
+    let next =
+    counted (finding_view {A = g.row.A.Denot}) c.findings.counts.items c.findings.left (c.findings.left - 1) c.args.findings.now c.index-findings-left.result before inside
+    c.index-findings-left.is c.count_pes.ensures.fits c.findings.invariant.counts in
+    record {
+      inside = omega (arith, inside);
+      counts = subst (λ (xs : List ℕ). CountsFrom (finding_view {A = g.row.A.Denot}) xs (c.findings.left - 1) c.args.findings.now) (sym c.count_pes.ensures.counts) next;
+    }
+
+pub returns : goal.returns
+returns g c = all_counted (finding_view {A = g.row.A.Denot}) c.findings.counts.items c.findings.left c.args.findings.now (omega (arith, c.findings-test.false)) c.findings.invariant.counts
