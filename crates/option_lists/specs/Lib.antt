@@ -1,3 +1,4 @@
 pub mod Lists
 pub mod NameLists
 pub mod JobValues
+pub mod Scaled

@@ -7,14 +7,14 @@ use devices::number_in;
 use std::alloc::{AllocError, Global};
 use stream_coding::{Buffers, PidBuffers};
 
-/// The parts of a text between commas.
+/// Returns the parts of a text between commas.
 pub fn comma_parts<'a>(alloc: Global, text: &'a str) -> Result<Vec<&'a str>, AllocError>
     ensures { IfOk result (λ parts. map (λ s. s.now) parts.items ≡ spec.comma_parts text.entry.now) }
 {
     text.split(',').collect(alloc)
 }
 
-/// The parts of a text between colons.
+/// Returns the parts of a text between colons.
 pub fn colon_parts<'a>(alloc: Global, text: &'a str) -> Result<Vec<&'a str>, AllocError>
     ensures { IfOk result (λ parts. map (λ s. s.now) parts.items ≡ spec.colon_parts text.entry.now) }
 {
@@ -36,7 +36,8 @@ fn numbers_of(alloc: Global, most: u16, texts: &[&str]) -> Result<Option<Vec<u16
     Ok(Some(numbers))
 }
 
-/// The numbers of a list, each up to `most`: an empty list where it is not given, none where a part is no such number.
+/// Returns the numbers of a list, each up to `most`: an empty list where it is not given, none where a part is no such
+/// number.
 #[tactic(auto, unfolding(crate::specs::Lists::number_list))]
 pub fn number_list(
     alloc: Global,
@@ -95,7 +96,8 @@ fn all_buffers(alloc: Global, parts: &[&str]) -> Result<Option<Vec<PidBuffers>>,
     Ok(Some(all))
 }
 
-/// The buffers of a list `PID:RX:MAIN,..`: an empty list where it is not given, none where a part is out of range.
+/// Returns the buffers of a list `PID:RX:MAIN,..`: an empty list where it is not given, none where a part is out of
+/// range.
 #[tactic(auto, unfolding(crate::specs::Lists::buffer_list))]
 pub fn buffer_list(alloc: Global, text: Option<&str>) -> Result<Option<Vec<PidBuffers>>, AllocError>
     ensures { IfOk result (λ r. option_map (λ buffers. buffers.items) r

@@ -63,7 +63,7 @@ fn all_names<'a>(
     Ok(Some(all))
 }
 
-/// The names of a list `N:NAME[:PROVIDER],..`: an empty list where it is not given, none where a part is none.
+/// Returns the names of a list `N:NAME[:PROVIDER],..`: an empty list if it is not given, `None` if a part is wrong.
 #[tactic(auto, unfolding(crate::specs::NameLists::name_list))]
 pub fn name_list<'a>(
     alloc: Global,
@@ -102,7 +102,7 @@ fn ranged_network<'a>(id: &str, name: &'a str, original: Option<&str>) -> Option
     }
 }
 
-/// The network `ID:NAME[:ORIGINAL]`; none where it is none.
+/// Returns the network `ID:NAME[:ORIGINAL]`; none where it is none.
 #[tactic(auto, unfolding(crate::specs::NameLists::network_in, crate::specs::NameLists::network_of))]
 pub fn network_in<'a>(alloc: Global, text: &'a str) -> Result<Option<NetworkName<'a>>, AllocError>
     ensures { IfOk result (λ r. option_map network_name_view r ≡ spec.network_in text.entry.now) }

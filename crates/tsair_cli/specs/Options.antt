@@ -1,5 +1,5 @@
 -- The options of the program, by their table, and its usage.
-use Rattle.std.specs.Prelude.{ℕ, List, [], None, codes, map}
+use Rattle.std.specs.Prelude.{ℕ, List, [], ◌∷◌, None, codes, map}
 use Rattle.word_faults.specs.CommandLine.{CommandLine}
 use Rattle.word_faults.specs.KnownWords.{known_by}
 use Rattle.word_faults.specs.OptionRows.{OptionRow, constant_view}
@@ -11,7 +11,7 @@ options = map constant_view OPTIONS
 
 -- options alone
 abbrev pub known_words : CommandLine
-known_words = known_by options [] [] None
+known_words = known_by options [] (codes "-V" ∷ []) None
 
 -- a line for each option
 abbrev pub usage_text : List ℕ

@@ -41,7 +41,7 @@ fn options_of(matches: &ArgMatches<'_>) -> Option<AirOptions>
     })
 }
 
-/// What the words ask for; none where they are a usage error.
+/// Returns what the words ask for; none where they are a usage error.
 pub(crate) fn read_arguments(
     alloc: Global,
     words: &[&str],

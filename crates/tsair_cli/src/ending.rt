@@ -10,7 +10,7 @@ use checked_jobs::{report_record, report_refusal};
 use counted_io::Sink;
 use on_air::Ending;
 
-/// The status of a run of which nothing else is told.
+/// Returns the status of a run of which nothing else is told.
 fn quiet_status(has_refused: bool) -> u8
     ensures { result ≡ (if has_refused then 1 else 0) }
 {

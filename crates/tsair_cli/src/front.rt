@@ -74,14 +74,14 @@ fn end_lines(bytes: &[u8]) -> usize
     count
 }
 
-/// The number of plans of a front.
+/// Returns the number of plans of a front.
 fn plan_count(switch: bool) -> usize
     ensures { result ≡ spec.plan_count switch }
 {
     if switch { 2 } else { 1 }
 }
 
-/// The number of plans that have ended after more lines; none before the first line of a plan.
+/// Returns the number of plans that have ended after more lines; none before the first line of a plan.
 fn ended_after(ended: Option<usize>, lines: &[u8]) -> Option<usize>
     requires few { IfSome ended (λ n. n < 2) }
     ensures { result ≡ spec.ended_after ended lines.now }
@@ -95,7 +95,7 @@ fn ended_after(ended: Option<usize>, lines: &[u8]) -> Option<usize>
     }
 }
 
-/// Whether each plan of a front has ended.
+/// Returns whether each plan of a front has ended.
 fn have_ended(switch: bool, ended: Option<usize>) -> bool
     ensures { result ≡ spec.have_ended (spec.plan_count switch) ended }
 {
@@ -105,7 +105,7 @@ fn have_ended(switch: bool, ended: Option<usize>) -> bool
     }
 }
 
-/// The plans of a front that is all of a job before its records.
+/// Returns the plans of a front that is all of a job before its records.
 fn plans_of(alloc: Global, switch: bool, front: &[u8]) -> Result<JobPlans, FrontError>
     ensures { spec.IsFrontOf (job_of switch front.now) result }
 {

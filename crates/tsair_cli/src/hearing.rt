@@ -1,4 +1,4 @@
-//! The records of a run, heard one after another.
+//! The records of a run, taken in turn.
 
 ghost use Rattle.std.specs.Prelude.{◌≡◌, List, ℕ, Option};
 ghost use Rattle.devices.specs.Devices.{reads, writes};
@@ -18,7 +18,7 @@ use std::alloc::Global;
 pub struct RecordsEnd {
     /// Whether a record was refused.
     pub has_refused: bool,
-    /// Why no further record is heard; none where a record that was refused ended the run.
+    /// Why no further record is taken; `None` if a refused record ended the run.
     pub why: Option<Ending>,
 }
 
@@ -30,8 +30,8 @@ fn report_refused<E: Sink>(faults: &mut E, index: u64, cause: AirRefusal)
     let _ = report_refusal(faults, "unit", &numbers);
 }
 
-/// Hears all records of a run, and reports each that is refused before the next is read. On request the first that is
-/// refused ends the run.
+/// Takes all records of a run, and reports each refused record before the next is read. On request the first refused
+/// record ends the run.
 pub fn hear_all<R: HeldInput, W: Sink, E: Sink>(
     alloc: Global,
     stop: bool,

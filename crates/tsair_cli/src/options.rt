@@ -3,40 +3,51 @@ ghost use Rattle.std.specs.Prelude.{◌≡◌};
 ghost use Rattle.tsair_cli.specs.Options as spec;
 ghost use Rattle.word_faults.specs.KnownWords.{known_of};
 
+use option_lists::Scale;
 use word_faults::{KnownWords, OptionRow, ValueKind};
 
 /// The options. What is read, which word is a fault, and the usage follow these rows.
-pub(crate) const OPTIONS: [OptionRow; 8] = [
+pub(crate) const OPTIONS: [OptionRow; 9] = [
     OptionRow {
         name: "wait",
-        value: ValueKind::Number {
+        value: ValueKind::Scaled {
+            scale: Scale::Ticks,
             least: 0,
             greatest: 8_100_000,
             default: Some(180_000),
         },
         form: "",
+        unit: "units of 90 kHz, or with ms or s",
+        apart: "",
         help: "how much later than a greater DTS a unit may come, in units of 90 kHz; else 180000",
     },
     OptionRow {
         name: "ahead",
-        value: ValueKind::Number {
+        value: ValueKind::Scaled {
+            scale: Scale::Ticks,
             least: 0,
             greatest: 1 << 52,
             default: Some(900_000),
         },
         form: "",
+        unit: "units of 90 kHz, or with ms or s",
+        apart: "",
         help: "how far after the greatest DTS so far the next may lie; else 900000",
     },
     OptionRow {
         name: "stop",
         value: ValueKind::Flag,
         form: "",
+        unit: "",
+        apart: "",
         help: "the first unit that is refused ends the run",
     },
     OptionRow {
         name: "hex",
         value: ValueKind::Flag,
         form: "",
+        unit: "",
+        apart: "",
         help: "packets are written as lines of hexadecimal digits",
     },
     OptionRow {
@@ -47,6 +58,8 @@ pub(crate) const OPTIONS: [OptionRow; 8] = [
             default: None,
         },
         form: "",
+        unit: "packets",
+        apart: "",
         help: "the number of packets; else those up to the greatest DTS",
     },
     OptionRow {
@@ -57,23 +70,37 @@ pub(crate) const OPTIONS: [OptionRow; 8] = [
             default: None,
         },
         form: "Q",
+        unit: "periods",
+        apart: "",
         help: "the periods of the first plan before the second",
     },
     OptionRow {
         name: "progress",
         value: ValueKind::Flag,
         form: "",
-        help: "how many bytes are read is told each second, on a terminal",
+        unit: "",
+        apart: "",
+        help: "report each second how many bytes are read, on a terminal",
     },
     OptionRow {
         name: "version",
         value: ValueKind::Alone,
         form: "",
-        help: "alone: the version, and the kit that proved it",
+        unit: "",
+        apart: "",
+        help: "or -V, alone: the version, and the kit that proved it",
+    },
+    OptionRow {
+        name: "help",
+        value: ValueKind::Alone,
+        form: "",
+        unit: "",
+        apart: "",
+        help: "or -h: this text, on standard output",
     },
 ];
 
-/// The usage, written to the second writer on a usage error: a line for each row of the table.
+/// The usage, written to the first writer if the words ask for help, to the second on a usage error: a line for each row of the table.
 const USAGE: &str = "usage: tsair [OPTIONS] < JOB > PACKETS
   --wait 0..8100000              how much later than a greater DTS a unit may come, in units of 90 kHz; else 180000
   --ahead 0..4503599627370496    how far after the greatest DTS so far the next may lie; else 900000
@@ -81,25 +108,27 @@ const USAGE: &str = "usage: tsair [OPTIONS] < JOB > PACKETS
   --hex                          packets are written as lines of hexadecimal digits
   --slots 0..1099511627776       the number of packets; else those up to the greatest DTS
   --switch Q                     the periods of the first plan before the second
-  --progress                     how many bytes are read is told each second, on a terminal
-  --version                      alone: the version, and the kit that proved it
+  --progress                     report each second how many bytes are read, on a terminal
+  --version                      or -V, alone: the version, and the kit that proved it
+  --help                         or -h: this text, on standard output
 ";
 
-/// The usage.
+/// Returns the usage.
 pub(crate) fn usage() -> &'static str
     ensures { result.now ≡ spec.usage_text }
 {
     USAGE
 }
 
-/// What the program knows of its command line: options alone.
+/// Returns what the program knows of its command line: options alone.
 pub(crate) fn known_words() -> KnownWords
     ensures { known_of result ≡ spec.known_words }
 {
     KnownWords {
         options: &OPTIONS,
         words: &[],
-        alone: &[],
+        names: false,
+        alone: &["-V"],
         required: None,
         barred: None,
     }

@@ -1,10 +1,8 @@
 //! The program over any reader and two writers.
 
-ghost use Rattle.std.specs.Prelude.{◌≡◌, ◌⊎◌, List, ℕ, None, Option, Some, IfOk, [], true, false, codes, map};
+ghost use Rattle.std.specs.Prelude.{◌≡◌, List, ℕ, None, Option, Some, IfOk, [], codes, map};
 ghost use Rattle.devices.specs.Devices.{reads, writes};
 ghost use Rattle.devices.specs.Lines.{Reports};
-ghost use Rattle.devices.specs.Runs.{LacksMemory};
-ghost use Rattle.devices.specs.Usage.{TellsUsage};
 ghost use Rattle.mux_core.specs.NewMux.{Judges};
 ghost use Rattle.on_air.specs.Airing.{Run, silence};
 ghost use Rattle.on_air.specs.AirStates.{IsOnAir, begin_refusal};
@@ -12,7 +10,7 @@ ghost use Rattle.checked_jobs.specs.JobFaults.{plans_view};
 ghost use Rattle.tsair_cli.specs.AirRuns as spec;
 ghost use Rattle.tsair_cli.specs.Arguments.{asked};
 ghost use Rattle.tsair_cli.specs.Options.{known_words, usage_text};
-ghost use Rattle.word_faults.specs.UsageReport.{Prints, is_version, usage_report, version_text};
+ghost use Rattle.word_faults.specs.UsageReport.{AnswersWords};
 ghost use Rattle.tsair_cli.specs.declared.arguments.AirOptions.{AirOptions};
 
 use crate::arguments::{AirOptions, read_arguments};
@@ -26,7 +24,7 @@ use devices::{Halt, report_halt, report_text};
 use held_input::HeldInput;
 use on_air::{NewError, OnAir};
 use std::alloc::Global;
-use word_faults::answer_other_words;
+use word_faults::answer_words;
 
 /// Writes the usage, and returns the status.
 pub fn report_usage<E: Sink>(faults: &mut E) -> u8
@@ -37,7 +35,7 @@ pub fn report_usage<E: Sink>(faults: &mut E) -> u8
     2
 }
 
-/// The run over the plans of a job, before its first slot.
+/// Returns the run over the plans of a job, before its first slot.
 fn begin(alloc: Global, options: AirOptions, plans: JobPlans) -> Result<OnAir, NewError>
     ensures refused { Judges (spec.begin_cause options (plans_view plans [])) (begin_refusal result) }
     ensures begun { (start : Option (List ℕ)) →
@@ -114,9 +112,9 @@ fn air_job<R: HeldInput, W: Sink, E: Sink>(
     status
 }
 
-/// The whole program: it reads the front of the input, writes the slots that each record settles before a read of the next
-/// may wait, reports faults on the second writer, and returns the exit status: 0 good, 1 refused, 2 a usage error, 3 a device
-/// failed or out of memory.
+/// Runs the whole program: it reads the front of the input, writes the slots that each record settles before a read of the
+/// next may wait, reports faults on the second writer, and returns the exit status: 0 good, 1 refused, 2 a usage error, 3 a
+/// device failed or out of memory.
 pub fn run<R: HeldInput, W: Sink, E: Sink>(
     alloc: Global,
     words: &[&str],
@@ -128,23 +126,17 @@ pub fn run<R: HeldInput, W: Sink, E: Sink>(
     ensures air { (o : AirOptions) → asked words.now ≡ Some o →
         spec.AirsJob o (reads R.Source input.old input.new) (writes W.Sink output.old output.new)
         (writes E.Sink faults.old faults.new) result }
-    // `--version` alone.
-    ensures version { asked words.now ≡ None → is_version (map (λ s. s.now) words.now) ≡ true →
-        Prints (version_text (codes "tsair")) (reads R.Source input.old input.new) (writes W.Sink output.old output.new)
-        (writes E.Sink faults.old faults.new) result }
-    // Anything else: the first word that cannot be taken and the usage are told.
-    ensures usage { asked words.now ≡ None → is_version (map (λ s. s.now) words.now) ≡ false →
-        TellsUsage (usage_report known_words (map (λ s. s.now) words.now) usage_text)
+    // Anything else: `--version`, `--help`, or a word that cannot be taken.
+    ensures other { asked words.now ≡ None →
+        AnswersWords (codes "tsair") known_words (map (λ s. s.now) words.now) usage_text
         (reads R.Source input.old input.new) (writes W.Sink output.old output.new)
-        (writes E.Sink faults.old faults.new) result
-        ⊎ LacksMemory (reads R.Source input.old input.new) (writes W.Sink output.old output.new)
         (writes E.Sink faults.old faults.new) result }
 {
     match read_arguments(alloc, words) {
         Ok(Some(options)) => air_job(alloc, options, input, output, faults),
         Ok(None) => {
             let known = known_words();
-            answer_other_words(alloc, "tsair", known, words, usage(), output, faults)
+            answer_words(alloc, "tsair", known, words, usage(), output, faults)
         }
         Err(_) => report_halt(faults, Halt::Memory),
     }

@@ -1,39 +1,20 @@
 -- The names of files after `--`.
-use Rattle.std.proofs.Common.{◌≡◌, ◌∙◌, ◌+◌, ℕ, true, false, List, [], ◌∷◌, length, drop, refl, sym, ap, subst, Option, Some, None, inl, inr}
+use Rattle.std.proofs.Common.{◌≡◌, ◌∙◌, ◌+◌, ℕ, true, false, List, [], ◌∷◌, length, drop, refl, sym, ap, subst, Option, Some, None, inr}
 use Rattle.std.proofs.Common.{◌<◌, zero, suc, get_or, map, add-one, arith}
 use Rattle.std.specs.Borrow.{Bor}
 use Rattle.std.specs.List.{position_or_len}
 use Rattle.std.proofs.Math.Seq.{drop-cons}
 use Rattle.std.proofs.lemmas.List.{length-map}
-use Rattle.std.proofs.lemmas.Bool.{cases_Bool}
 use Rattle.clap.specs.Words.{Text}
 use Rattle.devices.specs.Devices.{Device, IsUntouched}
 use Rattle.devices.specs.Files.{Files}
 use Rattle.devices.specs.Lines.{Reports}
 use Rattle.devices.specs.Outcomes.{halt_line}
 use Rattle.devices.specs.declared.halt.Halt.TheVariants as halt
-use Rattle.word_faults.specs.UsageReport.{is_version}
 use Rattle.job_outcomes.specs.JobArguments.{JobArgumentsView}
 use Rattle.job_outcomes.specs.StreamFiles.{PerformsFiles}
 use Rattle.tsjob_cli.specs.FileMark.{is_mark}
-use Rattle.tsjob_cli.specs.FileWords.{file_arguments, file_words}
 use Rattle.tsjob_cli.specs.NamedInputs.{ReadsFiles}
-
--- one word has no name after it
-no_name : (word : Text) → file_words (word ∷ []) ≡ []
-no_name word = elim (cases_Bool (is_mark word)) [
-  | inl mark ↦ rw mark refl
-  | inr other ↦ rw other refl
-]
-
-none_named : (word : Text) → file_arguments (word ∷ []) ≡ None
-unfolding file_arguments
-none_named word = rw (no_name word) refl
-
-pub version_is_no_file : (words : List Text) → is_version words ≡ true → file_arguments words ≡ None
-version_is_no_file [] is = absurd (let no : ⊥ = cc in no)
-version_is_no_file (w ∷ []) is = none_named w
-version_is_no_file (w ∷ (v ∷ ws)) is = absurd (let no : ⊥ = cc in no)
 
 pub files_asked : (x : Option JobArgumentsView) (a b : JobArgumentsView) (files : Files) (names shown : List Text) (input output faults : Device) (status : ℕ) → Some a ≡ x → x ≡ Some b → shown ≡ names →
     IsUntouched input → PerformsFiles a files shown output faults status → ReadsFiles b files names input output faults status

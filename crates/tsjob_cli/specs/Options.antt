@@ -24,7 +24,7 @@ barred_word false = Some (codes "--stream")
 -- a subcommand, or the mark of names of files, may stand beside the options
 abbrev pub known_words : Bool → CommandLine
 known_words takes_stream =
-    known_but (barred_word takes_stream) options (codes "describe" ∷ codes "units" ∷ codes "why" ∷ codes "--" ∷ []) (codes "explain" ∷ []) None
+    known_but (barred_word takes_stream) options (codes "describe" ∷ codes "units" ∷ codes "why" ∷ codes "--" ∷ []) (codes "explain" ∷ codes "-V" ∷ []) None
 
 -- the file of a description can be named with units, and with no names of files
 abbrev pub is_units : Option Subcommand → Bool

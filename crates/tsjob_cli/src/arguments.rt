@@ -189,7 +189,7 @@ fn read_options<'a>(
     }
 }
 
-/// What the words ask for of the input; none where they are a usage error, or names of files may stand among them.
+/// Returns the request of the words; `None` if they are a usage error, or names of files may be among them.
 pub fn read_arguments<'a>(
     alloc: Global,
     words: &'a [&'a str],

@@ -1,4 +1,4 @@
-//! What is wrong with a description, or with a plan after it, in the input.
+//! The faults of a description, or of a plan after it, in the input.
 
 ghost use Rattle.std.specs.Prelude.{◌≡◌, IfOk, map};
 ghost use Rattle.devices.specs.Devices.{reads, writes};
@@ -11,7 +11,7 @@ use explained_jobs::explain;
 use job_outcomes::{JobOutcome, only_text, write_outcome};
 use std::alloc::{AllocError, Global};
 
-/// Whether the words are `explain` alone.
+/// Returns whether the words are `explain` alone.
 #[tactic(auto, unfolding(crate::specs::Explaining::is_explain))]
 pub(crate) fn is_explain(words: &[&str]) -> bool
     ensures { result ≡ spec.is_explain (map (λ s. s.now) words.now) }

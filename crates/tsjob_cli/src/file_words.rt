@@ -35,7 +35,8 @@ fn unless_streamed(arguments: Option<JobArguments<'_>>) -> Option<JobArguments<'
     }
 }
 
-/// What the words before it ask for of the streams in the files; none where these are a usage error, or no file is named.
+/// Returns what the words before it ask for of the streams in the files; none where these are a usage error, or no file
+/// is named.
 #[tactic(auto, unfolding(crate::specs::FileWords::file_arguments))]
 pub(crate) fn read_file_arguments<'a>(
     alloc: Global,

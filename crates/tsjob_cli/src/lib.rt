@@ -1,8 +1,8 @@
 //! What the program `tsjob` does, over any files, a reader and two writers (`run`).
 //!
 //! `options` is the table of options, with the usage; `arguments` reads the command line by it; `file_mark` finds `--`, and
-//! `file_words` has the names of files after it. What it asks for of streams is done by `job_outcomes`. `streaming` has the units of the streams of a
-//! description that stands in a file written while the stream comes; `explained_input` says what is wrong with a description.
+//! `file_words` has the names of files after it. What it asks for of streams is done by `job_outcomes`. `streaming` writes the units of the streams of a
+//! description in a file while the stream arrives; `explained_input` explains the faults of a description.
 //! `program` is `run`.
 #![tactic(auto)]
 

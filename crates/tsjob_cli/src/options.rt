@@ -6,127 +6,173 @@ ghost use Rattle.word_faults.specs.KnownWords.{known_of};
 use crate::arguments::subcommand_of;
 use crate::file_mark::has_mark;
 use job_outcomes::Subcommand;
+use option_lists::Scale;
 use word_faults::{KnownWords, OptionRow, ValueKind, word_beside};
 
 /// The options, and the word beside them. What is read, which word is a fault, and the usage follow these rows.
-pub(crate) const OPTIONS: [OptionRow; 17] = [
+pub(crate) const OPTIONS: [OptionRow; 18] = [
     OptionRow {
         name: "subcommand",
         value: ValueKind::Word,
         form: "",
+        unit: "",
+        apart: "",
         help: "what is written: the description, the units, or why there is no plan; else the whole job",
     },
     OptionRow {
         name: "rate",
-        value: ValueKind::Number {
+        value: ValueKind::Scaled {
+            scale: Scale::Bits,
             least: 100_000,
             greatest: 100_000_000,
             default: None,
         },
         form: "",
+        unit: "bits a second, or with k or M",
+        apart: "",
         help: "bits a second; else the least at which a plan is found",
     },
     OptionRow {
         name: "program",
         value: ValueKind::Numbers { greatest: 65_535 },
         form: "N,..",
+        unit: "",
+        apart: "",
         help: "the programs that are taken",
     },
     OptionRow {
         name: "without",
         value: ValueKind::Numbers { greatest: 8_191 },
         form: "PID,..",
+        unit: "",
+        apart: "",
         help: "PIDs that are left out",
     },
     OptionRow {
         name: "buffers",
         value: ValueKind::Buffers,
         form: "PID:RX:MAIN,..",
+        unit: "bits a second and bytes",
+        apart: "",
         help: "buffers of a PID, in bits a second and bytes",
     },
     OptionRow {
         name: "lead",
-        value: ValueKind::Number {
+        value: ValueKind::Scaled {
+            scale: Scale::Ticks,
             least: 1,
             greatest: 90_000,
             default: Some(90_000),
         },
         form: "",
+        unit: "units of 90 kHz, or with ms or s",
+        apart: "",
         help: "the greatest lead of a unit, in units of 90 kHz",
     },
     OptionRow {
         name: "declare",
         value: ValueKind::Declare,
         form: "groups|time",
+        unit: "",
+        apart: "",
         help: "by what packets are declared; else by groups where they ask for little more",
     },
     OptionRow {
         name: "pcr",
-        value: ValueKind::Number {
+        value: ValueKind::Scaled {
+            scale: Scale::Millis,
             least: 1,
             greatest: 100,
             default: Some(40),
         },
         form: "",
+        unit: "ms",
+        apart: "",
         help: "the greatest time between clock references, in ms",
     },
     OptionRow {
         name: "start",
         value: ValueKind::Moment,
         form: "YYYY-MM-DDThh:mm:ss",
+        unit: "",
+        apart: "",
         help: "the moment of the first packet",
     },
     OptionRow {
         name: "base",
         value: ValueKind::Base,
         form: "",
+        unit: "units of 90 kHz",
+        apart: "",
         help: "the system clock as the run begins, in units of 90 kHz, or that of the input",
     },
     OptionRow {
         name: "network",
         value: ValueKind::Network,
         form: "ID:NAME[:ORIGINAL]",
+        unit: "",
+        apart: "",
         help: "the network, and original_network_id",
     },
     OptionRow {
         name: "name",
         value: ValueKind::Names,
         form: "N:NAME[:PROVIDER],..",
+        unit: "",
+        apart: "",
         help: "the names of the services of programs",
     },
     OptionRow {
         name: "make-dts",
         value: ValueKind::Flag,
         form: "",
+        unit: "",
+        apart: "",
         help: "DTS are made from PTS",
     },
     OptionRow {
         name: "whole",
         value: ValueKind::Flag,
         form: "",
+        unit: "",
+        apart: "",
         help: "the input is no capture: its last PES packets are whole",
     },
     OptionRow {
         name: "stream",
         value: ValueKind::File,
         form: "FILE",
+        unit: "",
+        apart: "",
         help: "with units: those of the streams of this description, while the stream comes",
     },
     OptionRow {
         name: "progress",
         value: ValueKind::Flag,
         form: "",
-        help: "how many bytes are read is told each second, on a terminal",
+        unit: "",
+        apart: "",
+        help: "report each second how many bytes are read, on a terminal",
     },
     OptionRow {
         name: "version",
         value: ValueKind::Alone,
         form: "",
-        help: "alone: the version, and the kit that proved it",
+        unit: "",
+        apart: "",
+        help: "or -V, alone: the version, and the kit that proved it",
+    },
+    OptionRow {
+        name: "help",
+        value: ValueKind::Alone,
+        form: "",
+        unit: "",
+        apart: "",
+        help: "or -h: this text, on standard output",
     },
 ];
 
-/// The usage, written to the second writer on a usage error: a line for each option of the table.
+/// The usage, written to the first writer if the words ask for help, to the second on a usage error: a line for each option of the table.
 const USAGE: &str = "usage: tsjob [describe|units|why] [OPTIONS] < PACKETS > JOB
        tsjob [describe|units|why] [OPTIONS] -- FILE.. > JOB
        tsjob explain < DESCRIPTION [PLAN]
@@ -144,11 +190,12 @@ const USAGE: &str = "usage: tsjob [describe|units|why] [OPTIONS] < PACKETS > JOB
   --make-dts                     DTS are made from PTS
   --whole                        the input is no capture: its last PES packets are whole
   --stream FILE                  with units: those of the streams of this description, while the stream comes
-  --progress                     how many bytes are read is told each second, on a terminal
-  --version                      alone: the version, and the kit that proved it
+  --progress                     report each second how many bytes are read, on a terminal
+  --version                      or -V, alone: the version, and the kit that proved it
+  --help                         or -h: this text, on standard output
 ";
 
-/// The usage.
+/// Returns the usage.
 pub(crate) fn usage() -> &'static str
     ensures { result.now ≡ spec.usage_text }
 {
@@ -169,7 +216,8 @@ fn known_words(takes_stream: bool) -> KnownWords
     KnownWords {
         options: &OPTIONS,
         words: &["describe", "units", "why", "--"],
-        alone: &["explain"],
+        names: false,
+        alone: &["explain", "-V"],
         required: None,
         barred: barred_word(takes_stream),
     }
@@ -193,7 +241,7 @@ fn takes_stream(words: &[&str]) -> bool
     is_units(subcommand_of(word_beside(all, words))) && !has_mark(words)
 }
 
-/// What is known of these words: the file of a description can be named with units, and with no names of files.
+/// Returns what is known of these words: the file of a description can be named with units, and with no names of files.
 pub(crate) fn known_for(words: &[&str]) -> KnownWords
     ensures { known_of result ≡ spec.known_for (map (λ s. s.now) words.now) }
 {

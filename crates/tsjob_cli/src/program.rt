@@ -1,11 +1,10 @@
 //! The program over any files, a reader and two writers.
 
-ghost use Rattle.std.specs.Prelude.{◌≡◌, ◌⊎◌, None, Some, true, false, codes, map};
+ghost use Rattle.std.specs.Prelude.{◌≡◌, None, Some, true, false, codes, map};
 ghost use Rattle.devices.specs.Devices.{reads, writes};
 ghost use Rattle.devices.specs.Files.{files_of};
 ghost use Rattle.devices.specs.Lines.{Reports};
-ghost use Rattle.devices.specs.Runs.{LacksMemory, Performs};
-ghost use Rattle.devices.specs.Usage.{TellsUsage};
+ghost use Rattle.devices.specs.Runs.{Performs};
 ghost use Rattle.job_outcomes.specs.JobArguments.{JobArgumentsView};
 ghost use Rattle.tsjob_cli.specs.Arguments.{arguments};
 ghost use Rattle.tsjob_cli.specs.Explaining.{ExplainLeads, is_explain};
@@ -15,7 +14,7 @@ ghost use Rattle.tsjob_cli.specs.NamedInputs.{ReadsFiles};
 ghost use Rattle.tsjob_cli.specs.Options.{known_for, usage_text};
 ghost use Rattle.tsjob_cli.specs.StreamedUnits.{StreamsUnits};
 ghost use Rattle.word_faults.specs.CommandLine.{Text};
-ghost use Rattle.word_faults.specs.UsageReport.{Prints, is_version, usage_report, version_text};
+ghost use Rattle.word_faults.specs.UsageReport.{AnswersWords};
 
 use crate::arguments::read_arguments;
 use crate::explained_input::{explain_input, is_explain};
@@ -26,7 +25,7 @@ use counted_io::{Sink, Source};
 use devices::{Halt, NamedFiles, report_halt, report_text};
 use job_outcomes::{JobArguments, perform, perform_files};
 use std::alloc::Global;
-use word_faults::answer_other_words;
+use word_faults::answer_words;
 
 /// Writes the usage, and returns the status.
 pub fn report_usage<E: Sink>(faults: &mut E) -> u8
@@ -72,14 +71,9 @@ fn run_on_files<F: NamedFiles, R: Source, W: Sink, E: Sink>(
         ReadsFiles a (files_of (F.contents_of files.now) (F.opens files.now) F.never_fails)
         (file_words (map (λ s. s.now) words.now)) (reads R.Source input.old input.new)
         (writes W.Sink output.old output.new) (writes E.Sink faults.old faults.new) result }
-    ensures version { is_version (map (λ s. s.now) words.now) ≡ true →
-        Prints (version_text (codes "tsjob")) (reads R.Source input.old input.new)
-        (writes W.Sink output.old output.new) (writes E.Sink faults.old faults.new) result }
-    ensures usage { file_arguments (map (λ s. s.now) words.now) ≡ None → is_version (map (λ s. s.now) words.now) ≡ false →
-        TellsUsage (usage_report (known_for (map (λ s. s.now) words.now)) (map (λ s. s.now) words.now) usage_text)
+    ensures other { file_arguments (map (λ s. s.now) words.now) ≡ None →
+        AnswersWords (codes "tsjob") (known_for (map (λ s. s.now) words.now)) (map (λ s. s.now) words.now) usage_text
         (reads R.Source input.old input.new) (writes W.Sink output.old output.new)
-        (writes E.Sink faults.old faults.new) result
-        ⊎ LacksMemory (reads R.Source input.old input.new) (writes W.Sink output.old output.new)
         (writes E.Sink faults.old faults.new) result }
 {
     match read_file_arguments(alloc, words) {
@@ -88,7 +82,7 @@ fn run_on_files<F: NamedFiles, R: Source, W: Sink, E: Sink>(
         }
         Ok(None) => {
             let known = known_for(words);
-            answer_other_words(alloc, "tsjob", known, words, usage(), output, faults)
+            answer_words(alloc, "tsjob", known, words, usage(), output, faults)
         }
         Err(_) => report_halt(faults, Halt::Memory),
     }
@@ -118,17 +112,10 @@ fn run_on_stream<F: NamedFiles, R: Source, W: Sink, E: Sink>(
         ReadsFiles a (files_of (F.contents_of files.now) (F.opens files.now) F.never_fails)
         (file_words (map (λ s. s.now) words.now)) (reads R.Source input.old input.new)
         (writes W.Sink output.old output.new) (writes E.Sink faults.old faults.new) result }
-    // `--version` alone.
-    ensures version { arguments words.now ≡ None → is_version (map (λ s. s.now) words.now) ≡ true →
-        Prints (version_text (codes "tsjob")) (reads R.Source input.old input.new)
-        (writes W.Sink output.old output.new) (writes E.Sink faults.old faults.new) result }
-    // Anything else: the first word that cannot be taken and the usage are told.
-    ensures usage { arguments words.now ≡ None → file_arguments (map (λ s. s.now) words.now) ≡ None →
-        is_version (map (λ s. s.now) words.now) ≡ false →
-        TellsUsage (usage_report (known_for (map (λ s. s.now) words.now)) (map (λ s. s.now) words.now) usage_text)
+    // Anything else: `--version`, `--help`, or a word that cannot be taken.
+    ensures other { arguments words.now ≡ None → file_arguments (map (λ s. s.now) words.now) ≡ None →
+        AnswersWords (codes "tsjob") (known_for (map (λ s. s.now) words.now)) (map (λ s. s.now) words.now) usage_text
         (reads R.Source input.old input.new) (writes W.Sink output.old output.new)
-        (writes E.Sink faults.old faults.new) result
-        ⊎ LacksMemory (reads R.Source input.old input.new) (writes W.Sink output.old output.new)
         (writes E.Sink faults.old faults.new) result }
 {
     match read_arguments(alloc, words) {
@@ -138,9 +125,9 @@ fn run_on_stream<F: NamedFiles, R: Source, W: Sink, E: Sink>(
     }
 }
 
-/// The whole program: it reads the input, or files that are named, writes the output, writes warnings or the refusal to the second writer, and
-/// returns the exit status: 0 all is carried, or nothing is wrong; 1 refused, a warning of what is lost, or what is wrong; 2 a
-/// usage error; 3 a device failed or out of memory.
+/// Runs the whole program: it reads the input, or files that are named, writes the output, writes warnings or the refusal to the second
+/// writer, and returns the exit status: 0 all is carried, or nothing is wrong; 1 refused, a warning of a loss, or a fault; 2 a usage error; 3
+/// a device failed or out of memory.
 pub fn run<F: NamedFiles, R: Source, W: Sink, E: Sink>(
     alloc: Global,
     words: &[&str],
@@ -170,18 +157,11 @@ pub fn run<F: NamedFiles, R: Source, W: Sink, E: Sink>(
         ReadsFiles a (files_of (F.contents_of files.now) (F.opens files.now) F.never_fails)
         (file_words (map (λ s. s.now) words.now)) (reads R.Source input.old input.new)
         (writes W.Sink output.old output.new) (writes E.Sink faults.old faults.new) result }
-    // `--version` alone.
-    ensures version { is_explain (map (λ s. s.now) words.now) ≡ false → arguments words.now ≡ None →
-        is_version (map (λ s. s.now) words.now) ≡ true →
-        Prints (version_text (codes "tsjob")) (reads R.Source input.old input.new)
-        (writes W.Sink output.old output.new) (writes E.Sink faults.old faults.new) result }
-    // Anything else: the first word that cannot be taken and the usage are told.
-    ensures usage { is_explain (map (λ s. s.now) words.now) ≡ false → arguments words.now ≡ None →
-        file_arguments (map (λ s. s.now) words.now) ≡ None → is_version (map (λ s. s.now) words.now) ≡ false →
-        TellsUsage (usage_report (known_for (map (λ s. s.now) words.now)) (map (λ s. s.now) words.now) usage_text)
+    // Anything else: `--version`, `--help`, or a word that cannot be taken.
+    ensures other { is_explain (map (λ s. s.now) words.now) ≡ false → arguments words.now ≡ None →
+        file_arguments (map (λ s. s.now) words.now) ≡ None →
+        AnswersWords (codes "tsjob") (known_for (map (λ s. s.now) words.now)) (map (λ s. s.now) words.now) usage_text
         (reads R.Source input.old input.new) (writes W.Sink output.old output.new)
-        (writes E.Sink faults.old faults.new) result
-        ⊎ LacksMemory (reads R.Source input.old input.new) (writes W.Sink output.old output.new)
         (writes E.Sink faults.old faults.new) result }
 {
     if is_explain(words) {

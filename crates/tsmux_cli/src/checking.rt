@@ -13,8 +13,8 @@ use counted_io::{Sink, Source};
 use devices::{Halt, report_halt, take_input, write_line};
 use std::alloc::Global;
 
-/// The first fault in the job in the input, if there is one. It is read to its end, and nothing is kept of what comes
-/// after the plans.
+/// Returns the first fault in the job in the input, if there is one. It is read to its end, and nothing is kept of what
+/// comes after the plans.
 fn find_fault<R: Source>(
     alloc: Global,
     switch: bool,

@@ -52,7 +52,7 @@ fn monitor<'a>(alloc: Global) -> Result<Command<'a>, AllocError>
     subcommand(alloc, "monitor", &MONITOR)
 }
 
-/// A command with one more subcommand.
+/// Returns a command with one more subcommand.
 fn with<'a>(command: Command<'a>, sub: Command<'a>) -> Result<Command<'a>, AllocError>
     requires { (fields_of sub).has_globals ≡ false }
     ensures { IfOk result (λ c. app_of c ≡ with_subcommand (app_of command.entry) (app_of sub.entry).top) }
@@ -60,7 +60,7 @@ fn with<'a>(command: Command<'a>, sub: Command<'a>) -> Result<Command<'a>, Alloc
     command.subcommand(sub)
 }
 
-/// The subcommands before `mux`.
+/// Returns the subcommands before `mux`.
 fn without_mux<'a>(alloc: Global) -> Result<Command<'a>, AllocError>
     ensures { IfOk result (λ c. app_of c ≡ without_mux) }
 {
@@ -78,7 +78,7 @@ fn without_mux<'a>(alloc: Global) -> Result<Command<'a>, AllocError>
     }
 }
 
-/// The program's command line.
+/// Returns the program's command line.
 #[tactic(auto, unfolding(crate::specs::CommandLine::tsmux_app))]
 fn tsmux<'a>(alloc: Global) -> Result<Command<'a>, AllocError>
     ensures { IfOk result (λ c. app_of c ≡ tsmux_app) }
@@ -100,7 +100,7 @@ fn tsmux<'a>(alloc: Global) -> Result<Command<'a>, AllocError>
     }
 }
 
-/// The subcommand in the words, with the values of its options.
+/// Returns the subcommand in the words, with the values of its options.
 pub fn matches_for<'a>(alloc: Global, words: &'a [&'a str]) -> Result<ArgMatches<'a>, Error>
     ensures ok { IfOk result
         (λ m. subcommand_rows_of m ≡ subcommand_of tsmux_app (map (λ s. s.now) words.entry.now)) }

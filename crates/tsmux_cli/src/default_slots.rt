@@ -8,7 +8,7 @@ use pes_packet::Unit;
 /// The greatest number of slots of a run.
 const MOST_SLOTS: u128 = 1 << 40;
 
-/// The greatest DTS of units, 0 without units.
+/// Returns the greatest DTS of units, 0 without units.
 fn greatest_dts(units: &[(u8, Unit)]) -> u64
     ensures { result ≡ greatest_dts units.now }
 {
@@ -17,7 +17,7 @@ fn greatest_dts(units: &[(u8, Unit)]) -> u64
         .fold(0, |greatest, entry| greatest.max(entry.1.dts))
 }
 
-/// The number of slots up to the greatest DTS, 2^40 at most.
+/// Returns the number of slots up to the greatest DTS, 2^40 at most.
 pub fn default_slots(rate: u64, units: &[(u8, Unit)]) -> u64
     requires { rate ≤ 100_000_000 }
     ensures { result ≡ default_slots rate units.now }

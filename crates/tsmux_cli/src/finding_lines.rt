@@ -1,6 +1,6 @@
 //! The lines of findings.
 //!
-//! A line is put into a room on the stack from its end: each part of it before what already stands there.
+//! A line is put into a room on the stack from its end: each part of it before the parts that are already there.
 ghost use Rattle.std.specs.Prelude.{◌≡◌, ◌++◌, ◌+◌, ◌≤◌, codes, decimal, drop, OnOk, Option, length, slice_index, map};
 ghost use Rattle.demux.specs.Shown.{finding_view, what_view};
 ghost use Rattle.tsmux_cli.specs.FindingLines.{dts_of, finding_line, finding_lines, has_fault, is_fault};
@@ -108,7 +108,7 @@ fn put_pes(
     put(room, end, b" pes ")
 }
 
-/// The table_id of a section.
+/// Returns the table_id of a section.
 fn table_id(section: &[u8]) -> u8
     ensures { result ≡ slice_index section.now 0 }
 {
@@ -200,7 +200,7 @@ pub fn write_findings(text: &mut Vec<u8>, found: &[Finding<'_>]) -> Result<(), A
     Ok(())
 }
 
-/// Whether a finding is a fault.
+/// Returns whether a finding is a fault.
 #[tactic(auto, unfolding(crate::specs::FindingLines::is_fault))]
 fn is_fault(finding: &Finding<'_>) -> bool
     ensures { result ≡ is_fault (finding_view finding.now).what }
@@ -216,7 +216,7 @@ fn is_fault(finding: &Finding<'_>) -> bool
     }
 }
 
-/// Whether one of the findings is a fault.
+/// Returns whether any of the findings is a fault.
 pub fn has_fault(found: &[Finding<'_>]) -> bool
     ensures { result ≡ has_fault (map finding_view found.now) }
 {

@@ -24,7 +24,7 @@ pub enum FrontState {
     Fault(JobFault),
 }
 
-/// A job of which some bytes have come. Its texts are read again whenever they are twice as long, until the plans are
+/// A job whose bytes arrive in pieces. Its texts are read again whenever they are twice as long, until the plans are
 /// whole; bytes after the plans go to a taker of their own, and bytes after a fault are dropped.
 #[derive(Drop)]
 pub struct JobTaker<T> {
@@ -40,7 +40,7 @@ pub struct JobTaker<T> {
 }
 
 impl<T: RestTaker + Drop> JobTaker<T> {
-    /// A job of which no byte has come.
+    /// Returns a job without a byte yet.
     pub fn new(alloc: Global, switch: bool, rest: T) -> JobTaker<T>
         ensures switch { result.switch ≡ switch }
         ensures text { result.text.items ≡ [] }
@@ -101,7 +101,7 @@ impl<T: RestTaker + Drop> JobTaker<T> {
         self.read_text()
     }
 
-    /// The plans, and the taker of all bytes after them; or the fault of the bytes that came.
+    /// Returns the plans, and the taker of all bytes after them; or the fault of the bytes that came.
     pub fn finish(self) -> Result<(JobPlans, T), JobReadError>
         ensures { (switch : Bool) (bytes : List ℕ)
             → TakesJob (T.has_taken self.rest) switch bytes self.switch self.text.items self.state

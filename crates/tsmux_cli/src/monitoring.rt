@@ -43,7 +43,7 @@ impl PieceTaker for PacketTaker {
     }
 }
 
-/// The report on a stream whose packets were taken.
+/// Returns the report on a stream whose packets were taken.
 fn conclude(monitor: Monitor, taken: Result<usize, Halt>) -> Result<Report, Halt>
     ensures { Concludes monitor taken result }
 {
@@ -60,7 +60,7 @@ fn conclude(monitor: Monitor, taken: Result<usize, Halt>) -> Result<Report, Halt
     }
 }
 
-/// The report on the input.
+/// Returns the report on the input.
 fn report<R: Source>(alloc: Global, options: MonitorOptions, input: &mut R) -> Result<Report, Halt>
     ensures { ReportsOn options (reads R.Source input.old input.new) result }
 {
@@ -72,7 +72,7 @@ fn report<R: Source>(alloc: Global, options: MonitorOptions, input: &mut R) -> R
     conclude(taker.monitor, taken)
 }
 
-/// The status.
+/// Returns the status.
 fn status_of(report: &Report) -> u8
     ensures { result ≡ report_status report.now }
 {

@@ -17,7 +17,7 @@ use devices::{Halt, report_halt};
 use mux_core::{MuxError, multiplex_as, multiplex_switch_as};
 use std::alloc::Global;
 
-/// The rate of a job's description, in bits a second.
+/// Returns the rate of a job's description, in bits a second.
 fn rate_of(plans: &JobPlans) -> u64
     ensures rate { result ≡ (plans_view plans.now []).description.rate }
     ensures upper { result ≤ 100_000_000 }
@@ -28,7 +28,7 @@ fn rate_of(plans: &JobPlans) -> u64
     }
 }
 
-/// The number of slots of a job: that of the option, else the slots up to the greatest DTS.
+/// Returns the number of slots of a job: that of the option, else the slots up to the greatest DTS.
 fn slots_of(options: MuxOptions, job: &MuxJob) -> u64
     ensures { result ≡ spec.slots_of options (mux_job_view job.now) }
 {

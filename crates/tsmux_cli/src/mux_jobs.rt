@@ -38,7 +38,7 @@ pub enum MuxJobError {
     Stopped(Halt),
 }
 
-/// The job of these plans, with the units of the records after them.
+/// Returns the job of these plans, with the units of the records after them.
 fn with_units(plans: JobPlans, list: UnitList) -> Result<MuxJob, MuxFault>
     ensures { (after : List ℕ) → TakesRecords after list.units.items list.record list.fault
         → IsMuxJob (with_records (Ok (plans_view plans after))) result }
@@ -53,8 +53,8 @@ fn with_units(plans: JobPlans, list: UnitList) -> Result<MuxJob, MuxFault>
     }
 }
 
-/// The job in the input, with the units of the records after its plans. It is read to its end piece by piece, and of a
-/// piece only the bytes of units are kept.
+/// Returns the job in the input, with the units of the records after its plans. It is read to its end piece by piece,
+/// and of a piece only the bytes of units are kept.
 pub fn read_mux_job<R: Source>(
     alloc: Global,
     switch: bool,

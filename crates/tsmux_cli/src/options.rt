@@ -12,6 +12,8 @@ pub(crate) const CARRY: [OptionRow; 3] = [
         name: "hex",
         value: ValueKind::Flag,
         form: "",
+        unit: "",
+        apart: "",
         help: "packets are written as lines of hexadecimal digits",
     },
     OptionRow {
@@ -22,12 +24,16 @@ pub(crate) const CARRY: [OptionRow; 3] = [
             default: Some(256),
         },
         form: "",
+        unit: "",
+        apart: "",
         help: "the PID of the packets; else 256",
     },
     OptionRow {
         name: "id",
         value: ValueKind::StreamId,
         form: "189|192..239",
+        unit: "",
+        apart: "",
         help: "the stream_id of the PES packets; else 192",
     },
 ];
@@ -37,6 +43,8 @@ pub(crate) const CHECK: [OptionRow; 1] = [OptionRow {
     name: "switch",
     value: ValueKind::Flag,
     form: "",
+    unit: "",
+    apart: "",
     help: "whether the second plan may follow the first",
 }];
 
@@ -46,6 +54,8 @@ pub(crate) const MUX: [OptionRow; 3] = [
         name: "hex",
         value: ValueKind::Flag,
         form: "",
+        unit: "",
+        apart: "",
         help: "packets are written as lines of hexadecimal digits",
     },
     OptionRow {
@@ -56,6 +66,8 @@ pub(crate) const MUX: [OptionRow; 3] = [
             default: None,
         },
         form: "N",
+        unit: "packets",
+        apart: "",
         help: "the number of packets; else those up to the greatest DTS",
     },
     OptionRow {
@@ -66,6 +78,8 @@ pub(crate) const MUX: [OptionRow; 3] = [
             default: None,
         },
         form: "Q",
+        unit: "periods",
+        apart: "",
         help: "the periods of the first plan before the second",
     },
 ];
@@ -80,6 +94,8 @@ pub(crate) const MONITOR: [OptionRow; 2] = [
             default: None,
         },
         form: "",
+        unit: "bits a second",
+        apart: "",
         help: "the rate of the stream in bits a second",
     },
     OptionRow {
@@ -90,6 +106,8 @@ pub(crate) const MONITOR: [OptionRow; 2] = [
             default: Some(40),
         },
         form: "",
+        unit: "ms",
+        apart: "",
         help: "the greatest time between program clock references, in ms; else 40",
     },
 ];
@@ -106,7 +124,7 @@ const USAGE: &str =
 with no words: tsmux carry --hex
 ";
 
-/// The usage.
+/// Returns the usage.
 pub(crate) fn usage() -> &'static str
     ensures { result.now ≡ spec.usage_text }
 {
@@ -182,13 +200,14 @@ fn known_words(first: FirstWord) -> KnownWords
     KnownWords {
         options: options_of(first),
         words: &["carry", "plan", "demux", "check", "mux", "monitor"],
+        names: false,
         alone: &[],
         required: required_of(first),
         barred: None,
     }
 }
 
-/// What is known of these words.
+/// Returns what is known of these words.
 pub(crate) fn known_for(words: &[&str]) -> KnownWords
     ensures { known_of result ≡ spec.known_words (spec.known_after (map (λ s. s.now) words.now)) }
 {

@@ -12,7 +12,7 @@ use devices::{Halt, read_whole, report_halt, write_text};
 use plan_maker::{MakeError, make};
 use std::alloc::Global;
 
-/// The text of a plan that serves the description.
+/// Returns the text of a plan that serves the description.
 fn text_for(alloc: Global, description: Description) -> Result<String, MakeError>
     ensures text { IfOk result (λ text. IsPlanText description (string_bytes text)) }
     ensures none { IfErr result

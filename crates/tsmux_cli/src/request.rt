@@ -182,7 +182,7 @@ fn subcommand_request(matches: &ArgMatches<'_>) -> Option<Request>
     }
 }
 
-/// What the command line asks for; none where it is a usage error. Without words, it is `carry --hex`.
+/// Returns what the command line asks for; none where it is a usage error. Without words, it is `carry --hex`.
 pub fn requested(alloc: Global, words: &[&str]) -> Result<Option<Request>, AllocError>
     ensures value { IfOk result (λ r. r ≡ asked.asked words.now) }
     ensures fits { IfOk result (λ r. asked.Fits r) }

@@ -25,7 +25,7 @@ pub struct UnitList {
     fault: Option<RecordFault>,
 }
 
-/// The fault of the record of this index.
+/// Returns the fault of the record of this index.
 fn record_fault(index: u64, refusal: UnitFileError) -> Result<RecordFault, Halt>
     ensures { NamesFault index refusal result }
 {
@@ -39,7 +39,7 @@ fn record_fault(index: u64, refusal: UnitFileError) -> Result<RecordFault, Halt>
 }
 
 impl UnitList {
-    /// A list of which no byte has come.
+    /// Returns a list without a byte yet.
     pub fn new(alloc: Global) -> UnitList
         ensures units { result.units.items ≡ [] }
         ensures open { IsOpen result.record }
@@ -53,7 +53,7 @@ impl UnitList {
         }
     }
 
-    /// The units of all records that came, or the first that is no record.
+    /// Returns the units of all records that came, or the first that is no record.
     pub fn finish(self) -> Result<Vec<(u8, Unit)>, RecordFault>
         ensures { (bytes : List ℕ) → TakesRecords bytes self.units.items self.record self.fault
             → IsList (units_in bytes) (result_map_both (λ units. units.items) (λ fault. fault) result) }

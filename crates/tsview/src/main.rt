@@ -1,4 +1,4 @@
-//! `tsview`: what is in an MPEG-2 transport stream, and what a receiver's buffers hold, line by line (ISO/IEC 13818-1,
+//! `tsview`: the content of an MPEG-2 transport stream, and what a receiver's buffers hold, line by line (ISO/IEC 13818-1,
 //! TR 101 290).
 //!
 //! The program is `tsview_cli::run` over any reader and two writers; `devices::run_program` runs it over the real ones.
@@ -17,12 +17,12 @@ impl Program for Tsview {
     fn run<F: NamedFiles, R: HeldInput, W: Sink, E: Sink>(
         alloc: Global,
         words: &[&str],
-        _files: &F,
+        files: &F,
         input: &mut R,
         output: &mut W,
         faults: &mut E,
     ) -> u8 {
-        run(alloc, words, input, output, faults)
+        run(alloc, words, files, input, output, faults)
     }
 
     fn report_usage<E: Sink>(faults: &mut E) -> u8 {

@@ -2,3 +2,4 @@ pub mod Pieces
 pub mod Viewed
 pub mod Drawn
 pub mod PlanDrawings
+pub mod NamedStreams

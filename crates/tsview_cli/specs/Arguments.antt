@@ -1,6 +1,7 @@
 -- What the command line asks for.
 use Rattle.std.specs.Prelude.{ℕ, Bool, if◌then◌else◌, List, Option, Some, None, codes, map, option_and_then, option_map}
 use Rattle.std.specs.Borrow.{Bor}
+use Rattle.std.specs.Str.{bytes_eq}
 use Rattle.clap.specs.Words.{Row, Text, first_of}
 use Rattle.devices.specs.Options.{is_given}
 use Rattle.stream_arrival.specs.declared.arrival.Arrival.{Arrival}
@@ -39,24 +40,44 @@ options_of rows =
 abbrev pub request : ViewOptions → List ℕ → List PidBuffers → RequestView
 request given programs buffers = record { options = given; choice = record { programs = programs; buffers = buffers } }
 
--- the lines of its report, or the page of them
-abbrev pub requested : Bool → Bool → RequestView → Request
-requested page json request = if page then Page request else Lines request json
+-- the lines of its report, or the page of them: not both
+unfoldable pub requested : Bool → Bool → RequestView → Option Request
+requested page json request = if page then (if json then None else Some (Page request)) else Some (Lines request json)
 
 unfoldable pub request_of : List Row → Option Request
 request_of rows =
     option_and_then (λ given.
     option_and_then (λ programs.
     option_and_then (λ buffers.
-    Some (requested (is_given (first_of (codes "page") rows)) (is_given (first_of (codes "json") rows)) (request given programs buffers)))
+    requested (is_given (first_of (codes "page") rows)) (is_given (first_of (codes "json") rows)) (request given programs buffers))
     (buffer_list (first_of (codes "buffers") rows)))
     (numbers_of options (codes "program") rows))
     (options_of rows)
 
+-- with the name of the file that has the stream; the input has it where no name or `-` is given
+pub record AskedView : Type 0 where
+  pub request : Request
+  pub file : Option Text
+
+abbrev pub unless_input : Text → Option Text
+unless_input name = if bytes_eq name (codes "-") then None else Some name
+
+abbrev pub file_of : List Row → Option Text
+file_of rows = option_and_then unless_input (first_of (codes "file") rows)
+
+abbrev pub asked_for : Request → Option Text → AskedView
+asked_for request file = record { request = request; file = file }
+
+abbrev pub asked_view : List Row → Request → AskedView
+asked_view rows request = asked_for request (file_of rows)
+
+unfoldable pub asked_of : List Row → Option AskedView
+asked_of rows = option_map (asked_view rows) (request_of rows)
+
 -- what the words ask for, none where they are a usage error
-abbrev pub asked_in : List Text → Option Request
-asked_in words = option_and_then request_of (given_options (codes "tsview") options words)
+abbrev pub asked_in : List Text → Option AskedView
+asked_in words = option_and_then asked_of (given_options (codes "tsview") options words)
 
 -- the same of words in memory
-abbrev pub asked : List (Bor (List ℕ)) → Option Request
+abbrev pub asked : List (Bor (List ℕ)) → Option AskedView
 asked words = asked_in (map (λ s. s.now) words)

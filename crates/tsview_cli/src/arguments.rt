@@ -1,11 +1,11 @@
 //! What the command line asks for.
 
-ghost use Rattle.std.specs.Prelude.{◌≡◌, ◌≤◌, IfOk, IfSome};
+ghost use Rattle.std.specs.Prelude.{◌≡◌, ◌≤◌, IfOk, IfSome, option_map};
 ghost use Rattle.clap.specs.Words.{found_of, rows_of};
 ghost use Rattle.tsview_cli.specs.Arguments as spec;
 
 use crate::options::OPTIONS;
-use crate::request::Request;
+use crate::request::{Asked, Request};
 use clap::ArgMatches;
 use clock27::Rate;
 use devices::{is_given, text_of};
@@ -53,15 +53,19 @@ fn options_of(matches: &ArgMatches<'_>) -> Option<ViewOptions>
     })
 }
 
-// Its lines, or a page of them.
-fn requested(page: bool, json: bool, request: ViewRequest) -> Request
+// Its lines, or a page of them; none where both are asked for.
+#[tactic(auto, unfolding(crate::specs::Arguments::requested))]
+fn requested(page: bool, json: bool, request: ViewRequest) -> Option<Request>
     ensures { result ≡ spec.requested page json request }
 {
-    if page {
-        Request::Page(request)
-    } else {
-        Request::Lines(request, json)
+    if !page {
+        return Some(Request::Lines(request, json));
     }
+    if json {
+        drop(request);
+        return None;
+    }
+    Some(Request::Page(request))
 }
 
 // With the options that are lists.
@@ -81,15 +85,40 @@ fn request_of(alloc: Global, matches: &ArgMatches<'_>) -> Result<Option<Request>
     let choice = ViewChoice { programs, buffers };
     let page = is_given(text_of(matches, "page"));
     let json = is_given(text_of(matches, "json"));
-    Ok(Some(requested(page, json, ViewRequest { options, choice })))
+    Ok(requested(page, json, ViewRequest { options, choice }))
 }
 
-/// What the words ask for; none where they are a usage error.
-pub(crate) fn read_arguments(alloc: Global, words: &[&str]) -> Result<Option<Request>, AllocError>
-    ensures { IfOk result (λ r. r ≡ spec.asked words.now) }
+// The name of the file with the stream; none where the stream comes on the input.
+fn file_of<'a>(matches: &ArgMatches<'a>) -> Option<&'a str>
+    ensures { option_map (λ s. s.now) result ≡ spec.file_of (rows_of (found_of matches.now)) }
+{
+    match text_of(matches, "file") {
+        Some("-") => None,
+        file => file,
+    }
+}
+
+// What is asked for, and of which stream.
+#[tactic(auto, unfolding(crate::specs::Arguments::asked_of))]
+fn asked_of<'a>(alloc: Global, matches: &ArgMatches<'a>) -> Result<Option<Asked<'a>>, AllocError>
+    ensures { IfOk result (λ r. r ≡ spec.asked_of (rows_of (found_of matches.now))) }
+{
+    let Some(request) = request_of(alloc, matches)? else {
+        return Ok(None);
+    };
+    let file = file_of(matches);
+    Ok(Some(Asked { request, file }))
+}
+
+/// Returns what the words ask for; none where they are a usage error.
+pub(crate) fn read_arguments<'a>(
+    alloc: Global,
+    words: &'a [&'a str],
+) -> Result<Option<Asked<'a>>, AllocError>
+    ensures { IfOk result (λ r. r ≡ spec.asked words.entry.now) }
 {
     match given_options(alloc, "tsview", &OPTIONS, words)? {
-        Some(matches) => request_of(alloc, &matches),
+        Some(matches) => asked_of(alloc, &matches),
         None => Ok(None),
     }
 }

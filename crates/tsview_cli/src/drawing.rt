@@ -1,4 +1,4 @@
-//! A page of what is found in a stream, written at its end.
+//! A page of the events of a stream, written at its end.
 ghost use Rattle.std.specs.Prelude.{◌≡◌, ◌%◌, if◌then◌else◌, IfErr, IfOk, OnOk};
 ghost use Rattle.devices.specs.Devices.{reads, writes};
 ghost use Rattle.devices.specs.Runs.{Performs};
@@ -18,7 +18,7 @@ use view_page::Page;
 /// The size of a piece in bytes: 349 packets, somewhat more than 64 KiB, so that it is read past the buffer of standard input.
 const PIECE: usize = 349 * 188;
 
-/// A stream that is viewed, the page of the events that its packets have settled, and room for those of one.
+/// A stream that is viewed, the page of the events that its packets have settled, and room for the events of one packet.
 #[derive(Drop)]
 pub struct Drawing {
     pub view: ClockedView,

@@ -3,76 +3,113 @@ ghost use Rattle.std.specs.Prelude.{◌≡◌};
 ghost use Rattle.tsview_cli.specs.Options as spec;
 ghost use Rattle.word_faults.specs.KnownWords.{known_of};
 
+use option_lists::Scale;
 use word_faults::{KnownWords, OptionRow, ValueKind};
 
-/// The options. What is read, which word is a fault, and the usage follow these rows.
-pub(crate) const OPTIONS: [OptionRow; 9] = [
+/// The options, and the name of a file beside them. What is read, which word is a fault, and the usage follow these rows.
+pub(crate) const OPTIONS: [OptionRow; 11] = [
+    OptionRow {
+        name: "file",
+        value: ValueKind::Word,
+        form: "",
+        unit: "",
+        apart: "",
+        help: "the file with the packets; else, or with -, they come on standard input",
+    },
     OptionRow {
         name: "rate",
-        value: ValueKind::Number {
+        value: ValueKind::Scaled {
+            scale: Scale::Bits,
             least: 100_000,
             greatest: 100_000_000,
             default: None,
         },
         form: "",
+        unit: "bits a second, or with k or M",
+        apart: "",
         help: "the rate of the stream in bits a second; else by its clock references",
     },
     OptionRow {
         name: "window",
-        value: ValueKind::Number {
+        value: ValueKind::Scaled {
+            scale: Scale::Millis,
             least: 10,
             greatest: 3_600_000,
             default: Some(1_000),
         },
         form: "",
+        unit: "ms, or with s",
+        apart: "",
         help: "the length of a window in ms; else 1000",
     },
     OptionRow {
         name: "json",
         value: ValueKind::Flag,
         form: "",
+        unit: "",
+        apart: "--page",
         help: "a JSON object a line",
     },
     OptionRow {
         name: "page",
         value: ValueKind::Flag,
         form: "",
+        unit: "",
+        apart: "--json",
         help: "a page of HTML with pictures instead",
     },
     OptionRow {
         name: "program",
         value: ValueKind::Numbers { greatest: 65_535 },
         form: "N,..",
+        unit: "",
+        apart: "",
         help: "view the streams of these programs alone",
     },
     OptionRow {
         name: "buffers",
         value: ValueKind::Buffers,
         form: "PID:RX:MAIN,..",
+        unit: "bits a second and bytes",
+        apart: "",
         help: "buffers of a PID, in bits a second and bytes",
     },
     OptionRow {
         name: "progress",
         value: ValueKind::Flag,
         form: "",
-        help: "how many bytes are read is told each second, on a terminal",
+        unit: "",
+        apart: "",
+        help: "report each second how many bytes are read, on a terminal",
     },
     OptionRow {
         name: "plan",
         value: ValueKind::Alone,
         form: "",
+        unit: "",
+        apart: "",
         help: "alone: a page of HTML of the plan in a job",
     },
     OptionRow {
         name: "version",
         value: ValueKind::Alone,
         form: "",
-        help: "alone: the version, and the kit that proved it",
+        unit: "",
+        apart: "",
+        help: "or -V, alone: the version, and the kit that proved it",
+    },
+    OptionRow {
+        name: "help",
+        value: ValueKind::Alone,
+        form: "",
+        unit: "",
+        apart: "",
+        help: "or -h: this text, on standard output",
     },
 ];
 
-/// The usage, written to the second writer on a usage error: a line for each row of the table.
-const USAGE: &str = "usage: tsview [OPTIONS] < PACKETS
+/// The usage, written to the first writer if the words ask for help, to the second on a usage error: a line for each row of the table.
+const USAGE: &str = "usage: tsview [OPTIONS] [FILE|-] < PACKETS
        tsview --plan < JOB
   --rate 100000..100000000       the rate of the stream in bits a second; else by its clock references
   --window 10..3600000           the length of a window in ms; else 1000
@@ -80,26 +117,28 @@ const USAGE: &str = "usage: tsview [OPTIONS] < PACKETS
   --page                         a page of HTML with pictures instead
   --program N,..                 view the streams of these programs alone
   --buffers PID:RX:MAIN,..       buffers of a PID, in bits a second and bytes
-  --progress                     how many bytes are read is told each second, on a terminal
+  --progress                     report each second how many bytes are read, on a terminal
   --plan                         alone: a page of HTML of the plan in a job
-  --version                      alone: the version, and the kit that proved it
+  --version                      or -V, alone: the version, and the kit that proved it
+  --help                         or -h: this text, on standard output
 ";
 
-/// The usage.
+/// Returns the usage.
 pub(crate) fn usage() -> &'static str
     ensures { result.now ≡ spec.usage_text }
 {
     USAGE
 }
 
-/// What the program knows of its command line: options alone.
+/// Returns what the program knows of its command line: options, and the name of a file.
 pub(crate) fn known_words() -> KnownWords
     ensures { known_of result ≡ spec.known_words }
 {
     KnownWords {
         options: &OPTIONS,
         words: &[],
-        alone: &[],
+        names: true,
+        alone: &["-V"],
         required: None,
         barred: None,
     }

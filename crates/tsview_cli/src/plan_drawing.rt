@@ -12,7 +12,7 @@ use devices::{Halt, read_whole, report_halt, write_text};
 use plan_page::write_plan_page;
 use std::alloc::{AllocError, Global};
 
-/// Whether the words are `--plan` alone.
+/// Returns whether the words are `--plan` alone.
 #[tactic(auto, unfolding(crate::specs::PlanDrawing::is_plan))]
 pub(crate) fn is_plan(words: &[&str]) -> bool
     ensures { result ≡ spec.is_plan (map (λ s. s.now) words.now) }

@@ -1,29 +1,32 @@
 //! The program over any reader and two writers.
 
-ghost use Rattle.std.specs.Prelude.{◌≡◌, ◌⊎◌, Bool, None, Some, if◌then◌else◌, true, false, codes, map};
-ghost use Rattle.devices.specs.Devices.{reads, writes};
+ghost use Rattle.std.specs.Prelude.{◌≡◌, Bool, None, Some, if◌then◌else◌, true, false, codes, map};
+ghost use Rattle.clap.specs.Words.{Text};
+ghost use Rattle.devices.specs.Devices.{Device, IsUntouched, reads, writes};
+ghost use Rattle.devices.specs.Files.{files_of};
 ghost use Rattle.devices.specs.Lines.{Reports};
-ghost use Rattle.devices.specs.Runs.{LacksMemory, Performs};
-ghost use Rattle.devices.specs.Usage.{TellsUsage};
+ghost use Rattle.devices.specs.Runs.{Performs};
 ghost use Rattle.stream_report.specs.Choices.{RequestView};
-ghost use Rattle.tsview_cli.specs.Arguments.{asked};
+ghost use Rattle.tsview_cli.specs.Answers.{Answers};
+ghost use Rattle.tsview_cli.specs.Arguments.{asked, asked_for};
 ghost use Rattle.tsview_cli.specs.Drawing.{DrawsPage};
+ghost use Rattle.tsview_cli.specs.NamedStream.{OfFile};
 ghost use Rattle.tsview_cli.specs.Options.{known_words, usage_text};
 ghost use Rattle.tsview_cli.specs.PlanDrawing.{DrawsPlan, is_plan};
 ghost use Rattle.tsview_cli.specs.Viewing.{Concludes, Views};
-ghost use Rattle.word_faults.specs.UsageReport.{Prints, is_version, usage_report, version_text};
+ghost use Rattle.word_faults.specs.UsageReport.{AnswersWords};
 
 use crate::arguments::read_arguments;
 use crate::drawing::draw_stream;
 use crate::options::{known_words, usage};
 use crate::plan_drawing::{draw_plan, is_plan};
-use crate::request::Request;
+use crate::request::{Asked, Request};
 use crate::viewing::{Viewed, view_input};
 use counted_io::{Sink, Source};
-use devices::{Halt, report_halt, report_line, report_text};
+use devices::{Halt, NamedFiles, report_halt, report_line, report_text};
 use std::alloc::Global;
 use stream_report::ViewRequest;
-use word_faults::answer_other_words;
+use word_faults::answer_words;
 
 /// Writes the usage, and returns the status.
 pub fn report_usage<E: Sink>(faults: &mut E) -> u8
@@ -72,53 +75,123 @@ fn view_stream<R: Source, W: Sink, E: Sink>(
     }
 }
 
-// The program for a transport stream in the input, or a usage error.
-fn run_on_stream<R: Source, W: Sink, E: Sink>(
+// Answers what is asked for of the stream in an input, and returns the status.
+fn answer<R: Source, W: Sink, E: Sink>(
+    alloc: Global,
+    request: Request,
+    input: &mut R,
+    output: &mut W,
+    faults: &mut E,
+) -> u8
+    ensures { Answers request (reads R.Source input.old input.new) (writes W.Sink output.old output.new)
+        (writes E.Sink faults.old faults.new) result }
+{
+    match request {
+        Request::Lines(request, json) => view_stream(alloc, request, json, input, output, faults),
+        Request::Page(request) => draw_stream(alloc, request, input, output, faults),
+    }
+}
+
+// Answers what is asked for of the stream in the file of a name, and returns the status.
+fn answer_file<F: NamedFiles, W: Sink, E: Sink>(
+    alloc: Global,
+    request: Request,
+    files: &F,
+    name: &str,
+    output: &mut W,
+    faults: &mut E,
+) -> u8
+    ensures { (input : Device) → IsUntouched input →
+        OfFile (files_of (F.contents_of files.now) (F.opens files.now) F.never_fails) name.now (Answers request) input
+        (writes W.Sink output.old output.new) (writes E.Sink faults.old faults.new) result }
+{
+    let Some(mut file) = files.open_named(name) else {
+        drop(request);
+        report_line(faults, "open", &[]);
+        return 3;
+    };
+    let status = answer(alloc, request, &mut file, output, faults);
+    drop(file);
+    status
+}
+
+// Answers what is asked for, of the stream in the input or in a file, and returns the status.
+fn answer_asked<F: NamedFiles, R: Source, W: Sink, E: Sink>(
+    alloc: Global,
+    wanted: Asked<'_>,
+    files: &F,
+    input: &mut R,
+    output: &mut W,
+    faults: &mut E,
+) -> u8
+    ensures input { wanted.entry.file ≡ None →
+        Answers wanted.entry.request (reads R.Source input.old input.new) (writes W.Sink output.old output.new)
+        (writes E.Sink faults.old faults.new) result }
+    ensures file { (name : Text) → wanted.entry.file ≡ Some name →
+        OfFile (files_of (F.contents_of files.now) (F.opens files.now) F.never_fails) name (Answers wanted.entry.request)
+        (reads R.Source input.old input.new) (writes W.Sink output.old output.new)
+        (writes E.Sink faults.old faults.new) result }
+{
+    let Asked { request, file } = wanted;
+    match file {
+        Some(name) => answer_file(alloc, request, files, name, output, faults),
+        None => answer(alloc, request, input, output, faults),
+    }
+}
+
+// The program for a transport stream in the input or in a file, or a usage error.
+fn run_on_stream<F: NamedFiles, R: Source, W: Sink, E: Sink>(
     alloc: Global,
     words: &[&str],
+    files: &F,
     input: &mut R,
     output: &mut W,
     faults: &mut E,
 ) -> u8
     // A transport stream, as it comes, to the lines of its report.
-    ensures view { (r : RequestView) (json : Bool) → asked words.now ≡ Some (Request.Lines r json) →
+    ensures view { (r : RequestView) (json : Bool) →
+        asked words.now ≡ Some (asked_for (Request.Lines r json) None) →
         Views r json (reads R.Source input.old input.new) (writes W.Sink output.old output.new)
         (writes E.Sink faults.old faults.new) result }
     // A transport stream to the page of what is found in it.
-    ensures page { (r : RequestView) → asked words.now ≡ Some (Request.Page r) →
+    ensures page { (r : RequestView) →
+        asked words.now ≡ Some (asked_for (Request.Page r) None) →
         Performs (DrawsPage r) (reads R.Source input.old input.new) (writes W.Sink output.old output.new)
         (writes E.Sink faults.old faults.new) result }
-    // `--version` alone.
-    ensures version { asked words.now ≡ None → is_version (map (λ s. s.now) words.now) ≡ true →
-        Prints (version_text (codes "tsview")) (reads R.Source input.old input.new)
-        (writes W.Sink output.old output.new) (writes E.Sink faults.old faults.new) result }
-    // Anything else: the first word that cannot be taken and the usage are told.
-    ensures usage { asked words.now ≡ None → is_version (map (λ s. s.now) words.now) ≡ false →
-        TellsUsage (usage_report known_words (map (λ s. s.now) words.now) usage_text)
+    // The same of a transport stream in a file.
+    ensures view_file { (r : RequestView) (json : Bool) (name : Text) →
+        asked words.now ≡ Some (asked_for (Request.Lines r json) (Some name)) →
+        OfFile (files_of (F.contents_of files.now) (F.opens files.now) F.never_fails) name (Views r json)
         (reads R.Source input.old input.new) (writes W.Sink output.old output.new)
-        (writes E.Sink faults.old faults.new) result
-        ⊎ LacksMemory (reads R.Source input.old input.new) (writes W.Sink output.old output.new)
+        (writes E.Sink faults.old faults.new) result }
+    ensures page_file { (r : RequestView) (name : Text) →
+        asked words.now ≡ Some (asked_for (Request.Page r) (Some name)) →
+        OfFile (files_of (F.contents_of files.now) (F.opens files.now) F.never_fails) name (Performs (DrawsPage r))
+        (reads R.Source input.old input.new) (writes W.Sink output.old output.new)
+        (writes E.Sink faults.old faults.new) result }
+    // Anything else: `--version`, `--help`, or a word that cannot be taken.
+    ensures other { asked words.now ≡ None →
+        AnswersWords (codes "tsview") known_words (map (λ s. s.now) words.now) usage_text
+        (reads R.Source input.old input.new) (writes W.Sink output.old output.new)
         (writes E.Sink faults.old faults.new) result }
 {
     match read_arguments(alloc, words) {
-        Ok(Some(Request::Lines(request, json))) => {
-            view_stream(alloc, request, json, input, output, faults)
-        }
-        Ok(Some(Request::Page(request))) => draw_stream(alloc, request, input, output, faults),
+        Ok(Some(wanted)) => answer_asked(alloc, wanted, files, input, output, faults),
         Ok(None) => {
             let known = known_words();
-            answer_other_words(alloc, "tsview", known, words, usage(), output, faults)
+            answer_words(alloc, "tsview", known, words, usage(), output, faults)
         }
         Err(_) => report_halt(faults, Halt::Memory),
     }
 }
 
-/// The whole program: it reads the input piece by piece, writes the lines of what a piece settles before it reads the next, or
+/// Runs the whole program: it reads the input, or a file that is named, piece by piece, writes the lines of what a piece settles before it reads the next, or
 /// draws a page of it and writes that at the end; or draws a page of the plan in a job. It returns the exit status: 0 good, 1
 /// something is wrong in the stream or the job, 2 a usage error, 3 a device failed, out of memory, or too many units of a stream wait.
-pub fn run<R: Source, W: Sink, E: Sink>(
+pub fn run<F: NamedFiles, R: Source, W: Sink, E: Sink>(
     alloc: Global,
     words: &[&str],
+    files: &F,
     input: &mut R,
     output: &mut W,
     faults: &mut E,
@@ -129,30 +202,34 @@ pub fn run<R: Source, W: Sink, E: Sink>(
         (writes W.Sink output.old output.new) (writes E.Sink faults.old faults.new) result }
     // A transport stream, as it comes, to the lines of its report.
     ensures view { is_plan (map (λ s. s.now) words.now) ≡ false → (r : RequestView) (json : Bool) →
-        asked words.now ≡ Some (Request.Lines r json) →
+        asked words.now ≡ Some (asked_for (Request.Lines r json) None) →
         Views r json (reads R.Source input.old input.new) (writes W.Sink output.old output.new)
         (writes E.Sink faults.old faults.new) result }
     // A transport stream to the page of what is found in it.
-    ensures page { is_plan (map (λ s. s.now) words.now) ≡ false → (r : RequestView) → asked words.now ≡ Some (Request.Page r) →
+    ensures page { is_plan (map (λ s. s.now) words.now) ≡ false → (r : RequestView) →
+        asked words.now ≡ Some (asked_for (Request.Page r) None) →
         Performs (DrawsPage r) (reads R.Source input.old input.new) (writes W.Sink output.old output.new)
         (writes E.Sink faults.old faults.new) result }
-    // `--version` alone.
-    ensures version { is_plan (map (λ s. s.now) words.now) ≡ false → asked words.now ≡ None →
-        is_version (map (λ s. s.now) words.now) ≡ true →
-        Prints (version_text (codes "tsview")) (reads R.Source input.old input.new)
-        (writes W.Sink output.old output.new) (writes E.Sink faults.old faults.new) result }
-    // Anything else: the first word that cannot be taken and the usage are told.
-    ensures usage { is_plan (map (λ s. s.now) words.now) ≡ false → asked words.now ≡ None →
-        is_version (map (λ s. s.now) words.now) ≡ false →
-        TellsUsage (usage_report known_words (map (λ s. s.now) words.now) usage_text)
+    // The same of a transport stream in a file.
+    ensures view_file { is_plan (map (λ s. s.now) words.now) ≡ false → (r : RequestView) (json : Bool) (name : Text) →
+        asked words.now ≡ Some (asked_for (Request.Lines r json) (Some name)) →
+        OfFile (files_of (F.contents_of files.now) (F.opens files.now) F.never_fails) name (Views r json)
         (reads R.Source input.old input.new) (writes W.Sink output.old output.new)
-        (writes E.Sink faults.old faults.new) result
-        ⊎ LacksMemory (reads R.Source input.old input.new) (writes W.Sink output.old output.new)
+        (writes E.Sink faults.old faults.new) result }
+    ensures page_file { is_plan (map (λ s. s.now) words.now) ≡ false → (r : RequestView) (name : Text) →
+        asked words.now ≡ Some (asked_for (Request.Page r) (Some name)) →
+        OfFile (files_of (F.contents_of files.now) (F.opens files.now) F.never_fails) name (Performs (DrawsPage r))
+        (reads R.Source input.old input.new) (writes W.Sink output.old output.new)
+        (writes E.Sink faults.old faults.new) result }
+    // Anything else: `--version`, `--help`, or a word that cannot be taken.
+    ensures other { is_plan (map (λ s. s.now) words.now) ≡ false → asked words.now ≡ None →
+        AnswersWords (codes "tsview") known_words (map (λ s. s.now) words.now) usage_text
+        (reads R.Source input.old input.new) (writes W.Sink output.old output.new)
         (writes E.Sink faults.old faults.new) result }
 {
     if is_plan(words) {
         draw_plan(alloc, input, output, faults)
     } else {
-        run_on_stream(alloc, words, input, output, faults)
+        run_on_stream(alloc, words, files, input, output, faults)
     }
 }

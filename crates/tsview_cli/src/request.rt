@@ -1,10 +1,29 @@
-//! What is asked for.
+//! The request of the words.
 
+use std::marker::Model;
 use stream_report::ViewRequest;
 
-/// The lines of what is found, each a JSON object if so, or the page that is drawn of it.
+/// The lines of events, each a JSON object on request, or the page that is drawn of them.
 #[derive(Drop)]
 pub enum Request {
     Lines(ViewRequest, bool),
     Page(ViewRequest),
+}
+
+/// What is asked for, and of which stream.
+#[derive(Drop)]
+pub struct Asked<'a> {
+    pub request: Request,
+    /// The name of the file with the stream; without it, or if it is `-`, the stream comes on the input.
+    pub file: Option<&'a str>,
+}
+
+// A contract sees the name as its characters.
+impl<'a> Model for Asked<'a> {
+    ghost use Rattle.std.specs.Prelude.{option_map};
+    ghost use Rattle.tsview_cli.specs.Arguments.{AskedView};
+
+    ghost Value = { AskedView };
+
+    ghost view = { λ a. record { request = a.request; file = option_map (λ s. s.now) a.file } };
 }

@@ -7,7 +7,7 @@ use Rattle.word_faults.specs.WordFaults.{alone_reason, fault_from, fault_or, fil
 use Rattle.word_faults.specs.NamedWords.{FaultsNameWords, NamesWords}
 use Rattle.word_faults.specs.declared.word_fault.WordFault.{WordFault}
 use Rattle.word_faults.specs.declared.word_fault.Reason.{Reason}
-use Rattle.word_faults.specs.declared.word_fault.Reason.TheVariants.{Unknown, Twice, NoValue, BadValue, BadNextWord, Alone, Missing, Help}
+use Rattle.word_faults.specs.declared.word_fault.Reason.TheVariants.{Unknown, Twice, NoValue, BadValue, BadNextWord, Alone, Apart, Missing, Help}
 
 -- what the words after a word have to be for a reason
 unfoldable Reaches : List Text → Reason → Type 0
@@ -17,6 +17,7 @@ Reaches rest NoValue = Unit {0}
 Reaches rest BadValue = Unit {0}
 Reaches rest BadNextWord = 0 < length rest
 Reaches rest Alone = Unit {0}
+Reaches rest Apart = Unit {0}
 Reaches rest Missing = ⊥
 Reaches rest Help = Unit {0}
 
@@ -49,7 +50,8 @@ option_may : (c : CommandLine) (takes : Option Bool) (before : List Text) (optio
 unfolding Reaches
 option_may c None before option value rest = tt
 option_may c (Some takes) before option value rest =
-    by_case rest (is_given option before) (Some Twice) _ tt (known_may c takes option value rest)
+    by_case rest (is_given option before) (Some Twice) _ tt
+    (by_case rest (is_given (c.apart option) before) (Some Apart) _ tt (known_may c takes option value rest))
 
 at_may : (c : CommandLine) (has_word : Bool) (before : List Text) (w : Text) (rest : List Text) → May rest (reason_at c has_word before w rest)
 unfolding Reaches
@@ -69,6 +71,7 @@ there c before rest w NoValue h = rw length-append (omega arith)
 there c before rest w BadValue h = rw length-append (omega arith)
 there c before rest w BadNextWord h = rw length-append (omega (arith, h))
 there c before rest w Alone h = rw length-append (omega arith)
+there c before rest w Apart h = rw length-append (omega arith)
 there c before rest w Missing h = absurd h
 there c before rest w Help h = rw length-append (omega arith)
 

@@ -1,10 +1,12 @@
 -- The report by what is known, or of a usage text, that is equal to another.
-use Rattle.std.proofs.Common.{◌≡◌, ◌⊎◌, ℕ, List, subst}
+use Rattle.std.proofs.Common.{◌≡◌, ◌∙◌, ◌++◌, ◌⊎◌, ℕ, Bool, true, false, List, Option, ap, subst, sym, inr}
 use Rattle.devices.specs.Devices.{Device}
 use Rattle.devices.specs.Runs.{LacksMemory}
 use Rattle.devices.specs.Usage.{TellsUsage}
 use Rattle.word_faults.specs.CommandLine.{CommandLine, Text}
-use Rattle.word_faults.specs.UsageReport.{usage_report}
+use Rattle.word_faults.specs.UsageReport.{AnswersWords, Prints, asks_version, fault_line, hint_line, is_help_fault, usage_report, version_text}
+use Rattle.word_faults.specs.WordFaults.{first_fault}
+use Rattle.word_faults.specs.declared.word_fault.WordFault.{WordFault}
 
 pub of_usage : (c : CommandLine) (words : List Text) (usage text : Text) (input output faults : Device) (status : ℕ) → usage ≡ text →
     TellsUsage (usage_report c words usage) input output faults status ⊎ LacksMemory input output faults status →
@@ -17,3 +19,57 @@ pub of_known : (c d : CommandLine) (words : List Text) (usage : Text) (input out
     TellsUsage (usage_report d words usage) input output faults status ⊎ LacksMemory input output faults status
 of_known c d words usage input output faults status e t =
     subst (λ (k : CommandLine). TellsUsage (usage_report k words usage) input output faults status ⊎ LacksMemory input output faults status) e t
+
+-- all answers by what is known and a usage text that are equal to others
+pub of_words : (program : Text) (c d : CommandLine) (words : List Text) (usage text : Text) (input output faults : Device) (status : ℕ) → c ≡ d → usage ≡ text →
+    AnswersWords program c words usage input output faults status → AnswersWords program d words text input output faults status
+of_words program c d words usage text input output faults status known is a =
+    subst (λ (u : Text). AnswersWords program d words u input output faults status) is
+    (subst (λ (k : CommandLine). AnswersWords program k words usage input output faults status) known a)
+
+-- out of memory is an answer to all words
+pub of_memory : (program : Text) (c : CommandLine) (words : List Text) (usage : Text) (input output faults : Device) (status : ℕ) →
+    LacksMemory input output faults status → AnswersWords program c words usage input output faults status
+of_memory program c words usage input output faults status m = record {
+  version = λ is. inr (inr m);
+  help = λ none is. inr (inr m);
+  fault = λ none other. inr m;
+}
+
+-- a text that is equal to one that was printed
+pub of_printed : (text shown : Text) (input output faults : Device) (status : ℕ) → text ≡ shown → Prints text input output faults status →
+    Prints shown input output faults status
+of_printed text shown input output faults status is p = subst (λ (t : Text). Prints t input output faults status) is p
+
+-- one of the three answers is an answer
+
+both : (b : Bool) → b ≡ true → b ≡ false → ⊥
+both b is unlike = let clash : true ≡ false = sym is ∙ unlike in absurd cc
+
+pub of_version : (program : Text) (c : CommandLine) (words : List Text) (usage : Text) (input output faults : Device) (status : ℕ) →
+    asks_version words ≡ true → Prints (version_text program) input output faults status → AnswersWords program c words usage input output faults status
+of_version program c words usage input output faults status is p = record {
+  version = λ alike. p;
+  help = λ unlike wants. absurd (both (asks_version words) is unlike);
+  fault = λ unlike none. absurd (both (asks_version words) is unlike);
+}
+
+pub of_help : (program : Text) (c : CommandLine) (words : List Text) (usage : Text) (fault : Option WordFault) (input output faults : Device) (status : ℕ) →
+    fault ≡ first_fault c words → asks_version words ≡ false → is_help_fault fault ≡ true → Prints usage input output faults status →
+    AnswersWords program c words usage input output faults status
+of_help program c words usage fault input output faults status same none is p = record {
+  version = λ alike. absurd (both (asks_version words) alike none);
+  help = λ unlike wants. p;
+  fault = λ unlike isnt. absurd (both (is_help_fault fault) is (ap is_help_fault same ∙ isnt));
+}
+
+pub of_fault : (program : Text) (c : CommandLine) (words : List Text) (usage : Text) (fault : Option WordFault) (input output faults : Device) (status : ℕ) →
+    fault ≡ first_fault c words → asks_version words ≡ false → is_help_fault fault ≡ false →
+    TellsUsage (fault_line c words fault ++ (hint_line c words fault ++ usage)) input output faults status ⊎ LacksMemory input output faults status →
+    AnswersWords program c words usage input output faults status
+of_fault program c words usage fault input output faults status same none is t = record {
+  version = λ alike. absurd (both (asks_version words) alike none);
+  help = λ unlike wants. absurd (both (is_help_fault fault) (ap is_help_fault same ∙ wants) is);
+  fault = λ unlike isnt. subst (λ (f : Option WordFault). TellsUsage (fault_line c words f ++ (hint_line c words f ++ usage)) input output faults status
+      ⊎ LacksMemory input output faults status) same t;
+}

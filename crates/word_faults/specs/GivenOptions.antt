@@ -1,12 +1,14 @@
 -- The values that a command line gives to the options of a table, as `clap` reads them.
-use Rattle.std.specs.Prelude.{ℕ, true, max, min, unwrap_or, List, [], ◌∷◌, Option, Some, None}
+use Rattle.std.specs.Prelude.{ℕ, true, max, min, unwrap_or, List, [], ◌∷◌, Option, Some, None, option_map}
 use Rattle.clap.specs.Words.{App, Kinds, Row, fault_of, first_of, matches_of, new_app, new_rule, with_rule}
 use Rattle.devices.specs.Options.{flag_rule, number_given, number_if_given, number_option, option_rule}
 use Rattle.option_lists.specs.Lists.{number_list}
+use Rattle.option_lists.specs.Scaled.{scaled_in}
+use Rattle.option_lists.specs.declared.scaled.Scale.{Scale}
 use Rattle.word_faults.specs.CommandLine.{Text}
 use Rattle.word_faults.specs.OptionRows.{OptionRow, kind_named}
 use Rattle.word_faults.specs.declared.option_row.ValueKind.{ValueKind}
-use Rattle.word_faults.specs.declared.option_row.ValueKind.TheVariants.{Flag, Alone, Word, Number, Numbers}
+use Rattle.word_faults.specs.declared.option_row.ValueKind.TheVariants.{Flag, Alone, Word, Number, Scaled, Numbers}
 
 -- 1. The command line as it is declared to `clap`: the options of the rows, and a word beside them; a word beside which nothing may stand
 -- is none of them
@@ -46,10 +48,24 @@ given_options program rows words = unless_faulty (fault_of (app_of_options progr
 
 -- 3. Numbers
 
+-- a number of digits alone
+abbrev pub plain_or : ℕ → ℕ → Option ℕ → Option Text → Option ℕ
+plain_or least greatest None text = number_given least greatest text
+plain_or least greatest (Some default) text = number_option least greatest default text
+
+-- a number that may have a unit: a value of an option that is given, and without one the default
+abbrev pub scaled_or : Scale → ℕ → ℕ → Option ℕ → Option Text → Option ℕ
+scaled_or scale least greatest default None = default
+scaled_or scale least greatest default (Some text) = scaled_in scale least greatest text
+
+abbrev pub scaled_if : Scale → ℕ → ℕ → Option Text → Option (Option ℕ)
+scaled_if scale least greatest None = Some None
+scaled_if scale least greatest (Some text) = option_map Some (scaled_in scale least greatest text)
+
 -- the number of an option of this kind: the default where it is not given, none where the text is no number of the range
 unfoldable pub number_by : Option ValueKind → Option Text → Option ℕ
-number_by (Some (Number least greatest None)) text = number_given least greatest text
-number_by (Some (Number least greatest (Some default))) text = number_option least greatest default text
+number_by (Some (Number least greatest default)) text = plain_or least greatest default text
+number_by (Some (Scaled scale least greatest default)) text = scaled_or scale least greatest default text
 number_by kind text = None
 
 abbrev pub number_of : List OptionRow → Text → List Row → Option ℕ
@@ -58,15 +74,18 @@ number_of rows name given = number_by (kind_named rows name) (first_of name give
 -- the least and the greatest number of an option of this kind
 unfoldable pub least_by : Option ValueKind → ℕ
 least_by (Some (Number least greatest default)) = least
+least_by (Some (Scaled scale least greatest default)) = least
 least_by kind = 0
 
 -- and the least number with the default
 unfoldable pub lowest_by : Option ValueKind → ℕ
 lowest_by (Some (Number least greatest default)) = min least (unwrap_or default least)
+lowest_by (Some (Scaled scale least greatest default)) = min least (unwrap_or default least)
 lowest_by kind = 0
 
 unfoldable pub greatest_by : Option ValueKind → ℕ
 greatest_by (Some (Number least greatest default)) = max greatest (unwrap_or default 0)
+greatest_by (Some (Scaled scale least greatest default)) = max greatest (unwrap_or default 0)
 greatest_by (Some (Numbers greatest)) = greatest
 greatest_by kind = 0
 
@@ -82,6 +101,7 @@ greatest_of rows name = greatest_by (kind_named rows name)
 -- the number of an option that need not be given
 unfoldable pub number_if_by : Option ValueKind → Option Text → Option (Option ℕ)
 number_if_by (Some (Number least greatest default)) text = number_if_given least greatest text
+number_if_by (Some (Scaled scale least greatest default)) text = scaled_if scale least greatest text
 number_if_by kind text = None
 
 abbrev pub number_if : List OptionRow → Text → List Row → Option (Option ℕ)

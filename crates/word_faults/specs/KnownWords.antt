@@ -1,10 +1,12 @@
 -- What a program knows of its command line, by its table of options.
-use Rattle.std.specs.Prelude.{◌||◌, Bool, if◌then◌else◌, List, Option, Some, None, map, option_map}
+use Rattle.std.specs.Prelude.{◌&&◌, ◌||◌, Bool, false, not, if◌then◌else◌, List, [], ◌∷◌, ◌++◌, Option, Some, None, codes, flat_map, map, option_map}
 use Rattle.std.specs.List.{list_any}
 use Rattle.std.specs.Str.{bytes_eq}
 use Rattle.word_faults.specs.CommandLine.{CommandLine, Text}
-use Rattle.word_faults.specs.OptionRows.{OptionRow, is_alone, kind_of, reads, takes_value, view}
+use Rattle.word_faults.specs.Hints.{nearest, takes_line}
+use Rattle.word_faults.specs.OptionRows.{OptionRow, apart_of, is_alone, kind_of, reads, takes_value, view}
 use Rattle.word_faults.specs.declared.option_row.ValueKind.{ValueKind}
+use Rattle.word_faults.specs.declared.option_row.ValueKind.TheVariants.{Word}
 use Rattle.word_faults.specs.declared.known_words.KnownWords.{KnownWords}
 
 abbrev pub is_among : List Text → Text → Bool
@@ -15,21 +17,47 @@ abbrev pub kind_but : Option Text → List OptionRow → Text → Option ValueKi
 kind_but None rows word = kind_of rows word
 kind_but (Some barred) rows word = if bytes_eq barred word then None else kind_of rows word
 
--- the options of a table, but one that is barred; words that may stand beside them, and those beside which nothing may stand; and the
--- word of the option that has to be given
-abbrev pub known_but : Option Text → List OptionRow → List Text → List Text → Option Text → CommandLine
-known_but barred rows words alone required = record {
+-- the words that may be meant by one that is not known: of the options but one that is barred, those beside them, those that stand alone
+abbrev pub unless_barred : Option Text → Text → List Text
+unless_barred None word = word ∷ []
+unless_barred (Some barred) word = if bytes_eq barred word then [] else word ∷ []
+
+abbrev pub word_by : Option Text → ValueKind → Text → List Text
+word_by barred Word name = []
+word_by barred kind name = unless_barred barred (codes "--" ++ name)
+
+abbrev pub word_of : Option Text → OptionRow → List Text
+word_of barred row = word_by barred row.value row.name
+
+unfoldable pub meant_words : Option Text → List OptionRow → List Text → List Text → List Text
+meant_words barred rows words alone = flat_map (word_of barred) rows ++ (words ++ alone)
+
+-- a word that may be the name of a file
+abbrev pub is_name : Bool → Text → Bool
+is_name names word = names && not (bytes_eq word (codes "--"))
+
+-- the options of a table, but one that is barred; whether the name of a file may stand beside them, words that may, and those beside which
+-- nothing may stand; and the word of the option that has to be given
+abbrev pub known_with : Bool → Option Text → List OptionRow → List Text → List Text → Option Text → CommandLine
+known_with names barred rows words alone required = record {
   takes_value = λ option. takes_value (kind_but barred rows option);
   reads = λ option value. reads (kind_but barred rows option) value;
-  is_word = λ word. is_among words word;
+  is_word = λ word. is_name names word || is_among words word;
   stands_alone = λ word. is_among alone word || is_alone (kind_but barred rows word);
   required = required;
+  apart = λ option. apart_of rows option;
+  takes = λ option. takes_line rows option;
+  near = λ word. nearest (meant_words barred rows words alone) word;
 }
+
+-- the same where no name of a file may
+abbrev pub known_but : Option Text → List OptionRow → List Text → List Text → Option Text → CommandLine
+known_but barred rows words alone required = known_with false barred rows words alone required
 
 -- the same where no option is barred
 abbrev pub known_by : List OptionRow → List Text → List Text → Option Text → CommandLine
 known_by rows words alone required = known_but None rows words alone required
 
 abbrev pub known_of : KnownWords → CommandLine
-known_of known = known_but (option_map (λ s. s.now) known.barred) (map view known.options.now) (map (λ s. s.now) known.words.now)
+known_of known = known_with known.names (option_map (λ s. s.now) known.barred) (map view known.options.now) (map (λ s. s.now) known.words.now)
     (map (λ s. s.now) known.alone.now) (option_map (λ s. s.now) known.required)

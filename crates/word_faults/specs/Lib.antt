@@ -1,8 +1,10 @@
 pub mod CommandLine
 pub mod OptionRows
+pub mod OptionUsage
+pub mod Hints
+pub mod NearWords
 pub mod KnownWords
 pub mod GivenOptions
-pub mod OptionUsage
 pub mod WordFaults
 pub mod NamedWords
 pub mod UsageReport

@@ -3,7 +3,7 @@ use Rattle.std.specs.Prelude.{◌≡◌, ◌+◌, ◌<◌, ℕ, false, List, len
 use Rattle.word_faults.specs.CommandLine.{CommandLine, Text}
 use Rattle.word_faults.specs.WordFaults.{first_fault, is_given}
 use Rattle.word_faults.specs.declared.word_fault.Reason.{Reason}
-use Rattle.word_faults.specs.declared.word_fault.Reason.TheVariants.{Unknown, Twice, NoValue, BadValue, BadNextWord, Alone, Missing, Help}
+use Rattle.word_faults.specs.declared.word_fault.Reason.TheVariants.{Unknown, Twice, NoValue, BadValue, BadNextWord, Alone, Apart, Missing, Help}
 
 -- the option that has to be given, and is not
 abbrev pub IsMissing : CommandLine → List Text → Type 0
@@ -18,6 +18,7 @@ NamesWords c words place NoValue = place < length words
 NamesWords c words place BadValue = place < length words
 NamesWords c words place BadNextWord = place + 1 < length words
 NamesWords c words place Alone = place < length words
+NamesWords c words place Apart = place < length words
 NamesWords c words place Missing = IsMissing c words
 NamesWords c words place Help = place < length words
 

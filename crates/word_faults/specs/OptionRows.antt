@@ -1,5 +1,5 @@
 -- A table of options, and what a word or a value is by it.
-use Rattle.std.specs.Prelude.{ℕ, Bool, true, false, if◌then◌else◌, nat_eq, List, drop, Option, Some, None, codes, find, is_some, option_map, option_and_then}
+use Rattle.std.specs.Prelude.{ℕ, Bool, true, false, if◌then◌else◌, nat_eq, List, [], drop, Option, Some, None, codes, find, is_some, option_map, option_and_then}
 use Rattle.std.specs.Borrow.{Bor}
 use Rattle.std.specs.List.{starts_with}
 use Rattle.std.specs.Str.{bytes_eq}
@@ -7,21 +7,22 @@ use Rattle.devices.specs.Options.{decimal, within}
 use Rattle.option_lists.specs.JobValues.{base_of, declare_by_of, start_of}
 use Rattle.option_lists.specs.Lists.{buffer_list, number_list}
 use Rattle.option_lists.specs.NameLists.{name_list, network_in}
+use Rattle.option_lists.specs.Scaled.{scaled_in}
 use Rattle.pes_packet.specs.StreamIds.{is_unit_id}
 use Rattle.word_faults.specs.CommandLine.{Text}
 use Rattle.word_faults.specs.declared.option_row.Row.{Row}
 use Rattle.word_faults.specs.declared.option_row.ValueKind.{ValueKind}
-use Rattle.word_faults.specs.declared.option_row.ValueKind.TheVariants.{Flag, Alone, Word, Number, Numbers, Buffers, StreamId, Moment, Declare, Base, Network, Names, File}
+use Rattle.word_faults.specs.declared.option_row.ValueKind.TheVariants.{Flag, Alone, Word, Number, Scaled, Numbers, Buffers, StreamId, Moment, Declare, Base, Network, Names, File}
 
 -- a row with its texts, the same of a row in memory, and of a row of a constant
 abbrev pub OptionRow : Type 0
 OptionRow = Row Text
 
 abbrev pub view : Row (Bor (List ℕ)) → OptionRow
-view row = record { name = row.name.now; value = row.value; form = row.form.now; help = row.help.now }
+view row = record { name = row.name.now; value = row.value; form = row.form.now; unit = row.unit.now; apart = row.apart.now; help = row.help.now }
 
 abbrev pub constant_view : Row (record { now : List ℕ }) → OptionRow
-constant_view row = record { name = row.name.now; value = row.value; form = row.form.now; help = row.help.now }
+constant_view row = record { name = row.name.now; value = row.value; form = row.form.now; unit = row.unit.now; apart = row.apart.now; help = row.help.now }
 
 -- 1. The option of a word
 
@@ -36,7 +37,19 @@ kind_named rows name = option_map (λ row. row.value) (find (λ row. bytes_eq ro
 abbrev pub kind_of : List OptionRow → Text → Option ValueKind
 kind_of rows word = option_and_then (kind_named rows) (name_in word)
 
+-- the first row of this name
+abbrev pub row_of : List OptionRow → Text → Option OptionRow
+row_of rows word = option_and_then (λ name. find (λ row. bytes_eq row.name name) rows) (name_in word)
+
 -- 2. What stands with it
+
+-- the option that may not stand beside it, by its word; an empty word is none
+abbrev pub apart_by : Option OptionRow → Text
+apart_by None = []
+apart_by (Some row) = row.apart
+
+unfoldable pub apart_of : List OptionRow → Text → Text
+apart_of rows word = apart_by (row_of rows word)
 
 -- a value follows the option: none where there is no option, or a word that is none
 abbrev pub takes_value : Option ValueKind → Option Bool
@@ -64,6 +77,7 @@ is_value Flag text = false
 is_value Alone text = false
 is_value Word text = false
 is_value (Number least greatest default) text = is_some (option_and_then (within least greatest) (decimal text))
+is_value (Scaled scale least greatest default) text = is_some (scaled_in scale least greatest text)
 is_value (Numbers greatest) text = is_some (number_list greatest (Some text))
 is_value Buffers text = is_some (buffer_list (Some text))
 is_value StreamId text = is_id text

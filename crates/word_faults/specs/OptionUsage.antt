@@ -6,7 +6,7 @@ use Rattle.option_lists.specs.JobValues.{greatest_base}
 use Rattle.word_faults.specs.CommandLine.{Text}
 use Rattle.word_faults.specs.OptionRows.{OptionRow}
 use Rattle.word_faults.specs.declared.option_row.ValueKind.{ValueKind}
-use Rattle.word_faults.specs.declared.option_row.ValueKind.TheVariants.{Flag, Alone, Word, Number, Base}
+use Rattle.word_faults.specs.declared.option_row.ValueKind.TheVariants.{Flag, Alone, Word, Number, Scaled, Base}
 
 -- how a value is written: a number without a form by its range, and the base of a clock by its range too
 abbrev pub value_text : ValueKind → Text → Text
@@ -14,6 +14,8 @@ value_text Flag form = []
 value_text Alone form = []
 value_text (Number least greatest default) [] = codes " " ++ range_text least greatest
 value_text (Number least greatest default) (b ∷ form) = codes " " ++ (b ∷ form)
+value_text (Scaled scale least greatest default) [] = codes " " ++ range_text least greatest
+value_text (Scaled scale least greatest default) (b ∷ form) = codes " " ++ (b ∷ form)
 value_text Base form = codes " " ++ (range_text 0 greatest_base ++ codes "|input")
 value_text kind form = codes " " ++ form
 

@@ -1,40 +1,76 @@
 -- What is told where the words are a usage error, and what `--version` prints.
-use Rattle.std.specs.Prelude.{◌≡◌, ◌⊎◌, ◌+◌, ℕ, Bool, false, List, [], ◌∷◌, ◌++◌, Option, Some, None, codes, slice_get, unwrap_or}
+use Rattle.std.specs.Prelude.{◌≡◌, ◌⊎◌, ◌+◌, ◌&&◌, ◌||◌, ℕ, Bool, true, false, not, List, [], ◌∷◌, ◌++◌, Option, Some, None, codes, slice_get, unwrap_or}
 use Rattle.std.specs.Str.{bytes_eq}
 use Rattle.devices.specs.Devices.{Device, HasFailed, IsClean, IsUntouched, Takes}
 use Rattle.devices.specs.Lines.{Reports, Stopped}
 use Rattle.devices.specs.Outcomes.{halt_line}
 use Rattle.devices.specs.Runs.{LacksMemory}
+use Rattle.devices.specs.Usage.{TellsUsage}
 use Rattle.devices.specs.declared.halt.Halt.TheVariants.{Write}
 use Rattle.word_faults.specs.CommandLine.{CommandLine, Text}
-use Rattle.word_faults.specs.WordFaults.{first_fault}
+use Rattle.word_faults.specs.Hints.{meant_line}
+use Rattle.word_faults.specs.WordFaults.{first_fault, is_dashed, option_in}
 use Rattle.word_faults.specs.declared.word_fault.WordFault.{WordFault}
 use Rattle.word_faults.specs.declared.word_fault.Reason.{Reason}
-use Rattle.word_faults.specs.declared.word_fault.Reason.TheVariants.{Unknown, Twice, NoValue, BadValue, BadNextWord, Alone, Missing, Help}
+use Rattle.word_faults.specs.declared.word_fault.Reason.TheVariants.{Unknown, Twice, NoValue, BadValue, BadNextWord, Alone, Apart, Missing, Help}
 
 -- 1. The line of a fault, and the usage after it
 
 abbrev pub word_at : List Text → ℕ → Text
 word_at words place = unwrap_or (slice_get words place) []
 
--- the word at a place, the one after it, and the option that has to be given
-unfoldable pub reason_line : Reason → Text → Text → Text → Text
-reason_line Unknown word next required = word ++ codes ": not known\n"
-reason_line Twice word next required = word ++ codes ": given twice\n"
-reason_line NoValue word next required = word ++ codes ": no value\n"
-reason_line BadValue word next required = word ++ codes ": not a value of this option\n"
-reason_line BadNextWord word next required = word ++ codes " " ++ next ++ codes ": not a value of this option\n"
-reason_line Alone word next required = word ++ codes ": takes no options and no other word\n"
-reason_line Missing word next required = required ++ codes ": not given\n"
-reason_line Help word next required = []
+-- the word at a place, the one after it, the option that has to be given, and the one that may not stand beside the first
+unfoldable pub reason_line : Reason → Text → Text → Text → Text → Text
+reason_line Unknown word next required other = word ++ codes ": not known\n"
+reason_line Twice word next required other = word ++ codes ": given twice\n"
+reason_line NoValue word next required other = word ++ codes ": no value\n"
+reason_line BadValue word next required other = word ++ codes ": not a value of this option\n"
+reason_line BadNextWord word next required other = word ++ codes " " ++ next ++ codes ": not a value of this option\n"
+reason_line Alone word next required other = word ++ codes ": takes no options and no other word\n"
+reason_line Apart word next required other = word ++ codes ": not beside " ++ other ++ codes "\n"
+reason_line Missing word next required other = required ++ codes ": not given\n"
+reason_line Help word next required other = []
+
+abbrev pub asks_help : Reason → Bool
+asks_help Help = true
+asks_help reason = false
 
 unfoldable pub fault_line : CommandLine → List Text → Option WordFault → Text
 fault_line c words None = []
-fault_line c words (Some f) = reason_line f.reason (word_at words f.place) (word_at words (f.place + 1)) (unwrap_or c.required [])
+fault_line c words (Some f) =
+    reason_line f.reason (word_at words f.place) (word_at words (f.place + 1)) (unwrap_or c.required []) (c.apart (option_in (word_at words f.place)))
 
 -- the first word that cannot be taken and why, and the usage
 abbrev pub usage_report : CommandLine → List Text → Text → Text
 usage_report c words usage = fault_line c words (first_fault c words) ++ usage
+
+-- a word that may be the name of a file after `--`
+abbrev pub names_files : CommandLine → Text → Bool
+names_files c word = c.is_word (codes "--") && not (is_dashed word)
+
+-- what to type instead: what the option takes, or the word that may be meant
+unfoldable pub hint_by : CommandLine → Reason → Text → Text
+hint_by c Unknown word = meant_line (c.near word) (names_files c word) word
+hint_by c NoValue word = c.takes (option_in word)
+hint_by c BadValue word = c.takes (option_in word)
+hint_by c BadNextWord word = c.takes (option_in word)
+hint_by c reason word = []
+
+unfoldable pub hint_line : CommandLine → List Text → Option WordFault → Text
+hint_line c words None = []
+hint_line c words (Some f) = hint_by c f.reason (word_at words f.place)
+
+-- the same with what to type instead
+abbrev pub hinted_report : CommandLine → List Text → Text → Text
+hinted_report c words usage = fault_line c words (first_fault c words) ++ (hint_line c words (first_fault c words) ++ usage)
+
+-- the first word that cannot be taken asks for help
+abbrev pub is_help_fault : Option WordFault → Bool
+is_help_fault None = false
+is_help_fault (Some f) = asks_help f.reason
+
+abbrev pub wants_help : CommandLine → List Text → Bool
+wants_help c words = is_help_fault (first_fault c words)
 
 -- 2. The version
 
@@ -42,6 +78,11 @@ usage_report c words usage = fault_line c words (first_fault c words) ++ usage
 abbrev pub is_version : List Text → Bool
 is_version (w ∷ []) = bytes_eq w (codes "--version")
 is_version words = false
+
+-- the same by its short name
+abbrev pub asks_version : List Text → Bool
+asks_version (w ∷ []) = bytes_eq w (codes "--version") || bytes_eq w (codes "-V")
+asks_version words = false
 
 -- the program, its version, and the kit that proved it
 abbrev pub version_text : Text → Text
@@ -66,3 +107,13 @@ pub record FailsToPrint (text : Text) (input output faults : Device) (status : �
 abbrev pub Prints : Text → Device → Device → Device → ℕ → Type 0
 Prints text input output faults status =
     Printed text input output faults status ⊎ (FailsToPrint text input output faults status ⊎ LacksMemory input output faults status)
+
+-- 3. The answer of a program that people type to words that ask for nothing that it does
+
+-- the version alone, or help, is an answer on standard output; for all other words the first that cannot be taken is told, what to type
+-- instead, and the usage
+pub record AnswersWords (program : Text) (c : CommandLine) (words : List Text) (usage : Text) (input output faults : Device) (status : ℕ) : Type 0 where
+  pub version : asks_version words ≡ true → Prints (version_text program) input output faults status
+  pub help : asks_version words ≡ false → wants_help c words ≡ true → Prints usage input output faults status
+  pub fault : asks_version words ≡ false → wants_help c words ≡ false →
+      TellsUsage (hinted_report c words usage) input output faults status ⊎ LacksMemory input output faults status

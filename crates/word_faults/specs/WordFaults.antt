@@ -5,7 +5,7 @@ use Rattle.std.specs.Str.{bytes_eq}
 use Rattle.word_faults.specs.CommandLine.{CommandLine, Text}
 use Rattle.word_faults.specs.declared.word_fault.WordFault.{WordFault}
 use Rattle.word_faults.specs.declared.word_fault.Reason.{Reason}
-use Rattle.word_faults.specs.declared.word_fault.Reason.TheVariants.{Unknown, Twice, NoValue, BadValue, BadNextWord, Alone, Missing, Help}
+use Rattle.word_faults.specs.declared.word_fault.Reason.TheVariants.{Unknown, Twice, NoValue, BadValue, BadNextWord, Alone, Apart, Missing, Help}
 
 -- 1. What a word looks like
 
@@ -56,7 +56,9 @@ known_reason c false option value rest = flag_reason value
 
 abbrev pub option_reason : CommandLine → Option Bool → List Text → Text → Option Text → List Text → Option Reason
 option_reason c None before option value rest = Some Unknown
-option_reason c (Some takes) before option value rest = if is_given option before then Some Twice else known_reason c takes option value rest
+option_reason c (Some takes) before option value rest =
+    if is_given option before then Some Twice
+    else (if is_given (c.apart option) before then Some Apart else known_reason c takes option value rest)
 
 -- one word alone may stand beside the options, where the program knows it
 abbrev pub word_reason : CommandLine → Bool → Text → Option Reason

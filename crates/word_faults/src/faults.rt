@@ -7,8 +7,8 @@ use crate::known_words::KnownWords;
 use crate::word_fault::{Reason, WordFault};
 use std::alloc::{AllocError, Global};
 
-// A hyphen, and something after it.
-fn is_dashed(word: &str) -> bool
+/// Returns whether a word is a hyphen, and something after it.
+pub(crate) fn is_dashed(word: &str) -> bool
     ensures { result ≡ spec.is_dashed word.now }
 {
     match word.as_bytes() {
@@ -17,8 +17,8 @@ fn is_dashed(word: &str) -> bool
     }
 }
 
-// The option of a word, and the value that stands with it.
-fn split_word(word: &str) -> (&str, Option<&str>)
+/// Returns the option of a word, and the value that stands with it.
+pub(crate) fn split_word(word: &str) -> (&str, Option<&str>)
     ensures option { result.0.now ≡ spec.option_in word.now }
     ensures value { option_map (λ s. s.now) result.1 ≡ spec.value_in word.now }
 {
@@ -134,6 +134,7 @@ fn option_reason(
     match known.takes_value(option) {
         None => Ok(Some(Reason::Unknown)),
         Some(_) if is_given(option, before) => Ok(Some(Reason::Twice)),
+        Some(_) if is_given(known.apart(option), before) => Ok(Some(Reason::Apart)),
         Some(takes_value) => known_reason(alloc, known, takes_value, option, value, rest),
     }
 }
@@ -256,7 +257,7 @@ fn missing(required: Option<&str>, words: &[&str]) -> Option<WordFault>
     })
 }
 
-/// The first word that cannot be taken, and why.
+/// Returns the first word that cannot be taken, and why.
 pub fn first_fault(
     alloc: Global,
     known: KnownWords,
@@ -270,7 +271,7 @@ pub fn first_fault(
     }
 }
 
-/// The first word that is neither an option nor a value, nor the name of a file.
+/// Returns the first word that is neither an option nor a value, nor the name of a file.
 #[tactic(auto, unfolding(crate::specs::WordFaults::word_from))]
 pub fn word_beside<'a>(known: KnownWords, words: &[&'a str]) -> Option<&'a str>
     ensures { option_map (λ s. s.now) result ≡ spec.word_beside (known_of known) (map (λ s. s.now) words.now) }

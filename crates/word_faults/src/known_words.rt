@@ -1,11 +1,13 @@
 //! What a program knows of its command line, by its table of options.
-ghost use Rattle.std.specs.Prelude.{◌≡◌, IfOk, map, option_map};
+ghost use Rattle.std.specs.Prelude.{◌≡◌, ◌++◌, IfOk, OnOk, map, option_map, string_bytes};
 ghost use Rattle.std.specs.List.{list_any};
 ghost use Rattle.std.specs.Str.{bytes_eq};
+ghost use Rattle.word_faults.specs.Hints as hints;
 ghost use Rattle.word_faults.specs.KnownWords as spec;
 ghost use Rattle.word_faults.specs.OptionRows.{is_alone, takes_value, reads, view};
 
-use crate::option_row::{OptionRow, ValueKind, is_value, kind_of};
+use crate::hints::{meant_words, write_nearest, write_takes};
+use crate::option_row::{OptionRow, ValueKind, apart_of, is_value, kind_of};
 use std::alloc::{AllocError, Global};
 
 /// What a program knows of its command line: its options, and words beside them.
@@ -15,7 +17,9 @@ pub struct KnownWords {
     pub options: &'static [OptionRow],
     /// The words that may stand beside options; of `--`, names of files may follow it.
     pub words: &'static [&'static str],
-    /// The words without hyphens beside which nothing may stand.
+    /// Whether one more word may stand beside the options: the name of a file.
+    pub names: bool,
+    /// The words that are no options of the table, and beside which nothing may stand.
     pub alone: &'static [&'static str],
     /// The word of the option that has to be given.
     pub required: Option<&'static str>,
@@ -67,6 +71,13 @@ fn is_among(words: &[&str], word: &str) -> bool
     is_one_of(words, word)
 }
 
+// Whether a word may be the name of a file.
+fn is_name(names: bool, word: &str) -> bool
+    ensures { result ≡ spec.is_name names word.now }
+{
+    names && word != "--"
+}
+
 // The value of the option of a word, but of this one.
 fn kind_but(barred: Option<&'static str>, options: &[OptionRow], word: &str) -> Option<ValueKind>
     ensures { result
@@ -97,7 +108,37 @@ impl KnownWords {
     pub(crate) fn is_word(self, word: &str) -> bool
         ensures { result ≡ (spec.known_of self).is_word word.now }
     {
-        is_among(self.words, word)
+        is_name(self.names, word) || is_among(self.words, word)
+    }
+
+    /// Returns the word of the option that may not stand beside this one; an empty one if each may.
+    pub(crate) fn apart(self, option: &str) -> &'static str
+        ensures { result.now ≡ (spec.known_of self).apart option.now }
+    {
+        apart_of(self.options, option)
+    }
+
+    /// Appends the line that says what an option takes.
+    pub(crate) fn write_takes(self, text: &mut String, option: &str) -> Result<(), AllocError>
+        ensures { OnOk result (string_bytes text.new
+            ≡ string_bytes text.old ++ (spec.known_of self).takes option.now) }
+    {
+        write_takes(text, self.options, option)
+    }
+
+    /// Appends the line with the word that may be meant by this one, or with this one as the name of a file; nothing if there is none.
+    pub(crate) fn write_near(
+        self,
+        alloc: Global,
+        text: &mut String,
+        files: bool,
+        word: &str,
+    ) -> Result<(), AllocError>
+        ensures { OnOk result (string_bytes text.new
+            ≡ string_bytes text.old ++ hints.meant_line ((spec.known_of self).near word.now) files word.now) }
+    {
+        let words = meant_words(alloc, self.barred, self.options, self.words, self.alone)?;
+        write_nearest(alloc, text, &words, files, word)
     }
 
     /// Returns whether nothing may stand beside the word.

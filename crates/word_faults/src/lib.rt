@@ -10,10 +10,12 @@
 //! one that its option does not take, or stands beside others where it takes none; `word_beside` finds the word
 //! beside the options (`specs/WordFaults`). `usage_report` is the line that says what is wrong, with the usage after
 //! it, and `answer_other_words` reports it, or prints the version for `--version` alone (`specs/UsageReport`). The
-//! words that the line names are really there (`faults_name_words`: `specs/NamedWords`).
+//! words that the line names are really there (`faults_name_words`: `specs/NamedWords`). `answer_words` also answers calls for help, and
+//! says what to type: what an option takes, or the nearest known word (`specs/Hints`; `hints_are_nearest`: `specs/NearWords`).
 #![tactic(auto)]
 
 mod faults;
+mod hints;
 mod known_words;
 mod laws;
 mod option_row;
@@ -25,9 +27,9 @@ mod word_fault;
 
 pub use faults::{first_fault, word_beside};
 pub use known_words::KnownWords;
-pub use laws::faults_name_words;
+pub use laws::{faults_name_words, hints_are_nearest};
 pub use option_row::{OptionRow, Row, ValueKind};
 pub use option_values::{given_options, number_if, number_of, numbers_of, subcommand};
-pub use other_words::answer_other_words;
+pub use other_words::{answer_other_words, answer_words};
 pub use usage::usage_report;
 pub use word_fault::{Reason, WordFault};

@@ -5,7 +5,8 @@ ghost use Rattle.word_faults.specs.OptionRows as spec;
 
 use devices::number_in;
 use option_lists::{
-    base_of, buffer_list, declare_by_of, name_list, network_in, number_list, start_of,
+    Scale, base_of, buffer_list, declare_by_of, name_list, network_in, number_list, scaled_in,
+    start_of,
 };
 use pes_packet::is_unit_id;
 use std::alloc::{AllocError, Global};
@@ -21,6 +22,13 @@ pub enum ValueKind {
     Word,
     /// A number of this range, and the number where the option is not given, if there is one.
     Number {
+        least: u64,
+        greatest: u64,
+        default: Option<u64>,
+    },
+    /// The same, and a unit may follow the number.
+    Scaled {
+        scale: Scale,
         least: u64,
         greatest: u64,
         default: Option<u64>,
@@ -57,6 +65,10 @@ pub struct Row<Text> {
     pub value: ValueKind,
     /// How the usage writes its value; a number without a form has its range.
     pub form: Text,
+    /// In what the numbers of its value count; empty if it has none.
+    pub unit: Text,
+    /// The word of the option that may not stand beside it; empty if each may.
+    pub apart: Text,
     /// What it is for, in a line.
     pub help: Text,
 }
@@ -78,7 +90,7 @@ fn row_named<'a>(options: &'a [OptionRow], name: &[u8]) -> Option<&'a OptionRow>
     options.iter().find(|row| row.name.as_bytes() == name)
 }
 
-/// The value of the option of this name; none where there is no such option.
+/// Returns the value of the option of this name; none if there is no such option.
 #[tactic(auto, unfolding(crate::specs::OptionRows::kind_named))]
 pub(crate) fn kind_named(options: &[OptionRow], name: &[u8]) -> Option<ValueKind>
     ensures { result ≡ spec.kind_named (map spec.view options.now) name.now }
@@ -89,7 +101,28 @@ pub(crate) fn kind_named(options: &[OptionRow], name: &[u8]) -> Option<ValueKind
     }
 }
 
-/// The value of the option of this word; none where there is no such option.
+/// Returns the row of the option of this word.
+pub(crate) fn row_of<'a>(options: &'a [OptionRow], word: &str) -> Option<&'a OptionRow>
+    ensures { option_map (λ row. spec.view row.now) result ≡ spec.row_of (map spec.view options.now) word.now }
+{
+    match name_in(word) {
+        Some(name) => row_named(options, name),
+        None => None,
+    }
+}
+
+/// Returns the word of the option that may not stand beside the option of this word; empty if each may.
+#[tactic(auto, unfolding(crate::specs::OptionRows::apart_of))]
+pub(crate) fn apart_of(options: &[OptionRow], word: &str) -> &'static str
+    ensures { result.now ≡ spec.apart_of (map spec.view options.now) word.now }
+{
+    match row_of(options, word) {
+        Some(row) => row.apart,
+        None => "",
+    }
+}
+
+/// Returns the value of the option of this word; none if there is no such option.
 pub(crate) fn kind_of(options: &[OptionRow], word: &str) -> Option<ValueKind>
     ensures { result ≡ spec.kind_of (map spec.view options.now) word.now }
 {
@@ -109,7 +142,7 @@ fn is_id(text: &str) -> bool
     }
 }
 
-/// Whether a text is a value of this kind.
+/// Returns whether a text is a value of this kind.
 #[tactic(auto, unfolding(crate::specs::OptionRows::is_value))]
 pub(crate) fn is_value(alloc: Global, kind: ValueKind, text: &str) -> Result<bool, AllocError>
     ensures { IfOk result (λ b. b ≡ spec.is_value kind text.now) }
@@ -121,6 +154,12 @@ pub(crate) fn is_value(alloc: Global, kind: ValueKind, text: &str) -> Result<boo
             greatest,
             ..
         } => Ok(number_in(text, least, greatest).is_some()),
+        ValueKind::Scaled {
+            scale,
+            least,
+            greatest,
+            ..
+        } => Ok(scaled_in(text, scale, least, greatest).is_some()),
         ValueKind::Numbers { greatest } => Ok(number_list(alloc, greatest, Some(text))?.is_some()),
         ValueKind::Buffers => Ok(buffer_list(alloc, Some(text))?.is_some()),
         ValueKind::StreamId => Ok(is_id(text)),

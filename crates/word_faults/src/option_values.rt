@@ -1,7 +1,8 @@
 //! The values that a command line gives to the options of a table, as `clap` reads them.
-ghost use Rattle.std.specs.Prelude.{◌≡◌, ◌≤◌, true, false, max, min, IfOk, IfSome, map, option_map};
+ghost use Rattle.std.specs.Prelude.{◌≡◌, ◌≤◌, true, false, max, min, unwrap_or, IfOk, IfSome, map, option_map};
 ghost use Rattle.clap.specs.Words.{FailsBy, app_of, fault_of, found_of, is_simple_and_free, matches_of, rows_of};
 ghost use Rattle.clap.specs.declared.builder.command.Command.TheViews.{out-Command as fields_of};
+ghost use Rattle.devices.specs.Options as stated;
 ghost use Rattle.devices.specs.Options.{number_option};
 ghost use Rattle.word_faults.specs.GivenOptions as spec;
 ghost use Rattle.word_faults.specs.OptionRows.{view};
@@ -10,7 +11,7 @@ use crate::option_row::{OptionRow, ValueKind, kind_named};
 use clap::error::ErrorKind;
 use clap::{Arg, ArgMatches, Command, Error};
 use devices::{flag, number_given, number_in, option, text_of};
-use option_lists::number_list;
+use option_lists::{Scale, number_list, scaled_in};
 use std::alloc::{AllocError, Global};
 
 // With the option of one more row.
@@ -91,7 +92,7 @@ fn matches_for<'a>(
     command_of(alloc, program, options)?.try_get_matches_from(words)
 }
 
-/// The values that the words give to the options of a table; none where the words are a usage error.
+/// Returns the values that the words give to the options of a table; none where the words are a usage error.
 pub fn given_options<'a>(
     alloc: Global,
     program: &'static str,
@@ -124,6 +125,51 @@ fn number_or(text: Option<&str>, least: u64, greatest: u64, default: u64) -> Opt
     }
 }
 
+// The number of an option that may have a unit, the default where it is not given.
+fn scaled_or(
+    scale: Scale,
+    text: Option<&str>,
+    least: u64,
+    greatest: u64,
+    default: Option<u64>,
+) -> Option<u64>
+    ensures value { result ≡ spec.scaled_or scale least greatest default (option_map (λ s. s.now) text.entry) }
+    ensures lower { IfSome result (λ n. min least (unwrap_or default least) ≤ n) }
+    ensures upper { IfSome result (λ n. n ≤ max greatest (unwrap_or default 0)) }
+{
+    match text {
+        None => default,
+        Some(text) => scaled_in(text, scale, least, greatest),
+    }
+}
+
+// The number of an option that may have a unit and need not be given.
+fn scaled_if(scale: Scale, text: Option<&str>, least: u64, greatest: u64) -> Option<Option<u64>>
+    ensures value { result ≡ spec.scaled_if scale least greatest (option_map (λ s. s.now) text.entry) }
+    ensures lower { IfSome result (λ given. IfSome given (λ n. least ≤ n)) }
+    ensures upper { IfSome result (λ given. IfSome given (λ n. n ≤ greatest)) }
+{
+    let Some(text) = text else {
+        return Some(None);
+    };
+    match scaled_in(text, scale, least, greatest) {
+        Some(number) => Some(Some(number)),
+        None => None,
+    }
+}
+
+// The number of an option, or none without a default where it is not given.
+fn plain_or(text: Option<&str>, least: u64, greatest: u64, default: Option<u64>) -> Option<u64>
+    ensures value { result ≡ spec.plain_or least greatest default (option_map (λ s. s.now) text.entry) }
+    ensures lower { IfSome result (λ n. min least (unwrap_or default least) ≤ n) }
+    ensures upper { IfSome result (λ n. n ≤ max greatest (unwrap_or default 0)) }
+{
+    match default {
+        Some(default) => number_or(text, least, greatest, default),
+        None => number_given(text, least, greatest),
+    }
+}
+
 // The number of an option of this kind.
 #[tactic(auto, unfolding(crate::specs::GivenOptions::number_by, crate::specs::GivenOptions::lowest_by, crate::specs::GivenOptions::greatest_by))]
 fn number_by(kind: Option<ValueKind>, text: Option<&str>) -> Option<u64>
@@ -131,24 +177,28 @@ fn number_by(kind: Option<ValueKind>, text: Option<&str>) -> Option<u64>
     ensures lower { IfSome result (λ n. spec.lowest_by kind ≤ n) }
     ensures upper { IfSome result (λ n. n ≤ spec.greatest_by kind) }
 {
-    let Some(
-        ValueKind::Number {
-            least,
-            greatest,
-            default,
-        },
-    ) = kind
-    else {
-        return None;
-    };
-    match default {
-        Some(default) => number_or(text, least, greatest, default),
-        None => number_given(text, least, greatest),
+    match kind {
+        Some(
+            ValueKind::Number {
+                least,
+                greatest,
+                default,
+            },
+        ) => plain_or(text, least, greatest, default),
+        Some(
+            ValueKind::Scaled {
+                scale,
+                least,
+                greatest,
+                default,
+            },
+        ) => scaled_or(scale, text, least, greatest, default),
+        _ => None,
     }
 }
 
-/// The number of an option by its row: its default where the option is not given, none where its text is no number of
-/// its range.
+/// Returns the number of an option by its row: its default where the option is not given, none where its text is no
+/// number of its range.
 pub fn number_of(options: &[OptionRow], matches: &ArgMatches<'_>, name: &str) -> Option<u64>
     ensures value { result ≡ spec.number_of (map view options.now) name.now (rows_of (found_of matches.now)) }
     ensures lower { IfSome result (λ n. spec.lowest_of (map view options.now) name.now ≤ n) }
@@ -157,23 +207,13 @@ pub fn number_of(options: &[OptionRow], matches: &ArgMatches<'_>, name: &str) ->
     number_by(kind_named(options, name.as_bytes()), text_of(matches, name))
 }
 
-// The number of an option of this kind that need not be given.
-#[tactic(auto, unfolding(crate::specs::GivenOptions::number_if_by, crate::specs::GivenOptions::least_by, crate::specs::GivenOptions::greatest_by, devices::specs::Options::number_if_given))]
-fn number_if_by(kind: Option<ValueKind>, text: Option<&str>) -> Option<Option<u64>>
-    ensures value { result ≡ spec.number_if_by kind (option_map (λ s. s.now) text.entry) }
-    ensures lower { IfSome result (λ given. IfSome given (λ n. spec.least_by kind ≤ n)) }
-    ensures upper { IfSome result (λ given. IfSome given (λ n. n ≤ spec.greatest_by kind)) }
+// The number of an option that need not be given.
+#[tactic(auto, unfolding(devices::specs::Options::number_if_given))]
+fn number_if_given(text: Option<&str>, least: u64, greatest: u64) -> Option<Option<u64>>
+    ensures value { result ≡ stated.number_if_given least greatest (option_map (λ s. s.now) text.entry) }
+    ensures lower { IfSome result (λ given. IfSome given (λ n. least ≤ n)) }
+    ensures upper { IfSome result (λ given. IfSome given (λ n. n ≤ greatest)) }
 {
-    let Some(
-        ValueKind::Number {
-            least,
-            greatest,
-            ..
-        },
-    ) = kind
-    else {
-        return None;
-    };
     let Some(text) = text else {
         return Some(None);
     };
@@ -183,7 +223,34 @@ fn number_if_by(kind: Option<ValueKind>, text: Option<&str>) -> Option<Option<u6
     }
 }
 
-/// The number of an option that need not be given, by its row; none where its text is no number of its range.
+// The number of an option of this kind that need not be given.
+#[tactic(auto, unfolding(crate::specs::GivenOptions::number_if_by, crate::specs::GivenOptions::least_by, crate::specs::GivenOptions::greatest_by))]
+fn number_if_by(kind: Option<ValueKind>, text: Option<&str>) -> Option<Option<u64>>
+    ensures value { result ≡ spec.number_if_by kind (option_map (λ s. s.now) text.entry) }
+    ensures lower { IfSome result (λ given. IfSome given (λ n. spec.least_by kind ≤ n)) }
+    ensures upper { IfSome result (λ given. IfSome given (λ n. n ≤ spec.greatest_by kind)) }
+{
+    match kind {
+        Some(
+            ValueKind::Number {
+                least,
+                greatest,
+                ..
+            },
+        ) => number_if_given(text, least, greatest),
+        Some(
+            ValueKind::Scaled {
+                scale,
+                least,
+                greatest,
+                ..
+            },
+        ) => scaled_if(scale, text, least, greatest),
+        _ => None,
+    }
+}
+
+/// Returns the number of an option that need not be given, by its row; none where its text is no number of its range.
 pub fn number_if(options: &[OptionRow], matches: &ArgMatches<'_>, name: &str) -> Option<Option<u64>>
     ensures value { result ≡ spec.number_if (map view options.now) name.now (rows_of (found_of matches.now)) }
     ensures lower { IfSome result (λ given. IfSome given (λ n. spec.least_of (map view options.now) name.now ≤ n)) }
@@ -208,8 +275,8 @@ fn numbers_by(
     }
 }
 
-/// The numbers of an option that is a list, by its row: no numbers where the option is not given, none where a part
-/// of its text is no number of its range.
+/// Returns the numbers of an option that is a list, by its row: no numbers where the option is not given, none where
+/// a part of its text is no number of its range.
 pub fn numbers_of(
     alloc: Global,
     options: &[OptionRow],

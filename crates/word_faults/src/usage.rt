@@ -3,7 +3,7 @@ ghost use Rattle.std.specs.Prelude.{◌≡◌, ◌+◌, ◌++◌, IfOk, OnOk, ma
 ghost use Rattle.word_faults.specs.KnownWords.{known_of};
 ghost use Rattle.word_faults.specs.UsageReport as spec;
 
-use crate::faults::first_fault;
+use crate::faults::{first_fault, is_dashed, split_word};
 use crate::known_words::KnownWords;
 use crate::word_fault::{Reason, WordFault};
 use std::alloc::{AllocError, Global};
@@ -34,9 +34,10 @@ fn write_reason(
     word: &str,
     next: &str,
     required: &str,
+    other: &str,
 ) -> Result<(), AllocError>
     ensures { OnOk result (string_bytes text.new
-        ≡ string_bytes text.old ++ spec.reason_line reason word.now next.now required.now) }
+        ≡ string_bytes text.old ++ spec.reason_line reason word.now next.now required.now other.now) }
 {
     match reason {
         Reason::Unknown => write_pair(text, word, ": not known\n"),
@@ -48,6 +49,10 @@ fn write_reason(
             write_pair(text, next, ": not a value of this option\n")
         }
         Reason::Alone => write_pair(text, word, ": takes no options and no other word\n"),
+        Reason::Apart => {
+            write_pair(text, word, ": not beside ")?;
+            write_pair(text, other, "\n")
+        }
         Reason::Missing => write_pair(text, required, ": not given\n"),
         Reason::Help => Ok(()),
     }
@@ -71,10 +76,83 @@ fn write_fault(
         word_at(words, place),
         word_at(words, place.saturating_add(1)),
     );
-    write_reason(text, reason, word, next, known.required.unwrap_or(""))
+    let required = known.required.unwrap_or("");
+    let (option, _) = split_word(word);
+    write_reason(text, reason, word, next, required, known.apart(option))
 }
 
-/// The line of the first word that cannot be taken, and the usage after it.
+// Whether a word may be the name of a file after `--`.
+fn names_files(known: KnownWords, word: &str) -> bool
+    ensures { result ≡ spec.names_files (known_of known) word.now }
+{
+    known.is_word("--") && !is_dashed(word)
+}
+
+// What to type instead of a word that cannot be taken.
+#[tactic(auto, unfolding(crate::specs::UsageReport::hint_by))]
+fn write_hint_by(
+    alloc: Global,
+    text: &mut String,
+    known: KnownWords,
+    reason: Reason,
+    word: &str,
+) -> Result<(), AllocError>
+    ensures { OnOk result (string_bytes text.new
+        ≡ string_bytes text.old ++ spec.hint_by (known_of known) reason word.now) }
+{
+    match reason {
+        Reason::Unknown => known.write_near(alloc, text, names_files(known, word), word),
+        Reason::NoValue | Reason::BadValue | Reason::BadNextWord => {
+            known.write_takes(text, split_word(word).0)
+        }
+        Reason::Twice | Reason::Alone | Reason::Apart | Reason::Missing | Reason::Help => Ok(()),
+    }
+}
+
+// What to type instead, of the first word that cannot be taken.
+#[tactic(auto, unfolding(crate::specs::UsageReport::hint_line))]
+fn write_hint(
+    alloc: Global,
+    text: &mut String,
+    known: KnownWords,
+    words: &[&str],
+    fault: Option<WordFault>,
+) -> Result<(), AllocError>
+    ensures { OnOk result (string_bytes text.new
+        ≡ string_bytes text.old ++ spec.hint_line (known_of known) (map (λ s. s.now) words.now) fault) }
+{
+    match fault {
+        Some(fault) => write_hint_by(
+            alloc,
+            text,
+            known,
+            fault.reason,
+            word_at(words, fault.place),
+        ),
+        None => Ok(()),
+    }
+}
+
+/// Returns the line of a fault, what to type instead, and the usage after it.
+pub(crate) fn hinted_report(
+    alloc: Global,
+    known: KnownWords,
+    words: &[&str],
+    fault: Option<WordFault>,
+    usage: &str,
+) -> Result<String, AllocError>
+    ensures { IfOk result (λ text. string_bytes text
+        ≡ spec.fault_line (known_of known) (map (λ s. s.now) words.now) fault
+        ++ (spec.hint_line (known_of known) (map (λ s. s.now) words.now) fault ++ usage.now)) }
+{
+    let mut text = String::new(alloc);
+    write_fault(&mut text, known, words, fault)?;
+    write_hint(alloc, &mut text, known, words, fault)?;
+    text.push_str(usage)?;
+    Ok(text)
+}
+
+/// Returns the line of the first word that cannot be taken, and the usage after it.
 pub fn usage_report(
     alloc: Global,
     known: KnownWords,

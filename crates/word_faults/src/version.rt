@@ -7,7 +7,7 @@ use counted_io::Sink;
 use devices::{Halt, report_halt, write_text};
 use std::alloc::{AllocError, Global};
 
-/// Whether the words are `--version` alone.
+/// Returns whether the words are `--version` alone.
 pub fn is_version(words: &[&str]) -> bool
     ensures { result ≡ spec.is_version (map (λ s. s.now) words.now) }
 {
@@ -27,6 +27,27 @@ fn version_text(alloc: Global, program: &str) -> Result<String, AllocError>
     Ok(text)
 }
 
+/// Returns whether the words ask for the version alone, by its long or its short name.
+pub fn asks_version(words: &[&str]) -> bool
+    ensures { result ≡ spec.asks_version (map (λ s. s.now) words.now) }
+{
+    match words {
+        [word] => *word == "--version" || *word == "-V",
+        _ => false,
+    }
+}
+
+/// Writes a text, and returns the status.
+pub(crate) fn print_text<W: Sink, E: Sink>(text: &str, output: &mut W, faults: &mut E) -> u8
+    ensures { (input : Device) → IsUntouched input → spec.Prints text.now input
+        (writes W.Sink output.old output.new) (writes E.Sink faults.old faults.new) result }
+{
+    match write_text(text, output) {
+        Ok(()) => 0,
+        Err(halt) => report_halt(faults, halt),
+    }
+}
+
 /// Writes the version of a program of this name, and returns the status.
 pub fn print_version<W: Sink, E: Sink>(
     alloc: Global,
@@ -40,8 +61,5 @@ pub fn print_version<W: Sink, E: Sink>(
     let Ok(text) = version_text(alloc, program) else {
         return report_halt(faults, Halt::Memory);
     };
-    match write_text(text.as_str(), output) {
-        Ok(()) => 0,
-        Err(halt) => report_halt(faults, halt),
-    }
+    print_text(text.as_str(), output, faults)
 }

@@ -15,6 +15,8 @@ pub enum Reason {
     BadNextWord,
     /// Nothing may stand beside the word.
     Alone,
+    /// An option stands before it that may not stand beside it.
+    Apart,
     /// The option that has to be given is not given.
     Missing,
     /// It asks for help.

@@ -1,9 +1,23 @@
-use Rattle.std.proofs.Common.{refl, inl, inr}
+use Rattle.std.proofs.Common.{◌∙◌, refl, sym, inl, inr}
 use Rattle.devices.specs.Devices.{Port}
 use Rattle.devices.specs.declared.halt.Halt.TheVariants.{Memory}
-use Rattle.word_faults.proofs.UsageReports.{of_known, of_usage}
+use Rattle.word_faults.proofs.UsageReports.{of_memory, of_words}
+use Rattle.tsview_cli.specs.declared.request.Request.TheVariants.{Lines, Page}
+use Rattle.tsview_cli.proofs.NamedStreams.{of_file, of_input}
 use Rattle.tsview_cli.proofs.Viewed.{none_seen}
 use Rattle.tsview_cli.proofs.program.run_on_stream.Goals as goal
+
+pub returns-in-Ok-Some-clause-view : goal.returns-in-Ok-Some-clause-view
+returns-in-Ok-Some-clause-view g c = λ r json is. of_input _ c.in-Ok-Some.wanted (Lines r json) _ _ _ _ (sym c.in-Ok-Some.field-0-is ∙ c.in-Ok-Some.ensures) is c.answer_asked.ensures.input
+
+pub returns-in-Ok-Some-clause-page : goal.returns-in-Ok-Some-clause-page
+returns-in-Ok-Some-clause-page g c = λ r is. of_input _ c.in-Ok-Some.wanted (Page r) _ _ _ _ (sym c.in-Ok-Some.field-0-is ∙ c.in-Ok-Some.ensures) is c.answer_asked.ensures.input
+
+pub returns-in-Ok-Some-clause-view_file : goal.returns-in-Ok-Some-clause-view_file
+returns-in-Ok-Some-clause-view_file g c = λ r json name is. of_file _ c.in-Ok-Some.wanted (Lines r json) name _ _ _ _ _ (sym c.in-Ok-Some.field-0-is ∙ c.in-Ok-Some.ensures) is c.answer_asked.ensures.file
+
+pub returns-in-Ok-Some-clause-page_file : goal.returns-in-Ok-Some-clause-page_file
+returns-in-Ok-Some-clause-page_file g c = λ r name is. of_file _ c.in-Ok-Some.wanted (Page r) name _ _ _ _ _ (sym c.in-Ok-Some.field-0-is ∙ c.in-Ok-Some.ensures) is c.answer_asked.ensures.file
 
 pub returns-in-Err-clause-view : goal.returns-in-Err-clause-view
 returns-in-Err-clause-view g c = λ o json e.
@@ -11,9 +25,9 @@ returns-in-Err-clause-view g c = λ o json e.
     let output : Port = record { bytes = g.W.Write.contents c.args.output.now; failed = g.W.Sink.fault_count c.args.output.now } in
     inr (inl (record { halt = Memory; breaks = none_seen o json input output Memory refl; reports = c.report_halt.ensures.reports; status_is = c.report_halt.ensures.status }))
 
-pub returns-in-Ok-None-clause-version : goal.returns-in-Ok-None-clause-version
-returns-in-Ok-None-clause-version g c = λ none is. c.answer_other_words.ensures.version _ refl is
+pub returns-in-Ok-None-clause-other : goal.returns-in-Ok-None-clause-other
+returns-in-Ok-None-clause-other g c = λ none. of_words _ _ _ _ _ _ _ _ _ _ c.known_words-known.ensures c.usage.ensures (c.answer_words.ensures _ refl)
 
-pub returns-in-Ok-None-clause-usage : goal.returns-in-Ok-None-clause-usage
-returns-in-Ok-None-clause-usage g c = λ none is.
-    of_usage _ _ _ _ _ _ _ _ c.usage.ensures (of_known _ _ _ _ _ _ _ _ c.known_words-known.ensures (c.answer_other_words.ensures.usage _ refl is))
+pub returns-in-Err-clause-other : goal.returns-in-Err-clause-other
+returns-in-Err-clause-other g c = λ none.
+    of_memory _ _ _ _ _ _ _ _ (record { clean = refl; unwritten = refl; reports = c.report_halt.ensures.reports; status_is = c.report_halt.ensures.status })
