@@ -97,6 +97,9 @@ def part(folder, word, rest, program):
     if word == "record":
         stream, dts, pts, body = rest.split(" ", 3)
         return record(int(stream), int(dts), int(pts), joined(body))
+    if word == "marked":
+        marks, stream, dts, pts, body = rest.split(" ", 4)
+        return record(int(stream), int(dts), int(pts), joined(body), int(marks))
     if word == "records":
         count, stream, dts, apart, body = rest.split(" ", 4)
         times = range(int(dts), int(dts) + int(count) * int(apart), int(apart))
@@ -164,6 +167,6 @@ def packet(front, dots, back):
     return data
 
 
-def record(stream, dts, pts, body):
+def record(stream, dts, pts, body, marks=0):
     """The record of an access unit (docs/PLANS.md, "Records of access units")."""
-    return bytes([stream]) + len(body).to_bytes(4, "big") + dts.to_bytes(8, "big") + pts.to_bytes(8, "big") + body
+    return bytes([stream, marks]) + len(body).to_bytes(3, "big") + dts.to_bytes(8, "big") + pts.to_bytes(8, "big") + body

@@ -47,8 +47,10 @@ class Pid(syntax.Pid):
 
     def tell_pes(self, packet, header, size, tail):
         number, _, pts, dts, length = header
-        body = self.part[1][length: length + size]
-        self.found.append((packet, self.begun, "pes", (number, dts if dts is not None else pts, pts, body, tail != "")))
+        data = self.part[1]
+        body = data[length: length + size]
+        marks = data[6] & 15 | (16 if data[8] == 36 else 0) if length > 6 else 0
+        self.found.append((packet, self.begun, "pes", (number, dts if dts is not None else pts, pts, body, tail != "", marks)))
 
     def tell(self, packet, text):
         kind, *rest = text.split()
@@ -86,7 +88,7 @@ SCRAMBLED = "scrambled in PES packets: taken as it is"
 LONG = "PES headers of 45 bytes: written without stuffing"
 PRIVATE = "private data of PES headers left out"
 OTHER = "other data of PES headers left out"
-UNREAD = "PES header goes on in another packet: not read"
+UNREAD = "PES header continues in another packet: not read"
 
 
 def fields_of(p):
@@ -101,7 +103,8 @@ def fields_of(p):
     first, second, size = body[6:9]
     more = 9 + sum(n for bit, n in ((7, 5), (6, 5), (5, 6), (4, 3), (3, 1), (2, 1), (1, 2)) if second >> bit & 1)
     extension = body[more] if second & 1 and more < min(9 + size, len(body)) else 0
-    stand = ((ALIGNMENT, first & 4), (FLAGS, first & 0x0B), (SCRAMBLED, first & 0x30), (LONG, body[3] == 0xBD and size == 36), (PRIVATE, extension & 0x80),
+    goes_on = second < 0x80
+    stand = ((ALIGNMENT, goes_on and first & 4), (FLAGS, goes_on and first & 0x0B), (SCRAMBLED, first & 0x30), (LONG, goes_on and body[3] == 0xBD and size == 36), (PRIVATE, extension & 0x80),
              (OTHER, second & 0x3E or extension & 0x71), (UNREAD, len(body) < 9 + size))
     return told + [name for name, there in stand if there]
 
@@ -190,7 +193,7 @@ def association(stream, lines=None):
                 named.setdefault(number, pid)
     says_else = lambda s: version(s) != version(first) or s[3:5] != first[3:5] or any(number and named.get(number) != pid for number, pid in entries(s))
     if lines is not None:
-        lines += [f"packet {packet} PAT changes: the first one stands" for packet, s in tables if says_else(s)][:1]
+        lines += [f"packet {packet} PAT changes: the first is used" for packet, s in tables if says_else(s)][:1]
     return first[3] << 8 | first[4], list(named.items())
 
 

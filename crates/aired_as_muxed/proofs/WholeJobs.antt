@@ -1,6 +1,7 @@
 -- The records of a job, counted from its front, are the units that `mux` reads of it.
 use Rattle.std.proofs.Common.{◌≡◌, ◌+◌, ℕ, zero, suc, Bool, true, false, List, [], ◌∷◌, ◌++◌, length, Option, Some, None, Result, Ok, Err, refl, sym, ◌∙◌, subst, arith}
 use Rattle.std.specs.Prelude.{◌==◌, if◌then◌else◌, nat_lt, slice_index}
+use Rattle.std.proofs.Math.Seq.{drop-nil}
 use Rattle.std.proofs.lemmas.Bool.{ne_eqb}
 use Rattle.pes_packet.specs.AccessUnits.{AccessUnit}
 use Rattle.unit_records.specs.Records.{after_record, head_size, max_unit_size, record_at, size_at, unit_at}
@@ -26,7 +27,7 @@ not_none false false false false entry some e = cc
 
 -- where nothing is left, nothing comes after it
 none_after : (left : List ℕ) → record_at left ≡ Ok None → after_record left ≡ left
-none_after [] e = refl
+none_after [] e = drop-nil (head_size + size_at [])
 none_after (x ∷ left) e = absurd (not_none (length (x ∷ left) == 0) (nat_lt (length (x ∷ left)) 5) (nat_lt max_unit_size (size_at (x ∷ left)))
     (nat_lt (length (x ∷ left)) (head_size + size_at (x ∷ left))) (slice_index (x ∷ left) 0, unit_at (x ∷ left))
     (ne_eqb (length (x ∷ left)) 0 (λ n. absurd (omega (arith, n)))) (unfold record_at in e))

@@ -19,12 +19,12 @@ use plan_checker::{CheckedPlan, CheckedSwitch, check, check_switch};
 use slot_plan::{Description, Plan};
 use std::alloc::{Allocator, Global};
 
-/// The text with `other` in place of each `part`.
+/// Returns the text with `other` in place of each `part`.
 fn edited(alloc: Global, text: &str, part: &str, other: &str) -> Option<String> {
     text.replace(alloc, part, other).ok()
 }
 
-/// The text after another, once for each of these numbers, which stand where the mark does.
+/// Returns the text after another, once for each of these numbers, which stand where the mark does.
 fn repeated(
     alloc: Global,
     before: &str,
@@ -51,7 +51,7 @@ fn planned<A: Allocator + Clone>(alloc: A, text: &str) -> Option<Plan<A>> {
     }
 }
 
-/// The plan for the description, where it is accepted.
+/// Returns the plan for the description, where it is accepted.
 fn checked<A: Allocator + Clone>(
     global: Global,
     alloc: A,
@@ -75,7 +75,7 @@ fn checked<A: Allocator + Clone>(
     }
 }
 
-/// A second plan after the first, where it may follow.
+/// Returns a second plan after the first, where it may follow.
 fn followed<A: Allocator + Clone>(
     alloc: A,
     first: CheckedPlan<A>,
@@ -116,7 +116,7 @@ fn joined(alloc: Global, parts: &[&[u8]]) -> Option<Vec<u8>> {
     }
 }
 
-/// The bytes with one of them changed.
+/// Returns the bytes with one of them changed.
 fn changed(alloc: Global, bytes: &[u8], at: usize, value: u8) -> Option<Vec<u8>> {
     let before = bytes.get(..at).unwrap_or(bytes);
     let after = bytes.get(at.saturating_add(1)..).unwrap_or(&[]);

@@ -7,10 +7,11 @@ use Rattle.hex.specs.Hex.{encode_lower}
 use Rattle.toml.specs.Data.{Data, string, integer, boolean, array}
 use Rattle.unit_timing.specs.declared.allowance.Allowance.{Allowance}
 use Rattle.unit_timing.specs.declared.allowance.Allowance.TheVariants.{Groups, Pace}
+use Rattle.unit_timing.specs.declared.framing.Framing.{Framing}
 use Rattle.unit_timing.specs.declared.multiplexing_buffer.MultiplexingBuffer.{MultiplexingBuffer}
 use Rattle.demux.specs.Views.{FindingView}
 use Rattle.job_text.specs.DescriptionParts.{EventPartView, HeadingView, NetworkPartView, ProgramPartView, StreamPartView, TablePartView}
-use Rattle.job_text.specs.Fields.{burst_numbers, drain_numbers, first_numbers, group_numbers, last_numbers, leak_numbers, pace_numbers, place_numbers, program_numbers, size_numbers, table_numbers, time_numbers}
+use Rattle.job_text.specs.Fields.{burst_numbers, drain_numbers, first_numbers, frame_numbers, group_numbers, last_numbers, leak_numbers, pace_numbers, place_numbers, program_numbers, size_numbers, table_numbers, time_numbers}
 use Rattle.job_text.specs.KeyLines.{digits_of, header, hex_line, items_of, items_text, key_line, list_line, number_line, number_lines, table_header, value_text}
 use Rattle.job_text.specs.Texts.{event_back, event_names, event_numbers, event_text, heading_text, network_if_any, program_front, program_service, program_text, stream_end, stream_front, stream_place, stream_text, stream_times, table_back, table_front, table_text}
 use Rattle.stream_programs.specs.NetworkInformation.{stream_network}
@@ -171,6 +172,10 @@ burst_passes : (a : Allowance) → Passes (number_lines (burst_numbers a))
 burst_passes (Groups units packets) = none_passes
 burst_passes (Pace burst pace) = numbers_pass (burst_numbers (Pace burst pace)) ((λ rest. refl), (refl, tt))
 
+frames_pass : (f : Option Framing) → Passes (number_lines (frame_numbers f))
+frames_pass None = none_passes
+frames_pass (Some f) = numbers_pass (frame_numbers (Some f)) ((λ rest. refl), (refl, ((λ rest. refl), (refl, ((λ rest. refl), (refl, tt))))))
+
 groups_pass : (a : Allowance) → Passes (number_lines (group_numbers a))
 groups_pass (Groups units packets) = numbers_pass (group_numbers (Groups units packets)) ((λ rest. refl), (refl, ((λ rest. refl), (refl, tt))))
 groups_pass (Pace burst pace) = none_passes
@@ -189,8 +194,9 @@ leak_passes (Some m) = numbers_pass (leak_numbers (Some m)) ((λ rest. refl), (r
 
 stream_passes : (s : StreamPartView) → Passes (stream_text s)
 stream_passes s =
-    let groups = both_pass (hex_line (codes "descriptors") s.descriptors) (number_lines (group_numbers s.allowance)) (bytes_pass s.descriptors) (groups_pass s.allowance) in
-    let burst = both_pass (number_lines (burst_numbers s.allowance)) _ (burst_passes s.allowance) groups in
+    let groups = both_pass (number_lines (frame_numbers s.framing)) (number_lines (group_numbers s.allowance)) (frames_pass s.framing) (groups_pass s.allowance) in
+    let frames = both_pass (hex_line (codes "descriptors") s.descriptors) _ (bytes_pass s.descriptors) groups in
+    let burst = both_pass (number_lines (burst_numbers s.allowance)) _ (burst_passes s.allowance) frames in
     let front = both_pass (header (codes "stream")) _ stream_header burst in
     let times = numbers_pass (time_numbers s) ((λ rest. refl), (refl, ((λ rest. refl), (refl, ((λ rest. refl), (refl, ((λ rest. refl), (refl, tt)))))))) in
     let pace = both_pass (number_lines (size_numbers s.multiplexing)) (number_lines (pace_numbers s.allowance))

@@ -8,7 +8,7 @@ use Rattle.description.specs.Described.{DescribedStream}
 use Rattle.description.specs.Ranges.{IsInRange, IsStream}
 use Rattle.description.proofs.Pids.{stream_range}
 use Rattle.unit_records.specs.Laws.{FitsRecord, RecordsAreRead}
-use Rattle.unit_records.specs.Records.{after_record, record_at, record_bytes, record_head}
+use Rattle.unit_records.specs.Records.{after_record, record_at, record_bytes, record_head, word_of}
 use Rattle.unit_output.specs.Records.{records_of}
 use Rattle.unit_queue.specs.Queues.{IsUnit}
 use Rattle.mux_core.specs.Histories.{owned_stream}
@@ -43,7 +43,7 @@ some_bytes x xs = omega arith
 
 record_some : (k : ℕ) (u : AccessUnit) → 1 ≤ length (record_bytes k u)
 unfolding record_head
-record_some k u = some_bytes k ((big_bytes 4 (length u.bytes) ++ (big_bytes 8 u.dts ++ big_bytes 8 u.pts)) ++ u.bytes)
+record_some k u = some_bytes k ((big_bytes 4 (word_of u.marks (length u.bytes)) ++ (big_bytes 8 u.dts ++ big_bytes 8 u.pts)) ++ u.bytes)
 
 -- a record has bytes
 no_fewer : (units : List (ℕ × AccessUnit)) → length units ≤ length (records_of units)
@@ -60,6 +60,7 @@ unit_fits line k s u range is = record {
   size = omega (arith, is.most, range.most_size);
   dts = omega (arith, is.last);
   pts = omega (arith, is.last, is.soon);
+  marked = λ none. absurd (omega (arith, none, is.some));
 }
 
 -- what holds of each stream's units holds of all

@@ -64,7 +64,7 @@ unfolding with_dts
 still_have_bytes [] us all = All-nil HasBytes
 still_have_bytes (d ∷ ds) [] all = All-nil HasBytes
 still_have_bytes (d ∷ ds) (u ∷ us) all =
-    All-cons HasBytes (unit_with u.packet u.stream_id d u.unit.pts u.unit.bytes).unit (map (λ x. x.unit) (with_dts ds us))
+    All-cons HasBytes (unit_with u.packet u.stream_id d u.unit.pts u.unit.marks u.unit.bytes).unit (map (λ x. x.unit) (with_dts ds us))
     (All-head HasBytes u.unit (map (λ x. x.unit) us) all) (still_have_bytes ds us (All-tail HasBytes u.unit (map (λ x. x.unit) us) all))
 
 sources_have_bytes : (made : Bool) (pid : ℕ) (findings : List FindingView) → All HasBytes (map (λ w. w.unit) (source_of made pid findings))

@@ -9,7 +9,7 @@ use Rattle.stream_jobs.specs.FoundUnits.{AreFound, source_of}
 use Rattle.round_trip_job.specs.Laws.{AreTheSame, AreThose}
 
 moved_same : MovedByOneConstant → (base : ℕ) (wire : List AccessUnit) → AreTheSame wire base (moved base None wire)
-moved_same law base wire = let all = law base None wire in record { dts = all.0; pts = all.1; bytes = all.2 }
+moved_same law base wire = let all = law base None wire in record { dts = all.0; pts = all.1; marks = all.2; bytes = all.3 }
 
 pub those : MovedByOneConstant → (findings : List FindingView) (pid : ℕ) (us : List AccessUnit) → AreFound false findings pid us → AreThose (wire_units pid findings) us
 unfolding source_of

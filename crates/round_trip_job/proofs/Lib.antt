@@ -6,3 +6,5 @@ pub mod FoundUnits
 pub mod FirstUnits
 pub mod TablesBefore
 pub mod JobTables
+pub mod TextsDescribed
+pub mod DeclaredBuffers

@@ -7,6 +7,9 @@ use Rattle.std.proofs.lemmas.List.Elements.{All-nil, All-cons, All-head, All-tai
 use Rattle.pes_packet.specs.AccessUnits.{AccessUnit}
 use Rattle.pes_packet.specs.Encoding.{pes_packet_bytes, pes_header_bytes, header_size, on_wire}
 use Rattle.pes_packet.specs.Laws.{written_header}
+use Rattle.pes_packet.specs.HeaderMarks.{header_marks}
+use Rattle.pes_packet.specs.declared.marks.Marks.{Marks}
+use Rattle.pes_packet.proofs.Written.{marks_are_read}
 use Rattle.pes_packet.proofs.Written.{header_sizes}
 use Rattle.demux.specs.Views.{FindingView}
 use Rattle.demux.specs.Laws.{with_pid_at}
@@ -25,23 +28,31 @@ use Rattle.round_trip_job.proofs.SentWhole.{IsWhole}
 abbrev found_unit : ℕ → ℕ → ℕ → AccessUnit → CarriedUnit
 found_unit i id base0 u = record { packet = i; stream_id = id; unit = later_by base0 u }
 
-text_bytes : (id base0 : ℕ) (u : AccessUnit) → length (pes_packet_bytes id base0 u) ≡ header_size (u.pts + base0) (u.dts + base0) + length u.bytes
+text_bytes : (id base0 : ℕ) (u : AccessUnit) → length (pes_packet_bytes id base0 u) ≡ header_size u.marks (u.pts + base0) (u.dts + base0) + length u.bytes
 unfolding pes_packet_bytes
 text_bytes id base0 u =
-    let head = pes_header_bytes id (length u.bytes) (u.pts + base0) (u.dts + base0) in
-    omega (arith, length-append head u.bytes, header_sizes id (length u.bytes) (u.pts + base0) (u.dts + base0))
+    let head = pes_header_bytes id (length u.bytes) u.marks (u.pts + base0) (u.dts + base0) in
+    omega (arith, length-append head u.bytes, header_sizes id (length u.bytes) u.marks (u.pts + base0) (u.dts + base0))
 
 -- the stamps of its header
-by_header : (i id size pts dts : ℕ) (bytes : List ℕ) →
-    pes_role i (written_header id size pts dts).id (written_header id size pts dts).stamps bytes
-    ≡ Start (record { packet = i; stream_id = id; unit = record { dts = on_wire dts; pts = on_wire pts; bytes = bytes } })
+by_stamps : (i id size : ℕ) (marks : Marks) (pts dts : ℕ) (bytes : List ℕ) →
+    pes_role i (written_header id size marks pts dts).id marks (written_header id size marks pts dts).stamps bytes
+    ≡ Start (record { packet = i; stream_id = id; unit = record { dts = on_wire dts; pts = on_wire pts; marks = marks; bytes = bytes } })
 unfolding pes_role written_header
-by_header i id size pts dts bytes = elim (cases_Bool (on_wire pts == on_wire dts)) [
+by_stamps i id size marks pts dts bytes = elim (cases_Bool (on_wire pts == on_wire dts)) [
   | inl same ↦
       let e : on_wire pts ≡ on_wire dts = eqb-true (on_wire pts) (on_wire dts) same in
-      rw same (ap (λ (d : ℕ). Start (record { packet = i; stream_id = id; unit = record { dts = d; pts = on_wire pts; bytes = bytes } })) e)
+      rw same (ap (λ (d : ℕ). Start (record { packet = i; stream_id = id; unit = record { dts = d; pts = on_wire pts; marks = marks; bytes = bytes } })) e)
   | inr differ ↦ rw differ refl
 ]
+
+-- and its marks
+by_header : (i id size : ℕ) (marks : Marks) (pts dts : ℕ) (bytes : List ℕ) →
+    pes_role i (written_header id size marks pts dts).id (header_marks (written_header id size marks pts dts)) (written_header id size marks pts dts).stamps bytes
+    ≡ Start (record { packet = i; stream_id = id; unit = record { dts = on_wire dts; pts = on_wire pts; marks = marks; bytes = bytes } })
+by_header i id size marks pts dts bytes =
+    ap (λ (m : Marks). pes_role i (written_header id size marks pts dts).id m (written_header id size marks pts dts).stamps bytes) (marks_are_read id size marks pts dts)
+    ∙ by_stamps i id size marks pts dts bytes
 
 own_pid : (pid : ℕ) (f : FindingView) → f.pid ≡ Some pid → role_of pid f ≡ role_of_what (first_packet f.packet f.begun) (is_unstamped f.begun) f.what
 unfolding role_of
@@ -53,9 +64,9 @@ unfolding unit_found role_of_what first_packet
 begins pid id base0 e u i is whole =
     let text = text_bytes id base0 u in
     let fits : length (pes_packet_bytes id base0 u) ≤ 184 * length (i ∷ is) = omega (arith, whole) in
-    let all : take (184 * length (i ∷ is) - header_size (u.pts + base0) (u.dts + base0)) u.bytes ≡ u.bytes =
-    take_all (184 * length (i ∷ is) - header_size (u.pts + base0) (u.dts + base0)) u.bytes (omega (arith, text, fits)) in
-    let head = by_header i id (length u.bytes) (u.pts + base0) (u.dts + base0) u.bytes in
+    let all : take (184 * length (i ∷ is) - header_size u.marks (u.pts + base0) (u.dts + base0)) u.bytes ≡ u.bytes =
+    take_all (184 * length (i ∷ is) - header_size u.marks (u.pts + base0) (u.dts + base0)) u.bytes (omega (arith, text, fits)) in
+    let head = by_header i id (length u.bytes) u.marks (u.pts + base0) (u.dts + base0) u.bytes in
     own_pid pid (with_pid_at pid (unit_found id base0 e u i is)) refl ∙
     elim (cases_Bool ((unit_header id base0 u).len == 0)) [
       | inl y ↦ rw (y, all) head

@@ -8,8 +8,11 @@ use Rattle.description.specs.Ranges.{IsInRange}
 use Rattle.slot_plan.specs.Planned.{Planned}
 use Rattle.slot_plan.specs.Conditions.{IsServing}
 use Rattle.demux.specs.Views.{FindingView}
+use Rattle.unit_timing.specs.declared.framing.Framing.{Framing}
+use Rattle.unit_timing.specs.declared.multiplexing_buffer.MultiplexingBuffer.{MultiplexingBuffer}
 use Rattle.mux_core.specs.Scheduled.{Scheduled}
-use Rattle.mux_core.specs.Headline.{Headline}
+use Rattle.mux_core.specs.Headline.{Headline, VideoKept}
+use Rattle.mux_core.specs.FramesKept.{FramesKept}
 use Rattle.mux_core.specs.WholeJobs.{plan_schedule, first_refused, capacity_for, job_history, output_of}
 use Rattle.round_trip_run.specs.GivenBack.{GivenBack}
 use Rattle.round_trip_run.specs.Clean.{IsClean}
@@ -28,10 +31,12 @@ AcceptedLaw = (made : Bool) (schedule : Scheduled) (findings : List FindingView)
 
 -- ---- coming out
 
--- units at moments of a run are these units of the wire: on a clock that shows `base` at moment 0 their stamps are the same, and their bytes are
+-- units at moments of a run are these units of the wire: on a clock that shows `base` at moment 0 their stamps are the same, and
+-- their marks and bytes are
 pub record AreTheSame (wire : List AccessUnit) (base : ℕ) (us : List AccessUnit) : Type 0 where
   pub dts : map (λ u. on_wire (u.dts + base)) us ≡ map (λ u. on_wire u.dts) wire
   pub pts : map (λ u. on_wire (u.pts + base)) us ≡ map (λ u. on_wire u.pts) wire
+  pub marks : map (λ u. u.marks) us ≡ map (λ u. u.marks) wire
   pub bytes : map (λ u. u.bytes) us ≡ map (λ u. u.bytes) wire
 
 -- by one constant
@@ -50,6 +55,13 @@ pub record RoundTrip (schedule : Scheduled) (findings : List FindingView) (units
   pub clean : IsClean schedule bytes
   -- each unit is in time, and no buffer overflows
   pub kept : Headline schedule (λ k. units_of k units) n bytes
+  -- where the main buffer is a multiplexing buffer and an elementary stream buffer, neither overflows, and each unit that is due is whole in the
+  -- second by its DTS
+  pub video : (k : ℕ) (s : DescribedStream) (b : MultiplexingBuffer) → slice_get schedule.description.streams k ≡ Some s → s.multiplexing ≡ Some b →
+      VideoKept schedule s b (units_of k units) n bytes
+  -- nor does the main buffer where a unit is several access units, and each is removed at its own decoding time
+  pub frames : (k : ℕ) (s : DescribedStream) (f : Framing) → slice_get schedule.description.streams k ≡ Some s → s.framing ≡ Some f →
+      FramesKept schedule s f (units_of k units) bytes
 
 -- over a plan that serves the description
 abbrev pub schedule_for : Described → Planned → Scheduled
@@ -63,7 +75,7 @@ CarriedLaw = (d : Described) (p : Planned) (findings : List FindingView) (units 
 
 -- a unit of the wire with stamps that are later by this time, modulo 2^33
 abbrev pub later_by : ℕ → AccessUnit → AccessUnit
-later_by time u = record { dts = on_wire (u.dts + time); pts = on_wire (u.pts + time); bytes = u.bytes }
+later_by time u = record { dts = on_wire (u.dts + time); pts = on_wire (u.pts + time); marks = u.marks; bytes = u.bytes }
 
 -- a run of n slots ends no earlier than the DTS of each of these units
 abbrev pub AllDue : ℕ → ℕ → List AccessUnit → Type 0

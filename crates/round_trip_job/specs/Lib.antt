@@ -1,3 +1,4 @@
 pub mod Laws
 pub mod FirstUnits
 pub mod JoinedLaws
+pub mod DeclaredBuffers

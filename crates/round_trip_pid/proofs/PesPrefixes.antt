@@ -1,13 +1,16 @@
 -- The PES packet of a unit: what each beginning of it decides.
-use Rattle.std.proofs.Common.{◌≡◌, ℕ, ◌+◌, ◌-◌, ◌<◌, ◌≤◌, ◌==◌, nat_le, Bool, true, false, cond, IsTrue, List, ◌++◌, length, take, drop, Some, None, Ok, refl, sym, ap, ◌∙◌, inl, inr, arith, take_all, length-append, length-take, lt-ltb, le-ltb}
+use Rattle.std.proofs.Common.{◌≡◌, ℕ, ◌+◌, ◌-◌, ◌<◌, ◌≤◌, ◌==◌, nat_le, Bool, true, false, cond, IsTrue, List, ◌++◌, length, take, drop, Some, None, Ok, refl, sym, ap, subst, ◌∙◌, inl, inr, arith, take_all, length-append, length-take, lt-ltb, le-ltb}
 use Rattle.std.proofs.Math.Seq.{take-append-add, drop-append_seam}
 use Rattle.std.proofs.lemmas.Bool.{cases_Bool}
 use Rattle.pes_packet.specs.AccessUnits.{AccessUnit}
 use Rattle.pes_packet.specs.StreamIds.{fits_packet}
-use Rattle.pes_packet.specs.Encoding.{pes_header_bytes, header_size, pes_packet_bytes, packet_length, on_wire, pts_header, pts_dts_header, pes_start_bytes}
+use Rattle.pes_packet.specs.Encoding.{pes_header_bytes, header_size, pes_packet_bytes, packet_length, on_wire, header_with, pts_header, pts_dts_header, pes_start_bytes}
 use Rattle.pes_packet.specs.Reading.{header_at}
 use Rattle.pes_packet.specs.Laws.{written_header}
+use Rattle.pes_packet.specs.Marks.{data_length}
+use Rattle.pes_packet.specs.declared.marks.Marks.{Marks}
 use Rattle.pes_packet.specs.declared.reading.PesHeader.{PesHeader}
+use Rattle.pes_packet.specs.declared.time_stamps.Stamps.TheVariants.{Pts, PtsDts}
 use Rattle.pes_packet.proofs.Written.{written_is_read, header_sizes}
 use Rattle.demux.specs.declared.finding.Kind.TheVariants.{Pes}
 use Rattle.demux.specs.declared.open_unit.UnitKind.TheVariants as unit_kinds
@@ -30,13 +33,13 @@ pub record PesText (text : List ℕ) (h : PesHeader) (n : ℕ) (body : List ℕ)
 
 -- ---- the PES packet of a unit is one
 
-begins_pes : (id size pts dts : ℕ) (body : List ℕ) → may_begin_pes (take 184 (pes_header_bytes id size pts dts ++ body)) ≡ true
-unfolding pes_header_bytes pts_header pts_dts_header pes_start_bytes
-begins_pes id size pts dts body = elim (cases_Bool (on_wire pts == on_wire dts)) [ inl y ↦ rw y refl | inr k ↦ rw k refl ]
+begins_pes : (id size : ℕ) (marks : Marks) (pts dts : ℕ) (body : List ℕ) → may_begin_pes (take 184 (pes_header_bytes id size marks pts dts ++ body)) ≡ true
+unfolding pes_header_bytes pts_header pts_dts_header header_with pes_start_bytes
+begins_pes id size marks pts dts body = elim (cases_Bool (on_wire pts == on_wire dts)) [ inl y ↦ rw y refl | inr k ↦ rw k refl ]
 
-has_stamps : (id size pts dts : ℕ) → is_stamped (written_header id size pts dts).stamps ≡ true
+has_stamps : (id size : ℕ) (marks : Marks) (pts dts : ℕ) → is_stamped (written_header id size marks pts dts).stamps ≡ true
 unfolding written_header
-has_stamps id size pts dts = elim (cases_Bool (on_wire pts == on_wire dts)) [ inl y ↦ rw y refl | inr k ↦ rw k refl ]
+has_stamps id size marks pts dts = elim (cases_Bool (on_wire pts == on_wire dts)) [ inl y ↦ rw y refl | inr k ↦ rw k refl ]
 
 -- a PES_packet_length that is not 0 counts the bytes after it
 counts : (c : ℕ) → (packet_length c == 0) ≡ false → packet_length c ≡ c
@@ -47,16 +50,46 @@ counts c e = elim (cases_Bool (nat_le c 65_535)) [ inl y ↦ rw y refl | inr k �
     by true k f = cc
     by false k f = cc
 
-header_counts : (id size pts dts : ℕ) → ((written_header id size pts dts).len == 0) ≡ false →
-    6 + (written_header id size pts dts).len ≡ header_size pts dts + size
-unfolding written_header
-header_counts id size pts dts = elim (cases_Bool (on_wire pts == on_wire dts)) [
-  | inl y ↦ rw y (λ e. let c : packet_length (8 + size) ≡ 8 + size = counts (8 + size) e in omega (arith, c))
-  | inr k ↦ rw k (λ e. let c : packet_length (13 + size) ≡ 13 + size = counts (13 + size) e in omega (arith, c))
-]
+count_of : (long same : Bool) (size : ℕ) →
+    let len : ℕ = cond same (packet_length (3 + cond long 36 5 + size)) (packet_length (3 + cond long 36 10 + size)) in
+    (len == 0) ≡ false → 6 + len ≡ cond long 45 (cond same 14 19) + size
+count_of true true size e = let c : packet_length (3 + 36 + size) ≡ 3 + 36 + size = counts (3 + 36 + size) e in omega (arith, c)
+count_of true false size e = let c : packet_length (3 + 36 + size) ≡ 3 + 36 + size = counts (3 + 36 + size) e in omega (arith, c)
+count_of false true size e = let c : packet_length (3 + 5 + size) ≡ 3 + 5 + size = counts (3 + 5 + size) e in omega (arith, c)
+count_of false false size e = let c : packet_length (3 + 10 + size) ≡ 3 + 10 + size = counts (3 + 10 + size) e in omega (arith, c)
 
-size_short : (pts dts : ℕ) → header_size pts dts ≤ 19
-size_short pts dts = elim (cases_Bool (on_wire pts == on_wire dts)) [ inl y ↦ rw y (omega arith) | inr k ↦ rw k (omega arith) ]
+len_of : (b : Bool) (x y : PesHeader) → (cond b x y).len ≡ cond b x.len y.len
+len_of true x y = refl
+len_of false x y = refl
+
+header_counts : (id size : ℕ) (marks : Marks) (pts dts : ℕ) → ((written_header id size marks pts dts).len == 0) ≡ false →
+    6 + (written_header id size marks pts dts).len ≡ header_size marks pts dts + size
+unfolding written_header
+header_counts id size marks pts dts e =
+    let pts_alone : PesHeader = record {
+      id = id;
+      len = packet_length (3 + data_length marks 5 + size);
+      stamps = Pts (on_wire pts);
+      flags = marks.flags;
+      data_length = data_length marks 5;
+    } in
+    let with_dts : PesHeader = record {
+      id = id;
+      len = packet_length (3 + data_length marks 10 + size);
+      stamps = PtsDts (on_wire pts) (on_wire dts);
+      flags = marks.flags;
+      data_length = data_length marks 10;
+    } in
+    let is = len_of (on_wire pts == on_wire dts) pts_alone with_dts in
+    ap (λ (n : ℕ). 6 + n) is ∙ count_of marks.long (on_wire pts == on_wire dts) size (subst (λ (n : ℕ). (n == 0) ≡ false) is e)
+
+short_by : (long same : Bool) → cond long 45 (cond same 14 19) ≤ 45
+short_by true same = omega arith
+short_by false true = omega arith
+short_by false false = omega arith
+
+size_short : (marks : Marks) (pts dts : ℕ) → header_size marks pts dts ≤ 45
+size_short marks pts dts = short_by marks.long (on_wire pts == on_wire dts)
 
 -- a beginning with at least the header, and what of the data is in it
 front_of : (m n : ℕ) (head body : List ℕ) → length head ≡ n → n ≤ m → take m (head ++ body) ≡ head ++ take (m - n) body
@@ -75,20 +108,20 @@ unit_is_pes id base0 u fits =
     let size : ℕ = length u.bytes in
     let pts : ℕ = u.pts + base0 in
     let dts : ℕ = u.dts + base0 in
-    let head : List ℕ = pes_header_bytes id size pts dts in
-    let n : ℕ = header_size pts dts in
-    let has : length head ≡ n = header_sizes id size pts dts in
+    let head : List ℕ = pes_header_bytes id size u.marks pts dts in
+    let n : ℕ = header_size u.marks pts dts in
+    let has : length head ≡ n = header_sizes id size u.marks pts dts in
     let whole : length (head ++ u.bytes) ≡ n + size = omega (arith, length-append head u.bytes, has) in record {
-      begins = begins_pes id size pts dts u.bytes;
-      stamped = has_stamps id size pts dts;
-      header = λ m h. ap header_at (front_of m n head u.bytes has h) ∙ written_is_read id size pts dts (take (m - n) u.bytes) fits
-          ∙ ap (λ (k : ℕ). Ok (written_header id size pts dts, k)) has;
-      short = omega (arith, size_short pts dts);
+      begins = begins_pes id size u.marks pts dts u.bytes;
+      stamped = has_stamps id size u.marks pts dts;
+      header = λ m h. ap header_at (front_of m n head u.bytes has h) ∙ written_is_read id size u.marks pts dts (take (m - n) u.bytes) fits
+          ∙ ap (λ (k : ℕ). Ok (written_header id size u.marks pts dts, k)) has;
+      short = omega (arith, size_short u.marks pts dts);
       size = whole;
       parted = λ m h. ap (drop n) (front_of m n head u.bytes has h)
           ∙ ap (λ (k : ℕ). drop k (head ++ take (m - n) u.bytes)) (sym has) ∙ drop-append_seam head (take (m - n) u.bytes);
-      bounded = omega (arith, whole, size_short pts dts, unit_bounded id size fits);
-      counted = header_counts id size pts dts;
+      bounded = omega (arith, whole, size_short u.marks pts dts, unit_bounded id size fits);
+      counted = header_counts id size u.marks pts dts;
     }
 
 -- ---- what its beginnings decide

@@ -17,13 +17,13 @@ unit_packets id base0 u = piece_count (length (pes_packet_bytes id base0 u))
 abbrev pub unit_pieces : ℕ → ℕ → AccessUnit → List Piece
 unit_pieces id base0 u = first_pieces (unit_packets id base0 u) (pes_packet_bytes id base0 u)
 
--- the header of a unit as it is read: its stamps modulo 2^33
+-- the header of a unit as it is read: its stamps modulo 2^33, and its marks
 abbrev pub unit_header : ℕ → ℕ → AccessUnit → PesHeader
-unit_header id base0 u = written_header id (length u.bytes) (u.pts + base0) (u.dts + base0)
+unit_header id base0 u = written_header id (length u.bytes) u.marks (u.pts + base0) (u.dts + base0)
 
 -- the size of that header, in bytes
 abbrev pub unit_header_size : ℕ → AccessUnit → ℕ
-unit_header_size base0 u = header_size (u.pts + base0) (u.dts + base0)
+unit_header_size base0 u = header_size u.marks (u.pts + base0) (u.dts + base0)
 
 -- a PES packet with a PTS that begins in packet i
 abbrev pub begun_pes : ℕ → WhatView → Bool → Found

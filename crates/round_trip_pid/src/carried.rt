@@ -1,33 +1,33 @@
-//! The same of a table and of a stream in their own slots (`table_rounds`, `unit_queue`). Each function
+//! The round trip of a table and of a stream in their own slots (`table_rounds`, `unit_queue`). Each function
 //! does nothing: its contract is the law.
 ghost use Rattle.round_trip_pid.specs.Rounds.{RoundsAreSections, TablesCarry, StreamsCarry};
 ghost use Rattle.round_trip_pid.specs.Rounds.{TablesComeBack, StreamsComeBack};
 
-/// The payloads that a table sends in its own slots are the first of those of its sections, round after
-/// round, each round as of the moment of its first slot.
+/// States that the payloads that a table sends in its own slots are the first payloads of its sections, round
+/// after round, each round as of the moment of its first slot.
 pub fn rounds_are_sections()
     ensures { RoundsAreSections }
 {}
 
-/// The packets of a table that is alone on its PID carry them: the premise of the laws on sections.
+/// States that the packets of a table that is alone on its PID carry them: the premise of the laws on sections.
 pub fn tables_carry()
     ensures { TablesCarry }
 {}
 
-/// The packets of a stream that is alone on its PID carry the first of its units' payloads: the premise
-/// of those on units.
+/// States that the packets of a stream that is alone on its PID carry the first of its units' payloads: the
+/// premise of the laws on units.
 pub fn streams_carry()
     ensures { StreamsCarry }
 {}
 
-/// Of a table that is alone on its PID: each section that was sent whole, round after round; then the
-/// bytes of the one under way, as truncated; and nothing else.
+/// States the findings of a table that is alone on its PID: each section that was sent whole, round after round;
+/// then the bytes of the current section, as truncated; and nothing else.
 pub fn tables_come_back()
     ensures { TablesComeBack }
 {}
 
-/// Of a stream that is alone on its PID: each unit that was sent whole, then the one under way, and
-/// nothing else.
+/// States the findings of a stream that is alone on its PID: each unit that was sent whole, then the current
+/// unit, and nothing else.
 pub fn streams_come_back()
     ensures { StreamsComeBack }
 {}

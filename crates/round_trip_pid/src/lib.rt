@@ -3,15 +3,15 @@
 //!
 //! Slot s carries a payload, a clock reference or nothing (`slot_contents/specs/Contents`), and is
 //! packet number s of the bytes. Each function here is a law: it does nothing, and its contract says
-//! what holds of the definitions. Nothing is known here of plans and descriptions: a stream is a list
-//! of access units, a table a list of sections, and a PID carries their payloads in order, in any slots.
+//! a fact about the definitions. This crate knows no plans and descriptions: a stream is a list of
+//! access units, a table a list of sections, and a PID carries their payloads in order, in any slots.
 //!
-//! Definitions stand in `specs/`: `Sent` says which packets carry which PES packet or section, `Units`
-//! and `Sections` what is found of each, `Clean` what is never found, `Laws` what the laws say of any
-//! PID, `Rounds` of a table and of a stream in their own slots.
+//! Definitions are in `specs/`: `Sent` says which packets carry which PES packet or section, `Units`
+//! and `Sections` the findings of each, `Clean` which findings never occur, `Laws` what the laws say of
+//! any PID, `Rounds` of a table and of a stream in their own slots.
 //!
 //! - [`laws`]: a PID that carries units, sections, or no payload; and that nothing is found but of a PID.
-//! - [`carried`]: the same of what `unit_queue` and `table_rounds` put into slots.
+//! - [`carried`]: the same for the packets of `unit_queue` and `table_rounds`.
 #![tactic(auto)]
 
 pub mod carried;

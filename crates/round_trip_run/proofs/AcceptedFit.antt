@@ -1,5 +1,5 @@
 -- Each unit that `carry` accepts may be a PES packet.
-use Rattle.std.proofs.Common.{◌≡◌, ℕ, zero, suc, ◌+◌, IsTrue, List, length, Option, Some, None, Result, Ok, Err, refl, All, le-leb}
+use Rattle.std.proofs.Common.{◌≡◌, ℕ, zero, suc, ◌+◌, IsTrue, List, length, Option, Some, None, Result, Ok, Err, refl, All, le-leb, arith}
 use Rattle.std.proofs.lemmas.List.Elements.{All-nil, All-cons}
 use Rattle.pes_packet.specs.AccessUnits.{AccessUnit}
 use Rattle.pes_packet.specs.StreamIds.{is_unit_id, greatest_size, fits_packet}
@@ -16,7 +16,7 @@ abbrev FitsId : ℕ → AccessUnit → Type 0
 FitsId id u = IsTrue (fits_packet id (length u.bytes))
 
 accepted_fits : (id earliest : ℕ) (u : AccessUnit) → IsTrue (is_unit_id id) → IsAccepted id earliest u → FitsId id u
-accepted_fits id earliest u is a = rw (is, le-leb 1 (length u.bytes) a.some, le-leb (length u.bytes) (greatest_size id) a.most) refl
+accepted_fits id earliest u is a = rw (is, le-leb 1 (length u.bytes) a.some, le-leb (length u.bytes) (greatest_size id) (omega (arith, a.most))) refl
 
 judged_fit : (id earliest stream : ℕ) (u : AccessUnit) (cause : Option FeedError) (after : Run) → IsTrue (is_unit_id id) → refusal id earliest stream u ≡ cause →
     All (FitsId id) after.units → All (FitsId id) (judged cause u after).units

@@ -5,7 +5,7 @@ use Rattle.std.proofs.Common.{◌≡◌, ◌≤◌, ◌<◌, ℕ, [], refl, inr,
 use Rattle.std.proofs.lemmas.List.Elements.{All-nil, All-cons}
 use Rattle.description.specs.Described.{DescribedNetwork, DescribedProgram, DescribedStream}
 use Rattle.description.specs.Tables.{pmt_length, nit_length}
-use Rattle.description.specs.Ranges.{IsPid, IsBytes, IsLanguage, IsNetwork, IsProgram, IsEvent, IsMultiplexingBuffer, IsStream, IsTable, IsListed, IsSharing, IsInRange, program_numbers, longest_section}
+use Rattle.description.specs.Ranges.{IsPid, IsBytes, IsLanguage, IsNetwork, IsProgram, IsEvent, IsMultiplexingBuffer, IsFraming, IsStream, IsTable, IsListed, IsSharing, IsInRange, program_numbers, longest_section}
 use Rattle.round_trip_run.specs.WorkedService.{worked_stream, worked_program, worked_service}
 
 pid : (n : ℕ) → 32 ≤ n → n ≤ 8190 → IsPid n
@@ -36,6 +36,7 @@ stream_is = record {
   allowance = record { some_units = omega arith; most_units = omega arith; some_packets = omega arith; most_packets = omega arith };
   few_sharers = omega arith;
   multiplexing = All-nil (IsMultiplexingBuffer 2000000);
+  framing = All-nil (IsFraming worked_stream.interval worked_stream.size);
 }
 
 program_is : IsProgram worked_program

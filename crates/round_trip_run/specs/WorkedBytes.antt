@@ -1,10 +1,11 @@
 -- The bytes of a small run, packet by packet: that of the worked service in its first six slots, with one unit.
 use Rattle.std.specs.Prelude.{ℕ, ◌+◌, List, [], ◌∷◌, ◌++◌, replicate}
 use Rattle.pes_packet.specs.AccessUnits.{AccessUnit}
+use Rattle.pes_packet.specs.Marks.{no_marks}
 
 -- the only unit: four bytes, due at 77.8 ms
 abbrev pub worked_unit : AccessUnit
-worked_unit = record { dts = 7000; pts = 7000; bytes = 0x0A ∷ 0x14 ∷ 0x1E ∷ 0x28 ∷ [] }
+worked_unit = record { dts = 7000; pts = 7000; marks = no_marks; bytes = 0x0A ∷ 0x14 ∷ 0x1E ∷ 0x28 ∷ [] }
 
 -- the program association section: program 1 has its map on PID 0x1000
 abbrev pub worked_pat : List ℕ

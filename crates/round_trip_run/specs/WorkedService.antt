@@ -23,6 +23,7 @@ worked_stream = record {
   allowance = Groups 1 1;
   shared_with = [];
   multiplexing = None;
+  framing = None;
 }
 
 abbrev pub worked_program : DescribedProgram

@@ -11,5 +11,6 @@ mod monitoring;
 mod order;
 mod packets;
 mod programs;
+mod sound_frames;
 mod units;
 mod video_buffers;

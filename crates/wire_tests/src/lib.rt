@@ -1,4 +1,4 @@
-//! Tests of what is on the wire, each over public contracts alone: a test here is proved against what a crate promises,
+//! Tests of wire formats, each over public contracts alone: a test here is proved against what a crate promises,
 //! and not against its bodies. The crates `clock27`, `ts_packet`, `pes_packet`, `psi_tables`, `dvb_tables` and
 //! `table_rounds`, a file or a folder each.
 #![tactic(auto)]

@@ -11,7 +11,7 @@ mod rounds;
 mod sections;
 mod vectors;
 
-/// A packet with these first bytes and 0xFF after them.
+/// Returns a packet with these first bytes and 0xFF after them.
 fn packet_of(front: &[u8]) -> [u8; 188] {
     let mut packet = [0xff; 188];
     for (byte, known) in packet.iter_mut().zip(front) {

@@ -1,4 +1,4 @@
-//! Records heard one by one: what each answers and how many slots are then written, also of an input that holds them all;
+//! Records taken one by one: the answer to each and how many slots are then written, also for an input that holds them all;
 //! and whole runs, beside jobs of the same units, to writers that fail, and in little memory.
 
 use super::services::{ONE, SMALL, Series, units};
@@ -167,7 +167,7 @@ fn is_answer(heard: Heard, wanted: &Answer) -> bool {
     }
 }
 
-/// Whether the next record answers this, and this many slots are written after it.
+/// Returns whether the next record answers this, and this many slots are written after it.
 fn is_heard<R: HeldInput>(
     alloc: Global,
     run: &mut OnAir,
@@ -186,8 +186,8 @@ fn is_heard<R: HeldInput>(
     if is_wanted { Some(written) } else { None }
 }
 
-/// Whether the slots that a record settles are written when it is heard: of an input that holds all records, where it is
-/// taken and none comes after it. What a refused one leaves is written by the next call.
+/// Returns whether the slots that a record settles are written when it is heard: of an input that holds all records, where
+/// it is taken and none comes after it. What a refused one leaves is written by the next call.
 fn is_out(run: &Run, holds: bool, number: usize, answer: &Answer) -> bool {
     let is_last = number.saturating_add(1) == run.heard.len();
     match answer {
@@ -196,7 +196,7 @@ fn is_out(run: &Run, holds: bool, number: usize, answer: &Answer) -> bool {
     }
 }
 
-/// Whether each record of a run and its end answer what they have to.
+/// Returns whether each record of a run and its end answer what they have to.
 fn is_aired<R: HeldInput>(alloc: Global, run: &Run, holds: bool, input: &mut R) -> Option<bool> {
     let mut air = begun(alloc, alloc, alloc, run.terms, false)?.ok()?;
     let mut written = Vec::new(alloc);
@@ -232,7 +232,7 @@ fn records_are_heard(rt: HostRuntime) {
     }
 }
 
-/// A whole run to a writer: the bytes that it reports, where it fails.
+/// Returns a whole run to a writer: the bytes that it reports, where it fails.
 fn aired_to(
     alloc: Global,
     series: &Series,
@@ -293,7 +293,7 @@ static SAME: [(Series, u64, bool); 4] = [
     ),
 ];
 
-/// Whether a run airs what a job of the same units has.
+/// Returns whether a run airs what a job of the same units has.
 fn is_same(alloc: Global, series: &Series, slots: u64, hex: bool) -> Option<bool> {
     let one = aired(alloc, series, hex)?;
     let plan = SMALL.checked(alloc, alloc)?;
@@ -317,7 +317,7 @@ const TWENTY: Series = Series {
     ..ONE
 };
 
-/// Whether a writer that fails after this many bytes took just these of all.
+/// Returns whether a writer that fails after this many bytes took just these of all.
 fn takes_front(alloc: Global, whole: &[u8], bytes: u64) -> Option<bool> {
     let to = Failing::after_bytes(Vec::new(alloc), bytes);
     let (sent, taken) = aired_to(alloc, &TWENTY, false, to)?;
@@ -332,7 +332,7 @@ fn writers_fail(rt: HostRuntime) {
     }
 }
 
-/// Whether a run is begun in a heap of this size beside its plan; None where the answer is neither that nor Memory.
+/// Returns whether a run is begun in a heap of this size beside its plan; None where the answer is neither that nor Memory.
 pub fn is_begun_in(global: Global, room: usize) -> Option<bool> {
     let given = LocalHeap::new(global, 16_384).ok()?;
     let heap = LocalHeap::new(global, room).ok()?;

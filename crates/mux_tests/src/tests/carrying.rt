@@ -58,7 +58,7 @@ pub fn push_record(bytes: &mut Vec<u8>, record: Record, byte: u8) -> bool {
     bytes.resize(length, byte).is_ok()
 }
 
-/// Whether a writer that fails once, after `bytes` bytes, took just these.
+/// Returns whether a writer that fails once, after `bytes` bytes, took just these.
 fn takes_part(alloc: Global, line: &[u8], bytes: u64) -> bool {
     let (answer, output, _, faults) = carried(alloc, alloc, &RECORD, true, NEVER, bytes);
     answer == Err(CarryError::Device { sent: bytes })
@@ -91,7 +91,7 @@ fn readers_fail(rt: HostRuntime) {
     }
 }
 
-/// Whether the record is carried in a heap of this size; None where the answer is neither that nor Memory.
+/// Returns whether the record is carried in a heap of this size; None where the answer is neither that nor Memory.
 pub fn is_carried_in(global: Global, room: usize) -> Option<bool> {
     let heap = LocalHeap::new(global, room).ok()?;
     match carried(global, &heap, &RECORD, true, NEVER, NEVER) {

@@ -5,7 +5,8 @@ use super::{checked, followed};
 use slot_plan::Slot;
 use std::alloc::Global;
 
-/// Whether both plans of a switch are lent: the first begins with a null slot, the second with a slot of the stream.
+/// Returns whether both plans of a switch are lent: the first begins with a null slot, the second with a slot of the
+/// stream.
 fn are_lent(alloc: Global) -> Option<bool> {
     let first = checked(alloc, alloc, DESCRIPTION, TURNED_PLAN)?;
     let switch = followed(alloc, first, PLAN)?;

@@ -11,7 +11,7 @@ use description::{Description, TableKind};
 use sections::{SECTIONS, Section};
 use std::alloc::Global;
 
-/// What the description says of the whole service.
+/// Returns what the description says of the whole service.
 fn says(description: &Description) -> [bool; 10] {
     [
         description.rate().bits_per_second() == 1_504_000,
@@ -27,7 +27,7 @@ fn says(description: &Description) -> [bool; 10] {
     ]
 }
 
-/// Its tables, and no further one.
+/// Returns its tables, and no further one.
 fn kinds(description: &Description) -> [bool; 5] {
     [
         description.tables() == 6,
@@ -38,8 +38,8 @@ fn kinds(description: &Description) -> [bool; 5] {
     ]
 }
 
-/// The PID of a table, its limit in milliseconds, its sections and the places of a round, and the most bytes of its
-/// last section.
+/// Returns the PID of a table, its limit in milliseconds, its sections and the places of a round, and the most
+/// bytes of its last section.
 fn shape(description: &Description, table: usize) -> Option<(u16, u16, usize, usize, usize)> {
     if table >= description.tables() {
         return None;
@@ -55,7 +55,7 @@ fn shape(description: &Description, table: usize) -> Option<(u16, u16, usize, us
     Some((pid, limit, sections, places, greatest))
 }
 
-/// Whether the description has this section, in these bytes.
+/// Returns whether the description has this section, in these bytes.
 fn has_section(description: &Description, wanted: &Section) -> bool {
     let (table, section, moment, bytes) = *wanted;
     if table >= description.tables() || section >= description.sections(table) {
@@ -75,7 +75,7 @@ fn has_sections(description: &Description) -> bool {
     true
 }
 
-/// What is as it has to be: the values, the tables, the table of events, the sections.
+/// Returns what is as it has to be: the values, the tables, the table of events, the sections.
 fn answers(alloc: Global) -> Option<([bool; 10], [bool; 5], bool, bool)> {
     let description = described(alloc, DESCRIPTION)?;
     description.keeps_ranges();
@@ -94,7 +94,7 @@ fn small_service(rt: HostRuntime) {
     assert!(rt; answers(rt.alloc()) == Some(([true; 10], [true; 5], true, true)));
 }
 
-/// The greatest description: 16 programs, each with two streams, a private table and 16 events of an hour each.
+/// Returns the greatest description: 16 programs, each with two streams, a private table and 16 events of an hour each.
 fn greatest(alloc: Global) -> Option<Description> {
     let head = edited(alloc, MANY_HEAD, "rr", "30000000")?;
     let head = edited(alloc, head.as_str(), "tdt = true", NETWORK)?;
@@ -108,7 +108,7 @@ fn greatest(alloc: Global) -> Option<Description> {
     }
 }
 
-/// Whether each program has 16 events.
+/// Returns whether each program has 16 events.
 fn are_full(description: &Description) -> bool {
     for program in description.programs() {
         if program.events().len() != 16 {

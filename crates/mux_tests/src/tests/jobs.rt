@@ -57,7 +57,7 @@ fn by_two<A: Allocator + Copy>(
     }
 }
 
-/// The answer of the job, whose plan and units are in the memory `given`.
+/// Returns the answer of the job, whose plan and units are in the memory `given`.
 fn answer<A: Allocator + Copy>(
     global: Global,
     given: A,
@@ -101,18 +101,18 @@ fn written_to<A: Allocator + Copy>(
     Some((answer, to.into_inner().into_inner()))
 }
 
-/// The same with memory for all, to a writer that never fails.
+/// Returns the same with memory for all, to a writer that never fails.
 fn written(alloc: Global, job: &Job) -> Option<Written> {
     let to = Failing::after_calls(Vec::new(alloc), u64::MAX);
     written_to(alloc, alloc, alloc, job, to)
 }
 
-/// Whether these bytes are at an offset.
+/// Returns whether these bytes are at an offset.
 fn stands_at(output: &[u8], place: usize, bytes: &[u8]) -> bool {
     output.get(place..).unwrap_or(&[]).starts_with(bytes)
 }
 
-/// Whether this is the answer to the job, with these bytes at these offsets of the output.
+/// Returns whether this is the answer to the job, with these bytes at these offsets of the output.
 fn is_answered(
     alloc: Global,
     job: &Job,
@@ -138,13 +138,13 @@ fn jobs(rt: HostRuntime) {
     }
 }
 
-/// The bytes of a job that is done.
+/// Returns the bytes of a job that is done.
 fn finished(alloc: Global, job: &Job) -> Option<Vec<u8>> {
     let (answer, output) = written(alloc, job)?;
     if answer.is_ok() { Some(output) } else { None }
 }
 
-/// Whether a writer that fails after `bytes` bytes took just these.
+/// Returns whether a writer that fails after `bytes` bytes took just these.
 fn takes_part(alloc: Global, whole: &[u8], bytes: u64) -> Option<bool> {
     let to = Failing::after_bytes(Vec::new(alloc), bytes);
     match written_to(alloc, alloc, alloc, &SINGLE, to)? {
@@ -165,7 +165,7 @@ fn writers_fail(rt: HostRuntime) {
     }
 }
 
-/// Whether a job of no slots is done with a writer that fails at its first call.
+/// Returns whether a job of no slots is done with a writer that fails at its first call.
 fn is_nothing_written(alloc: Global) -> Option<bool> {
     let to = Failing::after_calls(Vec::new(alloc), 0);
     let (answer, _) = written_to(alloc, alloc, alloc, &EMPTY, to)?;
@@ -178,8 +178,8 @@ fn no_slots(rt: HostRuntime) {
     assert!(rt; is_nothing_written(rt.alloc()) == Some(true));
 }
 
-/// Whether 18 slots are written with a heap of this size beside the plan and the unit; None where the answer is neither
-/// that nor Memory with nothing written.
+/// Returns whether 18 slots are written with a heap of this size beside the plan and the unit; None where the answer is
+/// neither that nor Memory with nothing written.
 pub fn is_written_in(global: Global, job: &Job, room: usize) -> Option<bool> {
     let given = LocalHeap::new(global, 16_384).ok()?;
     let heap = LocalHeap::new(global, room).ok()?;

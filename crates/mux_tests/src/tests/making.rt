@@ -38,7 +38,7 @@ fn description_of(alloc: Global, wanted: &Wanted) -> Option<Description> {
 /// How many slots a plan has, how many of them are not null, and how many streams it serves.
 type Made = (usize, usize, usize);
 
-/// How many slots are not null.
+/// Returns how many slots are not null.
 fn used(slots: &[Slot]) -> usize {
     let mut used = 0usize;
     for slot in slots {
@@ -58,7 +58,7 @@ fn measured<A: Allocator>(checked: CheckedPlan<A>) -> Made {
     made
 }
 
-/// The plan that is made, or how many streams the description has for which none is found; None where memory is
+/// Returns the plan that is made, or how many streams the description has for which none is found; None where memory is
 /// wanting.
 fn made<A: Allocator + Clone>(alloc: A, description: Description) -> Option<Result<Made, usize>> {
     match make(alloc, description) {
@@ -174,7 +174,7 @@ static REASONS: [(Wanted, &[Reason]); 11] = [
     (Radio(16, "8000000"), &[Reason::Overload(Some(10_681_124))]),
 ];
 
-/// Whether these are the reasons; None when out of memory.
+/// Returns whether these are the reasons; None when out of memory.
 fn are_reasons<A: Allocator>(
     global: Global,
     alloc: A,
@@ -197,7 +197,7 @@ fn reasons_are_named(rt: HostRuntime) {
     }
 }
 
-/// Whether a plan of the small service is made in a heap of this size.
+/// Returns whether a plan of the small service is made in a heap of this size.
 pub fn is_made_in(global: Global, room: usize) -> Option<bool> {
     let heap = LocalHeap::new(global, room).ok()?;
     let description = described(global, DESCRIPTION)?;
@@ -208,7 +208,7 @@ pub fn is_made_in(global: Global, room: usize) -> Option<bool> {
     }
 }
 
-/// Whether reasons are found in a heap of this size.
+/// Returns whether reasons are found in a heap of this size.
 pub fn are_reasons_in(global: Global, room: usize) -> Option<bool> {
     let heap = LocalHeap::new(global, room).ok()?;
     let (wanted, all) = &REASONS[3];

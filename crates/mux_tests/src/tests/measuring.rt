@@ -48,7 +48,8 @@ fn records(alloc: Global, series: &Series) -> Option<Vec<u8>> {
     }
 }
 
-/// What other slots of the small plan carry, before and after bytes FF: clock references, PAT and PMT in part, nothing.
+/// Returns what other slots of the small plan carry, before and after bytes FF: clock references, PAT and PMT in part,
+/// nothing.
 fn table(slot: u32) -> (&'static [u8], &'static [u8]) {
     match slot % 120 {
         1 | 25 | 49 | 73 | 97 => (
@@ -141,7 +142,7 @@ fn numbers<A: Allocator>(found: &Fullness<A>) -> Option<Numbers> {
     }
 }
 
-/// What is measured of bytes that carry these units.
+/// Returns what is measured of bytes that carry these units.
 fn answer<A: Allocator + Clone>(
     global: Global,
     alloc: A,
@@ -359,7 +360,8 @@ fn runs_are_measured(rt: HostRuntime) {
     }
 }
 
-/// Whether the run of one unit is measured in a heap of this size; None where the answer is neither that nor Memory.
+/// Returns whether the run of one unit is measured in a heap of this size; None where the answer is neither that nor
+/// Memory.
 pub fn is_measured_in(global: Global, room: usize) -> Option<bool> {
     let heap = LocalHeap::new(global, room).ok()?;
     match measured(global, &heap, &SHORT)? {

@@ -23,7 +23,7 @@ enum Call {
     Air,
 }
 
-/// Whether the call gives its answer in a heap of this size; None where it gives another.
+/// Returns whether the call gives its answer in a heap of this size; None where it gives another.
 fn is_answered(alloc: Global, call: &Call, room: usize) -> Option<bool> {
     match call {
         Call::Carry => is_carried_in(alloc, room),

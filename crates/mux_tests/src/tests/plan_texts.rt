@@ -11,7 +11,7 @@ use std::alloc::Global;
 /// How many bytes of the text are read, and the slots, streams and programs of the plan.
 type Shape = (usize, usize, usize, usize);
 
-/// Whether this is the plan's text.
+/// Returns whether this is the plan's text.
 fn is_text(alloc: Global, plan: &Plan, text: &[u8]) -> bool {
     match plan.write_text(alloc) {
         Ok(written) => written.as_bytes() == text,
@@ -25,7 +25,8 @@ fn shape_of(plan: &Plan, bytes: usize) -> Shape {
     (bytes, plan.slots().len(), streams.len(), programs.len())
 }
 
-/// What the text gives, or the line that is refused; None when out of memory, or where the plan has another text.
+/// Returns what the text gives, or the line that is refused; None when out of memory, or where the plan has
+/// another text.
 fn reading(alloc: Global, text: &[u8]) -> Option<Result<Shape, u32>> {
     match Plan::read_text(alloc, text) {
         Ok((plan, bytes)) => {
@@ -56,7 +57,7 @@ static OTHER_BYTES: [u8; 11] = [
     0, b'\n', b' ', b'-', b'0', b'1', b'9', b'S', 0x7f, 0x80, 0xff,
 ];
 
-/// Whether each change of this byte of the plan is refused, or makes the text of another plan.
+/// Returns whether each change of this byte of the plan is refused, or makes the text of another plan.
 fn are_changes_told(alloc: Global, place: usize) -> Option<bool> {
     for byte in &OTHER_BYTES {
         let text = changed(alloc, PLAN.as_bytes(), place, *byte)?;
@@ -82,7 +83,7 @@ static SLOTS: [(usize, Slot); 4] = [
     (119, Slot::Null),
 ];
 
-/// The spread, start and peak of its stream.
+/// Returns the spread, start and peak of its stream.
 fn has_entry(plan: &Plan) -> bool {
     match plan.certificate().streams.first() {
         Some(entry) => entry.spread == 0 && entry.start == 0 && entry.peak == 282_752_000,
@@ -150,7 +151,7 @@ static LIMITS: [Limit; 8] = [
     (Slot::Null, 1, 0, 1, END, Some(PlanError::Number)),
 ];
 
-/// The text of such a plan, or why there is none.
+/// Returns the text of such a plan, or why there is none.
 fn written(
     alloc: Global,
     made: Result<Plan, (PlanError, Vec<Slot>, Certificate)>,
@@ -172,7 +173,7 @@ fn written(
     }
 }
 
-/// Whether there is such a plan, whose text is read again, or this error.
+/// Returns whether there is such a plan, whose text is read again, or this error.
 fn is_limit(alloc: Global, row: &Limit) -> Option<bool> {
     let (slot, count, streams, programs, number, wanted) = *row;
     let slots = vec![in alloc; slot; count].ok()?;
@@ -212,7 +213,7 @@ fn owners(rt: HostRuntime) {
     }
 }
 
-/// Whether the small plan is read in a heap of this size; None where the answer is neither that nor Memory.
+/// Returns whether the small plan is read in a heap of this size; None where the answer is neither that nor Memory.
 pub fn is_read_in(global: Global, room: usize) -> Option<bool> {
     let heap = LocalHeap::new(global, room).ok()?;
     match Plan::read_text(&heap, PLAN.as_bytes()) {
@@ -229,7 +230,7 @@ pub fn is_read_in(global: Global, room: usize) -> Option<bool> {
     }
 }
 
-/// Whether its text is written in a heap of this size; None where it is another text.
+/// Returns whether its text is written in a heap of this size; None where it is another text.
 pub fn is_written_in(global: Global, room: usize) -> Option<bool> {
     let heap = LocalHeap::new(global, room).ok()?;
     let plan = planned(global, PLAN)?;

@@ -4,7 +4,7 @@ use super::carrying::{NEVER, RECORD, carried};
 use super::{changed, joined};
 use counted_io::Counted;
 use linked_list_allocator::LocalHeap;
-use mux_core::{CarryError, FeedError, Unit, UnitFileError, read_unit};
+use mux_core::{CarryError, FeedError, Marks, Unit, UnitFileError, read_unit};
 use std::alloc::Global;
 
 /// A record after RECORD: stream 0, 2 bytes, DTS 92,160 and PTS 95,760.
@@ -13,10 +13,10 @@ const NEXT: [u8; 23] = [
     0x00, 0x00, 0x01, 0x76, 0x10, 0x44, 0x45,
 ];
 
-/// The stream, DTS, PTS and bytes of a unit.
-type Parts<'a> = (u8, u64, u64, &'a [u8]);
+/// The stream, DTS, PTS, bytes and marks of a unit.
+type Parts<'a> = (u8, u64, u64, &'a [u8], u64);
 
-/// A number of these bytes, with its highest byte first.
+/// Returns a number of these bytes, with its highest byte first.
 fn number_at(bytes: &[u8], from: usize, to: usize) -> u64 {
     let mut value = 0u64;
     for byte in bytes.get(from..to).unwrap_or(&[]) {
@@ -25,28 +25,29 @@ fn number_at(bytes: &[u8], from: usize, to: usize) -> u64 {
     value
 }
 
-/// What is at the front: nothing, a whole record, or the fault.
+/// Returns what is at the front: nothing, a whole record, or the fault.
 fn rule(bytes: &[u8]) -> Result<Option<Parts<'_>>, UnitFileError> {
     let Some(stream) = bytes.first() else {
         return Ok(None);
     };
-    let size = number_at(bytes, 1, 5);
-    if bytes.len() >= 5 && size > 4_000_000 {
+    let (marks, size) = (number_at(bytes, 1, 2), number_at(bytes, 2, 5));
+    let refused = size > 4_000_000 || marks > 0x1f || marks != 0 && size == 0;
+    if bytes.len() >= 5 && refused {
         return Err(UnitFileError::Size);
     }
     let rest = bytes.get(21..).unwrap_or(&[]);
     match rest.get(..size as usize) {
         Some(unit) if bytes.len() >= 21 => {
             let (dts, pts) = (number_at(bytes, 5, 13), number_at(bytes, 13, 21));
-            Ok(Some((*stream, dts, pts, unit)))
+            Ok(Some((*stream, dts, pts, unit, marks)))
         }
         _ => Err(UnitFileError::Cut),
     }
 }
 
-/// The bytes after a record.
+/// Returns the bytes after a record.
 fn after<'a>(bytes: &'a [u8], parts: &Parts<'a>) -> &'a [u8] {
-    let (_, _, _, unit) = parts;
+    let (_, _, _, unit, _) = parts;
     bytes
         .get(21..)
         .unwrap_or(&[])
@@ -54,19 +55,38 @@ fn after<'a>(bytes: &'a [u8], parts: &Parts<'a>) -> &'a [u8] {
         .unwrap_or(&[])
 }
 
+/// Returns the byte of these marks.
+fn byte_of(marks: Marks) -> u8 {
+    let flags = [
+        (marks.long, 16),
+        (marks.flags.priority, 8),
+        (marks.flags.aligned, 4),
+        (marks.flags.copyright, 2),
+        (marks.flags.original, 1),
+    ];
+    let mut byte = 0u8;
+    for (stands, value) in &flags {
+        if *stands {
+            byte |= *value;
+        }
+    }
+    byte
+}
+
 fn is_unit(stream: u8, unit: &Unit, wanted: Result<Option<Parts<'_>>, UnitFileError>) -> bool {
     match wanted {
-        Ok(Some((wanted_stream, dts, pts, bytes))) => {
+        Ok(Some((wanted_stream, dts, pts, bytes, marks))) => {
             stream == wanted_stream
                 && unit.dts == dts
                 && unit.pts == pts
                 && unit.bytes.as_slice() == bytes
+                && byte_of(unit.marks) as u64 == marks
         }
         _ => false,
     }
 }
 
-/// Whether `read_unit` answers so.
+/// Returns whether `read_unit` answers so.
 fn is_as_wanted(
     read: Result<Option<(u8, Unit)>, UnitFileError>,
     wanted: Result<Option<Parts<'_>>, UnitFileError>,
@@ -85,7 +105,7 @@ fn is_as_wanted(
     }
 }
 
-/// Whether two records are read by the rule, one after the other.
+/// Returns whether two records are read by the rule, one after the other.
 fn are_read(alloc: Global, bytes: &[u8]) -> bool {
     let mut input = Counted::new(bytes);
     let mut rest = bytes;
@@ -102,7 +122,7 @@ fn are_read(alloc: Global, bytes: &[u8]) -> bool {
     true
 }
 
-/// Whether a size over the greatest is named as ever where there is hardly any memory.
+/// Returns whether a size over the greatest is named as ever where there is hardly any memory.
 fn names_the_size(alloc: Global, bytes: &[u8]) -> bool {
     if !matches!(rule(bytes), Err(UnitFileError::Size)) {
         return true;
@@ -116,9 +136,9 @@ fn names_the_size(alloc: Global, bytes: &[u8]) -> bool {
     }
 }
 
-/// Why `carry` refuses a unit after one with this DTS.
+/// Returns why `carry` refuses a unit after one with this DTS.
 fn refusal(parts: &Parts<'_>, last: Option<u64>) -> Option<FeedError> {
-    let (stream, dts, pts, unit) = *parts;
+    let (stream, dts, pts, unit, _) = *parts;
     if stream != 0 {
         Some(FeedError::UnknownStream)
     } else if unit.is_empty() {
@@ -134,7 +154,8 @@ fn refusal(parts: &Parts<'_>, last: Option<u64>) -> Option<FeedError> {
     }
 }
 
-/// The answer of `carry`, and how many records it leaves before it: each of these units is short enough for a packet.
+/// Returns the answer of `carry`, and how many records it leaves before it: each of these units is short enough for a
+/// packet.
 fn carry_rule(bytes: &[u8]) -> (Result<u64, CarryError>, u64) {
     let mut rest = bytes;
     let mut last = None;
@@ -154,14 +175,14 @@ fn carry_rule(bytes: &[u8]) -> (Result<u64, CarryError>, u64) {
     (Ok(3 * 188), 3)
 }
 
-/// Whether `carry` answers as the rule says, and writes the packets of the records before its answer.
+/// Returns whether `carry` answers as the rule says, and writes the packets of the records before its answer.
 fn is_carried(alloc: Global, bytes: &[u8]) -> bool {
     let (wanted, records) = carry_rule(bytes);
     let (answer, output, _, _) = carried(alloc, alloc, bytes, false, NEVER, NEVER);
     answer == wanted && output.len() as u64 == records.saturating_mul(188)
 }
 
-/// Whether a file of these bytes is answered as the rule says.
+/// Returns whether a file of these bytes is answered as the rule says.
 fn is_ruled(alloc: Global, bytes: &[u8]) -> bool {
     are_read(alloc, bytes) && names_the_size(alloc, bytes) && is_carried(alloc, bytes)
 }
@@ -177,7 +198,7 @@ fn beginnings(rt: HostRuntime) {
 
 static VALUES: [u8; 4] = [0x00, 0x7f, 0x80, 0xff];
 
-/// Whether each of these values of a byte is answered so.
+/// Returns whether each of these values of a byte is answered so.
 fn are_ruled(alloc: Global, bytes: &[u8], at: usize) -> Option<bool> {
     for value in &VALUES {
         let changed = changed(alloc, bytes, at, *value)?;

@@ -34,8 +34,8 @@ fn double<A: Allocator>(
     }
 }
 
-/// A multiplexer over the plan of the service; with a number of periods, over these and then over its second plan.
-/// The plans are in the memory `given`.
+/// Returns a multiplexer over the plan of the service; with a number of periods, over these and then over its
+/// second plan. The plans are in the memory `given`.
 fn made<A: Allocator + Copy>(
     global: Global,
     given: A,
@@ -81,7 +81,7 @@ fn capacities(rt: HostRuntime) {
     }
 }
 
-/// Whether the unit is answered so.
+/// Returns whether the unit is answered so.
 fn is_fed(
     mux: &mut Mux,
     alloc: Global,
@@ -113,7 +113,7 @@ fn push_packets(mux: &mut Mux, slot: u64, out: &mut Vec<u8>) -> bool {
     true
 }
 
-/// Whether the last packet has these bytes from one on.
+/// Returns whether the last packet has these bytes from one on.
 fn ends(out: &[u8], from: usize, bytes: &[u8]) -> bool {
     match out.chunks(188).last() {
         Some(packet) => packet.get(from..).unwrap_or(&[]).starts_with(bytes),
@@ -141,7 +141,7 @@ fn are_done(mux: &mut Mux, alloc: Global, steps: &[Step], out: &mut Vec<u8>) -> 
     true
 }
 
-/// The packets of the script, where each step is answered as it says.
+/// Returns the packets of the script, where each step is answered as it says.
 fn packets(alloc: Global, script: &Script) -> Option<Vec<u8>> {
     let (service, periods, capacity, steps) = script;
     let mut mux = made(alloc, alloc, alloc, service, *periods, *capacity)?.ok()?;
@@ -151,7 +151,7 @@ fn packets(alloc: Global, script: &Script) -> Option<Vec<u8>> {
     if done { Some(out) } else { None }
 }
 
-/// The units and slots of the script.
+/// Returns the units and slots of the script.
 fn push_events(alloc: Global, steps: &[Step], events: &mut Vec<Event>) -> bool {
     let mut slots = 0;
     for step in steps {
@@ -185,7 +185,7 @@ fn push_slots<A: Allocator>(events: &mut Vec<Event<A>, A>, slots: u64) -> bool {
     true
 }
 
-/// What the multiplexer gives for the steps as a list of events.
+/// Returns what the multiplexer gives for the steps as a list of events.
 fn driven(mux: &mut Mux, alloc: Global, steps: &[Step]) -> Option<Vec<u8>> {
     let mut events = Vec::new(alloc);
     if !push_events(alloc, steps, &mut events) {
@@ -202,7 +202,7 @@ fn driven(mux: &mut Mux, alloc: Global, steps: &[Step]) -> Option<Vec<u8>> {
     }
 }
 
-/// Whether the script as a list of events gives the same packets.
+/// Returns whether the script as a list of events gives the same packets.
 fn is_driven(alloc: Global, script: &Script, packets: &[u8]) -> Option<bool> {
     let (service, periods, capacity, steps) = script;
     let mut mux = made(alloc, alloc, alloc, service, *periods, *capacity)?.ok()?;
@@ -223,7 +223,7 @@ fn scripts_are_done(rt: HostRuntime) {
     }
 }
 
-/// Whether two scripts give the same packets.
+/// Returns whether two scripts give the same packets.
 fn are_alike(alloc: Global, one: &Script, other: &Script) -> Option<bool> {
     let packets_of_one = packets(alloc, one)?;
     let packets_of_other = packets(alloc, other)?;
@@ -238,7 +238,7 @@ fn alike(rt: HostRuntime) {
     }
 }
 
-/// Whether a multiplexer for 64 units is made in a heap of this size beside its plans.
+/// Returns whether a multiplexer for 64 units is made in a heap of this size beside its plans.
 pub fn is_begun_in(global: Global, periods: Option<u64>, room: usize) -> Option<bool> {
     let given = LocalHeap::new(global, 16_384).ok()?;
     let heap = LocalHeap::new(global, room).ok()?;
@@ -255,7 +255,7 @@ pub fn is_begun_in(global: Global, periods: Option<u64>, room: usize) -> Option<
     }
 }
 
-/// Whether 42 slots are done; where they are not, nothing is, and all events come back.
+/// Returns whether 42 slots are done; where they are not, nothing is, and all events come back.
 fn are_driven<A: Allocator + Copy>(mux: &mut Mux<A>, given: A, alloc: A) -> Option<bool> {
     let mut events = Vec::new(given);
     if !push_slots(&mut events, 42) {
@@ -273,7 +273,7 @@ fn are_driven<A: Allocator + Copy>(mux: &mut Mux<A>, given: A, alloc: A) -> Opti
     }
 }
 
-/// The same with a heap of this size for their bytes.
+/// Returns the same with a heap of this size for their bytes.
 pub fn are_driven_in(global: Global, room: usize) -> Option<bool> {
     let given = LocalHeap::new(global, 131_072).ok()?;
     let heap = LocalHeap::new(global, room).ok()?;

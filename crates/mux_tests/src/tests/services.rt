@@ -2,7 +2,7 @@
 
 use super::texts::{DESCRIPTION, PLAN, TURNED_PLAN};
 use super::{checked, edited, followed};
-use mux_core::Unit;
+use mux_core::{Marks, Unit};
 use plan_checker::{CheckedPlan, CheckedSwitch};
 use std::alloc::{Allocator, Global};
 
@@ -49,7 +49,7 @@ pub const LATE_CLOCK: Service = Service {
 };
 
 impl Service {
-    /// The plan for the description.
+    /// Returns the plan for the description.
     pub fn checked<A: Allocator + Clone>(
         &self,
         global: Global,
@@ -59,7 +59,7 @@ impl Service {
         checked(global, alloc, text.as_str(), PLAN)
     }
 
-    /// The plan, and then the second.
+    /// Returns the plan, and then the second.
     pub fn switched<A: Allocator + Copy>(
         &self,
         global: Global,
@@ -71,7 +71,7 @@ impl Service {
 }
 
 /// Units of a stream, each presented at its DTS: two sizes in turn, the first DTS, how far apart they are, how many
-/// there are, and the bytes of the first; those of each next one are one more.
+/// there are, and the bytes of the first; each next unit has one more.
 #[derive(Clone, Copy)]
 pub struct Series {
     pub stream: u8,
@@ -118,13 +118,19 @@ impl Series {
     }
 }
 
-/// A unit of `size` equal bytes.
+/// Returns a unit of `size` equal bytes.
 pub fn unit<A: Allocator>(alloc: A, size: usize, dts: u64, pts: u64, byte: u8) -> Option<Unit<A>> {
     let bytes = vec![in alloc; byte; size].ok()?;
-    Some(Unit { dts, pts, bytes })
+    let marks = Marks::NONE;
+    Some(Unit {
+        dts,
+        pts,
+        marks,
+        bytes,
+    })
 }
 
-/// All units of these series.
+/// Returns all units of these series.
 pub fn units<A: Allocator + Copy>(alloc: A, all: &[Series]) -> Option<Vec<(u8, Unit<A>), A>> {
     let mut units = Vec::new(alloc);
     for series in all {

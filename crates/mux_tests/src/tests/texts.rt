@@ -39,7 +39,7 @@ name = \"News\"
 text = \"\"
 ";
 
-/// Its plan, in which the stream has every fourth slot.
+/// Its plan, which gives the stream every fourth slot.
 pub const PLAN: &str = "tsplan 1
 period 120
 S0 P0 T0 T1 S0 T3 T2 T4 S0 T5 - - S0 - - - S0 - - - S0 - - -

@@ -1,4 +1,4 @@
-//! Worked streams. What is expected was worked out by hand from the rules of the standard.
+//! Worked streams. The expected findings were worked out by hand from the rules of the standard.
 
 mod limits;
 mod memory;

@@ -5,6 +5,7 @@ use linked_list_allocator::LocalHeap;
 use std::alloc::{AllocError, Allocator, Global};
 use unit_records::records_are_read;
 use unit_timing::allowance::Allowance;
+use unit_timing::framing::Framing;
 use unit_timing::multiplexing_buffer::MultiplexingBuffer;
 
 const HEADING: Heading<'static> = Heading {
@@ -59,6 +60,11 @@ static STREAMS: [StreamPart<'static>; 2] = [
         },
         shared_with: &[2, 65_535],
         multiplexing: None,
+        framing: Some(Framing {
+            frames: 2,
+            frame: 1_080,
+            frame_size: 288,
+        }),
     },
     StreamPart {
         program: 65_535,
@@ -80,6 +86,7 @@ static STREAMS: [StreamPart<'static>; 2] = [
             rbx: 20_000_000,
             size: 16_000,
         }),
+        framing: None,
     },
 ];
 
@@ -112,6 +119,9 @@ service_type = 2
 
 [[stream]]
 descriptors = \"0a04656e6700\"
+frame = 1080
+frame_size = 288
+frames = 2
 group = 1
 group_packets = 4
 id = 192

@@ -1,7 +1,7 @@
 //! Units of three streams, worked by hand.
 
 use linked_list_allocator::LocalHeap;
-use pes_packet::Unit;
+use pes_packet::{Marks, Unit};
 use std::alloc::{AllocError, Allocator, Global};
 use std::collections::VecDeque;
 use unit_order::merged;
@@ -24,7 +24,13 @@ static MERGED: [(u8, u64, u64); 8] = [
 
 fn unit<A: Allocator>(alloc: A, dts: u64, pts: u64) -> Result<Unit<A>, AllocError> {
     let bytes = Vec::from_slice(alloc, &[0xa5])?;
-    Ok(Unit { dts, pts, bytes })
+    let marks = Marks::NONE;
+    Ok(Unit {
+        dts,
+        pts,
+        marks,
+        bytes,
+    })
 }
 
 // The units of a stream, each with its number as PTS.

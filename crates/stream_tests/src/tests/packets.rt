@@ -5,7 +5,7 @@ use std::alloc::{AllocError, Global};
 /// A packet: its first bytes, the byte that fills it, and its last bytes.
 pub type Packet = (&'static [u8], u8, &'static [u8]);
 
-/// The bytes of a packet.
+/// Returns the bytes of a packet.
 pub fn packet_of(packet: &Packet) -> [u8; 188] {
     let (first, rest, last) = *packet;
     let mut bytes = [rest; 188];
@@ -16,7 +16,7 @@ pub fn packet_of(packet: &Packet) -> [u8; 188] {
     bytes
 }
 
-/// The packets of a stream.
+/// Returns the packets of a stream.
 pub fn stream_of(alloc: Global, packets: &[Packet]) -> Result<Vec<u8>, AllocError> {
     let mut bytes = Vec::new(alloc);
     for packet in packets {

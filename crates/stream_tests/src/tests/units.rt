@@ -4,7 +4,7 @@ mod declaration;
 mod moments;
 
 use demux::{Finding, Kind, Part, What};
-use pes_packet::{PesHeader, Stamps};
+use pes_packet::{Marks, PesFlags, PesHeader, Stamps};
 use std::alloc::{AllocError, Global};
 use stream_units::{
     FoundUnit, LentBytes, UnitWarning, UnitWarningCause, WireUnit, carried_units, first_other,
@@ -26,6 +26,8 @@ fn pes(pid: u16, packet: u64, stamps: Stamps, body: &'static [u8]) -> Finding<'s
         id: 224,
         len: 0,
         stamps,
+        flags: PesFlags::NONE,
+        data_length: 5,
     };
     Finding {
         packet: packet.saturating_add(1),
@@ -178,6 +180,7 @@ pub fn wire_unit(alloc: Global, dts: u64, pts: u64, size: usize) -> Result<WireU
         stream_id: 224,
         dts,
         pts,
+        marks: Marks::NONE,
         bytes,
     })
 }
@@ -207,6 +210,7 @@ pub fn lent<'f>(alloc: Global, units: &'f [WireUnit]) -> Option<Vec<FoundUnit<'f
             stream_id: unit.stream_id,
             dts: unit.dts,
             pts: unit.pts,
+            marks: unit.marks,
             bytes,
         }) else {
             return None;

@@ -17,7 +17,7 @@ fn bytes_are_refused(rt: HostRuntime) {
     }
 }
 
-/// The number of a reader's refusal of a section's bytes, 99 where they are none.
+/// Returns the number of a reader's refusal of a section's bytes, 99 where they are none.
 fn code_of_bytes(reader: u8, bytes: &[u8]) -> u8 {
     match Section::read(bytes) {
         Ok((section, _)) => table_code(reader, &section),
@@ -25,7 +25,7 @@ fn code_of_bytes(reader: u8, bytes: &[u8]) -> u8 {
     }
 }
 
-/// Whether each reader refuses the section of another table, and that of the table gives this number.
+/// Returns whether each reader refuses the section of another table, and that of the table gives this number.
 fn are_refused(bytes: &[u8], code: u8) -> bool {
     for reader in &READERS {
         let wanted = if bytes.first() == Some(reader) {
@@ -57,12 +57,12 @@ fn long_tables_are_refused(rt: HostRuntime) {
     }
 }
 
-/// Whether bytes are answered as the plain reading says.
+/// Returns whether bytes are answered as the plain reading says.
 fn is_plain(reader: u8, bytes: &[u8]) -> bool {
     answer(reader, bytes) == plain::answer(reader, bytes)
 }
 
-/// Whether bytes with one of them changed to each of four values are.
+/// Returns whether bytes with one of them changed to each of four values are.
 fn are_changes_plain(reader: u8, bytes: &mut [u8], at: usize) -> bool {
     for value in [0x00, 0x7f, 0x80, 0xff] {
         if let Some(byte) = bytes.get_mut(at) {
@@ -75,7 +75,7 @@ fn are_changes_plain(reader: u8, bytes: &mut [u8], at: usize) -> bool {
     true
 }
 
-/// Whether the bytes before `at` are, and the first `size` bytes with that one changed.
+/// Returns whether the bytes before `at` are, and the first `size` bytes with that one changed.
 fn is_plain_at(reader: u8, bytes: &[u8], size: usize, at: usize) -> bool {
     let mut changed = packet_of(bytes);
     match changed.get_mut(..size) {

@@ -1,4 +1,4 @@
-//! Tables of EN 300 468, written and read, and what stands in them.
+//! Tables of EN 300 468, written and read, and their content.
 mod loops;
 mod tables;
 mod texts;

@@ -2,44 +2,105 @@
 
 use super::vectors::{PTS_DTS_HEADER, PTS_HEADER};
 use pes_packet::{
-    PesHeader, Stamps, fits_packet, greatest_size, has_flags, is_unit_id, read_header, write_header,
+    Marks, PesFlags, PesHeader, Stamps, fits_packet, greatest_size, has_flags, is_unit_id,
+    read_header, write_header,
 };
 
 /// A base shortly before 2^33.
 const BASE: u64 = 8_589_934_500;
 
-/// stream_id, size, PTS and DTS of units, and their headers: a DTS is written where the stamps differ on the wire.
-static WRITTEN: [(u8, usize, u64, u64, &[u8]); 3] = [
-    (192, 3, 90_000, 90_000, PTS_HEADER),
-    (192, 576, BASE + 3_400, BASE + 1_600, PTS_DTS_HEADER),
+/// stream_id, size, marks, PTS and DTS of units, and their headers: a DTS is written where the stamps differ on the wire.
+/// The fourth is that of a PES packet of teletext (EN 300 472, 4.2), the fifth that of an aligned original of subtitles.
+static WRITTEN: [(u8, usize, Marks, u64, u64, &[u8]); 5] = [
+    (192, 3, Marks::NONE, 90_000, 90_000, PTS_HEADER),
+    (
+        192,
+        576,
+        Marks::NONE,
+        BASE + 3_400,
+        BASE + 1_600,
+        PTS_DTS_HEADER,
+    ),
     (
         224,
         65_528,
+        Marks::NONE,
         1 << 33,
         0,
         b"\x00\x00\x01\xe0\x00\x00\x80\x80\x05\x21\x00\x01\x00\x01",
     ),
+    (189, 139, TELETEXT, 90_000, 90_000, TELETEXT_HEADER),
+    (
+        189,
+        3,
+        ALIGNED,
+        90_000,
+        90_000,
+        b"\x00\x00\x01\xbd\x00\x0b\x85\x80\x05\x21\x00\x05\xbf\x21",
+    ),
 ];
 
-fn is_written(id: u8, size: usize, pts: u64, dts: u64, header: &[u8]) -> bool {
-    fits_packet(id, size) && write_header(id, size, pts, dts).as_slice() == header
+/// The marks of teletext and VBI data: aligned, with a header of 45 bytes.
+const TELETEXT: Marks = Marks {
+    flags: ALIGNED_ALONE,
+    long: true,
+};
+
+/// The flags of teletext and VBI data.
+const ALIGNED_ALONE: PesFlags = PesFlags {
+    priority: false,
+    aligned: true,
+    copyright: false,
+    original: false,
+};
+
+/// An aligned original.
+const ALIGNED: Marks = Marks {
+    flags: PesFlags {
+        priority: false,
+        aligned: true,
+        copyright: false,
+        original: true,
+    },
+    long: false,
+};
+
+/// A PTS of 90,000 and 31 stuffing bytes: with 139 bytes of data the PES packet has 184, and 178 after its length.
+const TELETEXT_HEADER: &[u8] =
+    b"\x00\x00\x01\xbd\x00\xb2\x84\x80\x24\x21\x00\x05\xbf\x21\xff\xff\xff\xff\xff\xff\xff\xff\xff\xff\xff\xff\xff\xff\xff\xff\xff\xff\xff\xff\xff\xff\xff\xff\xff\xff\xff\xff\xff\xff\xff";
+
+fn is_written(id: u8, size: usize, marks: Marks, pts: u64, dts: u64, header: &[u8]) -> bool {
+    fits_packet(id, size) && write_header(id, size, marks, pts, dts).as_slice() == header
 }
 
 #[test]
 fn headers_are_written(rt: HostRuntime) {
-    for (id, size, pts, dts, header) in &WRITTEN {
-        assert!(rt; is_written(*id, *size, *pts, *dts, header));
+    for (id, size, marks, pts, dts, header) in &WRITTEN {
+        assert!(rt; is_written(*id, *size, *marks, *pts, *dts, header));
     }
 }
 
 /// Headers, their fields, and their sizes.
-static READ: [(&[u8], PesHeader, usize); 3] = [
+static READ: [(&[u8], PesHeader, usize); 4] = [
+    (
+        TELETEXT_HEADER,
+        PesHeader {
+            id: 189,
+            len: 178,
+            stamps: Stamps::Pts(90_000),
+            flags: ALIGNED_ALONE,
+            data_length: 36,
+        },
+        45,
+    ),
     (
         PTS_HEADER,
         PesHeader {
             id: 192,
             len: 11,
             stamps: Stamps::Pts(90_000),
+            flags: PesFlags::NONE,
+            data_length: 5,
         },
         14,
     ),
@@ -52,6 +113,8 @@ static READ: [(&[u8], PesHeader, usize); 3] = [
                 pts: 3_308,
                 dts: 1_508,
             },
+            flags: PesFlags::NONE,
+            data_length: 10,
         },
         19,
     ),
@@ -61,6 +124,8 @@ static READ: [(&[u8], PesHeader, usize); 3] = [
             id: 0xbe,
             len: 2,
             stamps: Stamps::Absent,
+            flags: PesFlags::NONE,
+            data_length: 0,
         },
         6,
     ),

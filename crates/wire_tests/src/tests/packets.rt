@@ -34,7 +34,7 @@ const MARKED: Header = Header {
     continuity_counter: 5,
 };
 
-/// What is read of the adaptation field of `ALL_PARTS`.
+/// Returns what is read of the adaptation field of `ALL_PARTS`.
 fn has_parts(parts: &AdaptationField<'_>) -> bool {
     let last = ClockReference {
         base: (1 << 33) - 1,
@@ -101,7 +101,7 @@ fn packets_are_read(rt: HostRuntime) {
     }
 }
 
-/// Whether the reference of slot 1 is written, and one whose base passed 2^33 - 1.
+/// Returns whether the reference of slot 1 is written, and one whose base passed 2^33 - 1.
 fn are_references_written(rate: Rate) -> [bool; 2] {
     let first = write_pcr(257, Pcr::at(rate, 0, 198));
     let late = write_pcr(257, Pcr::at(rate, 8_589_934_500, 198));
@@ -143,7 +143,7 @@ const PARTS: AdaptationField<'static> = AdaptationField {
     stuffing: &[0xff; 2],
 };
 
-/// Whether a packet with these parts is written as its bytes, and read again.
+/// Returns whether a packet with these parts is written as its bytes, and read again.
 fn writes(field: &Adaptation<'_>, payload: &[u8; 173]) -> bool {
     if !fits(HEADER, Some(field), Some(payload)) {
         return false;

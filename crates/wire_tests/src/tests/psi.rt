@@ -8,7 +8,7 @@ use psi_tables::{
 };
 use std::alloc::Global;
 
-/// Whether both writers gave these bytes.
+/// Returns whether both writers gave these bytes.
 pub fn are_written(
     out: &ArrayVec<u8, 4096>,
     own: Result<Vec<u8>, WriteError>,
@@ -30,7 +30,7 @@ const FIRST: Program = Program {
     pid: 0x1000,
 };
 
-/// What is read of a PAT's programs: how many there are, and the first two.
+/// Returns what is read of a PAT's programs: how many there are, and the first two.
 fn programs_of(bytes: &[u8]) -> Option<(LongHeader, usize, [Option<Program>; 3])> {
     let (section, _) = Section::read(bytes).ok()?;
     let pat = Pat::read(&section).ok()?;
@@ -39,7 +39,7 @@ fn programs_of(bytes: &[u8]) -> Option<(LongHeader, usize, [Option<Program>; 3])
     Some((pat.header, pat.programs.len(), programs))
 }
 
-/// Whether two programs are pushed, and both writers give a PAT of the last `count` of them as these bytes.
+/// Returns whether two programs are pushed, and both writers give a PAT of the last `count` of them as these bytes.
 fn is_pat_written(alloc: Global) -> bool {
     let mut programs = ProgramLoop::new();
     let network = programs.push(NETWORK);
@@ -63,7 +63,7 @@ fn pats_are_read_and_written(rt: HostRuntime) {
     assert!(rt; FIRST.to_bytes() == *b"\x00\x01\xf0\x00");
 }
 
-/// What is read of a PMT before its streams.
+/// Returns what is read of a PMT before its streams.
 fn has_head(pmt: &Pmt<'_>) -> bool {
     [
         pmt.header == SINGLE,
@@ -102,7 +102,7 @@ fn is_the_pmt_read() -> bool {
     }
 }
 
-/// Whether both writers of a PMT of one stream give its bytes.
+/// Returns whether both writers of a PMT of one stream give its bytes.
 fn is_pmt_written(alloc: Global) -> bool {
     let mut streams = StreamLoop::new();
     let audio = streams.push(&Stream {

@@ -67,7 +67,7 @@ static READ: [(&[u8], SectionHeader, usize, usize); 4] = [
     (TDT, TDT_HEADER, 3, 8),
 ];
 
-/// Whether a section is read whole with this header and body, and written again as the same bytes.
+/// Returns whether a section is read whole with this header and body, and written again as the same bytes.
 fn is_read(
     alloc: Global,
     bytes: &[u8],

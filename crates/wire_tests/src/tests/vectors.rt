@@ -8,7 +8,7 @@ pub const PTS_DTS_HEADER: &[u8] =
     b"\x00\x00\x01\xc0\x02\x4d\x80\xc0\x0a\x31\x00\x01\x19\xd9\x11\x00\x01\x0b\xc9";
 
 /// A packet with each part of an adaptation field: flags with a discontinuity, a PCR of base 2^33 - 1 and extension
-/// 299, an OPCR of 1 and 2, a splice_countdown of -3, two bytes of private data, one of extension, and two of stuffing.
+/// 299, an OPCR of 1 and 2, a splice_countdown of -3, two bytes of private data, an extension byte, and two of stuffing.
 pub const ALL_PARTS: &[u8] =
     b"\x47\xe1\x23\xf5\x17\x9f\xff\xff\xff\xff\xff\x2b\x00\x00\x00\x00\xfe\x02\xfd\x02\xaa\xbb\x01\xcc\xff\xff\xff\xff";
 
@@ -62,7 +62,7 @@ pub const STATION_SDT: &[u8] = b"\x42\xf0\x20\x00\x07\xc1\x00\x00\x00\x09\xff\x0
 pub const EIT: &[u8] = b"\x4e\xf0\x26\x00\x01\xc3\x00\x01\x00\x01\x00\x01\x01\x4e\
       \x00\x07\xc0\x79\x12\x45\x00\x01\x30\x00\x80\x0b\x4d\x09\x65\x6e\x67\x04\x4e\x65\x77\x73\x00\x14\xde\x09\x07";
 
-/// The EIT of the following event, where there is none.
+/// The EIT of the following event, without an event.
 pub const EMPTY_EIT: &[u8] =
     b"\x4e\xf0\x0f\x00\x01\xc3\x01\x01\x00\x01\x00\x01\x01\x4e\x38\x0d\x81\xf4";
 

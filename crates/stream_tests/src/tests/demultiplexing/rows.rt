@@ -3,10 +3,10 @@
 use demux::{Finding, Kind, What};
 use std::alloc::Allocator;
 
-/// What is found, and its numbers.
+/// The kind of a finding, and its numbers.
 pub type Said = (&'static str, [u64; 3]);
 
-/// A finding: the packet, the PID, what is found, and what began where.
+/// A finding: the packet, the PID, its kind, and what began where.
 pub type Row = (u64, Option<u16>, Said, Option<(u64, Kind)>);
 
 fn said<A: Allocator>(what: &What<'_, A>) -> Said {
@@ -46,7 +46,7 @@ fn is_row<A: Allocator>(finding: &Finding<'_, A>, row: &Row) -> bool {
         && said(&finding.what) == what
 }
 
-/// Whether the findings are these.
+/// Returns whether the findings are these.
 pub fn are_rows<A: Allocator>(findings: &[Finding<'_, A>], rows: &[Row]) -> bool {
     let mut left = rows;
     for finding in findings {

@@ -1,4 +1,4 @@
-//! The worked streams: their packets and what is found in them.
+//! The worked streams: their packets and findings.
 
 use super::rows::Row;
 use crate::tests::packets::{Packet, stream_of};
@@ -199,7 +199,7 @@ pub static STREAMS: [Stream; 6] = [
     ),
 ];
 
-/// The bytes of a stream.
+/// Returns the bytes of a stream.
 pub fn bytes_of(alloc: Global, stream: &Stream) -> Option<Vec<u8>> {
     let (packets, cut, _) = *stream;
     let mut bytes = stream_of(alloc, packets).ok()?;

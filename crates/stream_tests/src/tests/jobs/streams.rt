@@ -1,8 +1,8 @@
-//! What is found in streams that are made by hand: a finding a packet.
+//! Findings of streams that are made by hand: a finding a packet.
 
 use demux::{Finding, Kind, Part, What};
 use given_values::{ClockBase, DeclareBy};
-use pes_packet::{PesHeader, Stamps};
+use pes_packet::{PesFlags, PesHeader, Stamps};
 use psi_tables::check_word;
 use std::alloc::{AllocError, Global};
 use stream_jobs::{JobInput, JobOptions, job_input};
@@ -10,7 +10,7 @@ use stream_jobs::{JobInput, JobOptions, job_input};
 /// Findings, one after another.
 pub type Found = Vec<Finding<'static>>;
 
-/// The options of a job at 2 Mbit/s, declared by groups.
+/// Returns the options of a job at 2 Mbit/s, declared by groups.
 pub fn usual() -> JobOptions<'static> {
     JobOptions {
         rate: Some(2_000_000),
@@ -66,6 +66,8 @@ fn add_unit(
             id,
             len: 0,
             stamps: Stamps::Pts(pts),
+            flags: PesFlags::NONE,
+            data_length: 5,
         },
         unended: false,
         body: Part::Joined(vec![in alloc; 7u8; size]?),
@@ -81,7 +83,7 @@ static MAP: [u8; 17] = [
     2, 0xb0, 18, 0, 1, 0xc1, 0, 0, 0xff, 0xff, 0xf0, 0, 3, 0xe1, 0, 0xf0, 0,
 ];
 
-/// One program with MPEG audio on PID 256, and a unit for each stream_id, PTS and size.
+/// Returns one program with MPEG audio on PID 256, and a unit for each stream_id, PTS and size.
 pub fn audio(alloc: Global, units: &[(u8, u64, usize)]) -> Result<Found, AllocError> {
     let mut found: Found = Vec::new(alloc);
     add_section(alloc, 0, &ASSOCIATION, &mut found)?;
@@ -110,7 +112,7 @@ fn add_two_units(alloc: Global, pid: u16, pts: u64, found: &mut Found) -> Result
     add_unit(alloc, pid, 192, pts.saturating_add(2_160), 100, found)
 }
 
-/// Two programs, whose maps name these PIDs for clock references, with MPEG audio on PIDs 256 and 257, and two units of
+/// Makes two programs, whose maps name these PIDs for clock references, with MPEG audio on PIDs 256 and 257, and two units of
 /// each.
 pub fn two_programs(
     alloc: Global,
@@ -158,7 +160,7 @@ fn copied_what(alloc: Global, what: &What<'_>) -> Result<What<'static>, AllocErr
     })
 }
 
-/// A copy of findings.
+/// Returns a copy of findings.
 pub fn copied(alloc: Global, found: &[Finding<'_>]) -> Result<Found, AllocError> {
     let mut copy: Found = Vec::new(alloc);
     for finding in found {
@@ -172,7 +174,7 @@ pub fn copied(alloc: Global, found: &[Finding<'_>]) -> Result<Found, AllocError>
     Ok(copy)
 }
 
-/// The input of a job of a stream.
+/// Returns the input of a job of a stream.
 pub fn input(alloc: Global, options: &JobOptions<'_>, found: &[Finding<'_>]) -> Option<JobInput> {
     let copy = copied(alloc, found).ok()?;
     job_input(alloc, options, found.len() as u64, copy).ok()

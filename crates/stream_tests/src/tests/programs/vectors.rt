@@ -40,7 +40,7 @@ pub const FIRST_MAP: [u8; 21] = [
     0x00, 0x98, 0x1c, 0xf2, 0x97,
 ];
 
-/// Its last one: a CA descriptor of the program and one of its own; private sections on 0x202, AAC on 0x1F, MPEG audio
+/// Its last map: a CA descriptor of the program and a descriptor of its own; private sections on 0x202, AAC on 0x1F, MPEG audio
 /// on 0x101, H.264 on 0x201 with a stream identifier, a CA descriptor, and a descriptor that is cut short.
 pub const LAST_MAP: [u8; 57] = [
     0x02, 0xb0, 0x36, 0x00, 0x02, 0xc1, 0x00, 0x00, 0xe2, 0x01, 0xf0, 0x09, 0x09, 0x04, 0x0b, 0x00,

@@ -12,7 +12,7 @@ pub fn answer(reader: u8, bytes: &[u8]) -> usize {
     }
 }
 
-/// The byte at a place, 255 where there is none.
+/// Returns the byte at a place, 255 where there is none.
 fn byte(bytes: &[u8], at: usize) -> u8 {
     match bytes.get(at) {
         Some(byte) => *byte,
@@ -20,13 +20,13 @@ fn byte(bytes: &[u8], at: usize) -> u8 {
     }
 }
 
-/// The number of 12 bits at a place: past the end of all these inputs where they have none.
+/// Returns the number of 12 bits at a place: past the end of all these inputs where they have none.
 fn count(bytes: &[u8], at: usize) -> usize {
     let next = at.saturating_add(1);
     (byte(bytes, at) as usize % 16) * 256 + byte(bytes, next) as usize
 }
 
-/// The number of the first cause that holds, else the other one.
+/// Returns the number of the first cause that holds, else the other one.
 fn first(causes: &[(bool, usize)], other: usize) -> usize {
     for (holds, number) in causes {
         if *holds {
@@ -60,7 +60,7 @@ fn header(bytes: &[u8]) -> usize {
     )
 }
 
-/// Whether a marker bit is 0 in the first `stamps` bytes of the time stamps.
+/// Returns whether a marker bit is 0 in the first `stamps` bytes of the time stamps.
 fn lacks_a_marker(bytes: &[u8], stamps: usize) -> bool {
     for at in [0, 2, 4, 5, 7, 9] {
         if at < stamps && byte(bytes, 9 + at) % 2 == 0 {
@@ -86,7 +86,7 @@ fn packet(bytes: &[u8]) -> usize {
     )
 }
 
-/// The place after the flagged parts of an adaptation field, each with its length where it has one.
+/// Returns the place after the flagged parts of an adaptation field, each with its length where it has one.
 fn after_parts(bytes: &[u8]) -> usize {
     let flags = byte(bytes, 5);
     let mut place = 6_usize;
@@ -103,7 +103,7 @@ fn after_parts(bytes: &[u8]) -> usize {
     place
 }
 
-/// The check word, a bit at a time.
+/// Returns the check word, a bit at a time.
 fn check_word(bytes: &[u8]) -> u32 {
     let mut register = 0xffff_ffff_u32;
     for byte in bytes {
@@ -136,7 +136,7 @@ fn section(bytes: &[u8]) -> usize {
     )
 }
 
-/// Whether entries with heads of this size, from a place on, end where the bytes end.
+/// Returns whether entries with heads of this size, from a place on, end where the bytes end.
 fn ends(bytes: &[u8], from: usize, head: usize) -> bool {
     let mut at = from;
     for _ in 0..bytes.len() {
@@ -148,12 +148,12 @@ fn ends(bytes: &[u8], from: usize, head: usize) -> bool {
     at == bytes.len()
 }
 
-/// The place after a length and as many bytes.
+/// Returns the place after a length and as many bytes.
 fn after(bytes: &[u8], at: usize) -> usize {
     count(bytes, at).saturating_add(at).saturating_add(2)
 }
 
-/// Whether a body is that of its table: the lengths in it end where they have to.
+/// Returns whether a body is that of its table: the lengths in it end where they have to.
 fn table(table_id: u8, body: &[u8]) -> usize {
     let network = after(body, 0);
     let is_whole = match table_id {

@@ -6,7 +6,7 @@ use pes_packet::read_header;
 use psi_tables::{LongHeader, Pat, Pmt, Section, SectionHeader};
 use ts_packet::read_packet;
 
-/// The reader of PES headers. Those of tables are named by their table_id.
+/// The reader of PES headers. Readers of tables are named by their table_id.
 pub const HEADER: u8 = 0xfd;
 /// The reader of packets, over bytes and 0xFF after them.
 pub const PACKET: u8 = 0xfe;
@@ -43,7 +43,7 @@ fn section_answer(bytes: &[u8]) -> usize {
     }
 }
 
-/// A table's section over this body.
+/// Returns a table's section over this body.
 pub fn section_over(table_id: u8, body: &[u8]) -> Section<'_> {
     let long = LongHeader::single(1, 0);
     Section {
@@ -56,7 +56,7 @@ pub fn section_over(table_id: u8, body: &[u8]) -> Section<'_> {
     }
 }
 
-/// The number of the refusal of a section by the reader of a table, 0 where it is read.
+/// Returns the number of the refusal of a section by the reader of a table, 0 where it is read.
 pub fn table_code(table_id: u8, section: &Section<'_>) -> u8 {
     let refusal = match table_id {
         0x00 => Pat::read(section).err(),

@@ -1,4 +1,4 @@
-//! Inputs, and what is answered to them.
+//! Inputs, and the answers to them.
 
 use super::readers::{HEADER, PACKET, SECTION};
 use crate::tests::vectors::{
@@ -129,7 +129,7 @@ pub static LONG_TABLES: [(u8, usize, u8); 5] = [
     (0x02, 1011, 4),
 ];
 
-/// Readers, bytes, the offset of those that are changed, and their number.
+/// Readers, bytes, the offset of the changed bytes, and their number.
 pub static DAMAGED: [(u8, &[u8], usize, usize); 21] = [
     (HEADER, PTS_HEADER, 0, 14),
     (HEADER, PTS_DTS_HEADER, 0, 19),

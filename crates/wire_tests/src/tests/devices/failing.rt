@@ -5,7 +5,7 @@ use ts_packet::{Counted, DeviceFault, Failing, Sink, Source, read_part, write_pa
 
 const TEXT: [u8; 6] = [1, 2, 3, 4, 5, 6];
 
-/// What a reader of six bytes gives in parts of four.
+/// Returns what a reader of six bytes gives in parts of four.
 fn parts_read() -> [bool; 6] {
     let mut input = Counted::new(&TEXT[..]);
     let mut part = [0; 4];
@@ -24,7 +24,7 @@ fn reads_to_the_end(rt: HostRuntime) {
     assert!(rt; parts_read() == [true; 6]);
 }
 
-/// A read that fails after `bytes` bytes: its answer, what it read, the count of faults, what is left.
+/// Returns a read that fails after `bytes` bytes: its answer, what it read, the count of faults, what is left.
 fn read_after(bytes: u8) -> [bool; 4] {
     let taken = bytes as usize;
     let mut input = Counted::new(Failing::after_bytes(&TEXT[..], bytes as u64));
@@ -37,7 +37,7 @@ fn read_after(bytes: u8) -> [bool; 4] {
     ]
 }
 
-/// Whether of six reads of a byte those before the failing call, and no other, are answered with a byte.
+/// Returns whether of six reads of a byte those before the failing call, and no other, are answered with a byte.
 fn read_in_calls(calls: u64) -> bool {
     let mut input = Counted::new(Failing::after_calls(&TEXT[..], calls));
     let mut byte = [0; 1];
@@ -68,7 +68,7 @@ fn written_after(bytes: u8) -> [bool; 3] {
     ]
 }
 
-/// Whether of six writes of a byte those before the failing call, and no other, are done.
+/// Returns whether of six writes of a byte those before the failing call, and no other, are done.
 fn written_in_calls(calls: u64) -> bool {
     let mut output = Counted::new(Failing::after_calls(ArrayVec::<u8, 8>::new(), calls));
     for turn in 0..6u64 {

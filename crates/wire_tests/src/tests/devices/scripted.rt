@@ -59,7 +59,8 @@ const READ_PART: u8 = 5;
 
 const WRITE_PART: u8 = 6;
 
-/// The answer of a call with eight bytes as a number: how many are read or written, or 100 and those before the fault.
+/// Returns the answer of a call with eight bytes as a number: how many are read or written, or 100 and those before
+/// the fault.
 fn call(device: &mut Counted<Scripted>, kind: u8) -> usize {
     let mut part = [7; 8];
     match kind {

@@ -11,7 +11,7 @@ use dvb_tables::{
 use psi_tables::{LongHeader, Section};
 use std::alloc::Global;
 
-/// The section of these bytes, which are one.
+/// Returns the section of these bytes, which are one.
 fn section(bytes: &[u8]) -> Option<Section<'_>> {
     match Section::read(bytes) {
         Ok((section, _)) => Some(section),
@@ -28,7 +28,7 @@ const STREAM: TransportStream<'static> = TransportStream {
     descriptors: &[],
 };
 
-/// Whether both writers of the network's NIT give its bytes.
+/// Returns whether both writers of the network's NIT give its bytes.
 fn is_nit_written(alloc: Global) -> bool {
     let mut streams = TransportStreamLoop::new();
     let pushed = streams.push(&STREAM);
@@ -44,7 +44,7 @@ fn is_nit_written(alloc: Global) -> bool {
         && nit.transport_streams.byte_length() == 6
 }
 
-/// Whether the NIT is read as it was written.
+/// Returns whether the NIT is read as it was written.
 fn is_network(bytes: &[u8]) -> Option<bool> {
     let section = section(bytes)?;
     let nit = Nit::read(&section).ok()?;
@@ -77,7 +77,7 @@ const RADIO: Service<'static> = Service {
     descriptors: b"\x48\x06\x02\x00\x03One",
 };
 
-/// Whether both writers of its SDT give its bytes.
+/// Returns whether both writers of its SDT give its bytes.
 fn is_sdt_written(alloc: Global) -> bool {
     let mut services = ServiceLoop::new();
     let pushed = services.push(&RADIO);
@@ -93,7 +93,7 @@ fn is_sdt_written(alloc: Global) -> bool {
         && sdt.services.byte_length() == 13
 }
 
-/// What is read of ffmpeg's service.
+/// Returns what is read of ffmpeg's service.
 fn is_station(service: &Service<'_>) -> bool {
     [
         service.service_id == 3,
@@ -105,7 +105,7 @@ fn is_station(service: &Service<'_>) -> bool {
     ] == [true; 6]
 }
 
-/// Whether it stands alone in its SDT.
+/// Returns whether it stands alone in its SDT.
 fn has_station(bytes: &[u8]) -> Option<bool> {
     let section = section(bytes)?;
     let sdt = Sdt::read(&section).ok()?;
@@ -142,7 +142,7 @@ const FOLLOWING: LongHeader = LongHeader {
 
 const NEWS: &[u8] = b"\x4d\x09eng\x04News\x00";
 
-/// The news, in 23 bytes.
+/// Returns the news, in 23 bytes.
 fn news() -> EventLoop {
     let mut events = EventLoop::new();
     let _ = events.push(&EventEntry {
@@ -156,7 +156,7 @@ fn news() -> EventLoop {
     events
 }
 
-/// Whether both writers of a section of the table over this loop give these bytes.
+/// Returns whether both writers of a section of the table over this loop give these bytes.
 fn is_eit_written(alloc: Global, is_following: bool, events: EventLoop, wanted: &[u8]) -> bool {
     let eit = EitPf {
         header: if is_following { FOLLOWING } else { PRESENT },
@@ -170,7 +170,7 @@ fn is_eit_written(alloc: Global, is_following: bool, events: EventLoop, wanted: 
     eit.write_to(&mut out).is_ok() && are_written(&out, eit.write(alloc), wanted)
 }
 
-/// Whether the news alone is read of it.
+/// Returns whether the news alone is read of it.
 fn has_news(bytes: &[u8]) -> Option<bool> {
     let section = section(bytes)?;
     let eit = EitPf::read(&section).ok()?;
@@ -196,7 +196,7 @@ fn event_information(rt: HostRuntime) {
     assert!(rt; has_news(EIT) == Some(true));
 }
 
-/// Whether both writers give the TDT, and it is read as it was written.
+/// Returns whether both writers give the TDT, and it is read as it was written.
 fn is_tdt_written(alloc: Global) -> bool {
     let tdt = Tdt {
         utc_time: utc_time(750_516_300),

@@ -15,7 +15,7 @@ static CODED: [(&str, &[u8]); 4] = [
     ("A-B", b"\x15A-B"),
 ];
 
-/// Whether these letters are coded so.
+/// Returns whether these letters are coded so.
 fn is_coded(letters: &str, wanted: &[u8]) -> bool {
     match Text::<4>::new(letters) {
         Ok(text) => text.as_bytes() == wanted,
@@ -23,7 +23,7 @@ fn is_coded(letters: &str, wanted: &[u8]) -> bool {
     }
 }
 
-/// The number of the refusal of letters for three bytes.
+/// Returns the number of the refusal of letters for three bytes.
 fn refusal(letters: &str) -> u8 {
     match Text::<3>::new(letters) {
         Ok(_) => 0,
@@ -74,7 +74,7 @@ fn present_and_following_events(rt: HostRuntime) -> Result<(), TextError> {
     Ok(())
 }
 
-/// Whether a language is written so, and a stream's tag.
+/// Returns whether a language is written so, and a stream's tag.
 fn are_tags_pushed() -> bool {
     let mut language = ArrayVec::<u8, 300>::new();
     let mut tag = ArrayVec::<u8, 300>::new();
@@ -84,7 +84,7 @@ fn are_tags_pushed() -> bool {
         == [b"\x0a\x04eng\x00".as_slice(), b"\x52\x01\x05".as_slice()]
 }
 
-/// The descriptor of an event.
+/// Returns the descriptor of an event.
 fn is_event_pushed() -> Result<bool, TextError> {
     let event = news(100, 50)?;
     let _name = event.name.as_bytes();
@@ -94,7 +94,7 @@ fn is_event_pushed() -> Result<bool, TextError> {
     Ok(out.as_slice() == b"\x4d\x09eng\x04News\x00".as_slice())
 }
 
-/// Whether the descriptors of a service and of a network are written so.
+/// Returns whether the descriptors of a service and of a network are written so.
 fn are_names_pushed() -> Result<bool, TextError> {
     let provider = Text::<100>::new("")?;
     let name = Text::<100>::new("One")?;
