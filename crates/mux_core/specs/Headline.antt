@@ -49,7 +49,8 @@ pub record VideoKept (d : Scheduled) (s : DescribedStream) (b : MultiplexingBuff
 pub record StreamKept (d : Scheduled) (k : ℕ) (s : DescribedStream) (units : List AccessUnit) (slots : ℕ) (bytes : List ℕ) : Type 0 where
   -- the payloads on its PID, joined, are a beginning of its PES packets, joined
   pub carried : carries s.pid s.stream_id d.description.base0 units bytes ≡ true
-  -- each is of one unit, and has the start indicator exactly where a unit begins
+  -- each is of one unit, and has the start indicator exactly where a unit begins, with the random_access_indicator exactly if a decoder may begin
+  -- with the unit
   pub pieces : map (λ e. piece_in (payload_at e)) (pid_list s.pid bytes) ≡ take (length (pid_list s.pid bytes)) (all_pieces (owned_stream d k s) units)
   -- packet number j has the continuity_counter j modulo 16
   pub counters : (j : ℕ) (e : Entry) → slice_get (pid_list s.pid bytes) j ≡ Some e → e.packet.header.continuity_counter ≡ j % 16

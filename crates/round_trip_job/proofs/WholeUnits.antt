@@ -48,7 +48,7 @@ by_stamps i id size marks pts dts bytes = elim (cases_Bool (on_wire pts == on_wi
 
 -- and its marks
 by_header : (i id size : ℕ) (marks : Marks) (pts dts : ℕ) (bytes : List ℕ) →
-    pes_role i (written_header id size marks pts dts).id (header_marks (written_header id size marks pts dts)) (written_header id size marks pts dts).stamps bytes
+    pes_role i (written_header id size marks pts dts).id (header_marks false (written_header id size marks pts dts)) (written_header id size marks pts dts).stamps bytes
     ≡ Start (record { packet = i; stream_id = id; unit = record { dts = on_wire dts; pts = on_wire pts; marks = marks; bytes = bytes } })
 by_header i id size marks pts dts bytes =
     ap (λ (m : Marks). pes_role i (written_header id size marks pts dts).id m (written_header id size marks pts dts).stamps bytes) (marks_are_read id size marks pts dts)

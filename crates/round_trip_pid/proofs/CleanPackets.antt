@@ -8,6 +8,7 @@ use Rattle.pes_packet.specs.Reading.{header_at}
 use Rattle.pes_packet.specs.declared.reading.PesHeader.{PesHeader}
 use Rattle.pes_packet.specs.declared.refusal.PesError.{PesError}
 use Rattle.pes_packet.specs.declared.refusal.PesError.TheVariants as pes_errors
+use Rattle.ts_packet.specs.declared.start.Start.TheVariants.{Continues, Begins}
 use Rattle.slot_contents.specs.Contents.{Payload, run_bytes}
 use Rattle.demux.specs.declared.open_unit.UnitKind.{UnitKind}
 use Rattle.demux.specs.declared.open_unit.UnitKind.TheVariants as unit_kinds
@@ -62,14 +63,14 @@ none_fine : (held : Option OpenUnit) → All FineAt (finds [] held)
 unfolding finds
 none_fine held = All-nil FineAt
 
-nothing_fine : (text : List ℕ) (held : Option OpenUnit) → All FineAt (finds (cut true (filled_section text) []) held)
+nothing_fine : (text : List ℕ) (held : Option OpenUnit) → All FineAt (finds (cut Begins (filled_section text) []) held)
 unfolding finds cut
 nothing_fine text held = All-nil FineAt
 
 -- how what is open ends is no fault
 whole_or_cut : (b open_ended : Bool) (h : PesHeader) (body bytes : List ℕ) → is_fault (cond b (IsPes h open_ended body) (IsTruncated bytes)) ≡ false
 whole_or_cut true open_ended h body bytes = refl
-whole_or_cut false open_ended h body bytes = refl
+whole_or_cut Continues open_ended h body bytes = refl
 
 end_fine : (open_ended : Bool) (bytes : List ℕ) (f : UnitKind) (r : Result (PesHeader × ℕ) PesError) → is_fault (end_of open_ended bytes f r) ≡ false
 end_fine open_ended bytes unit_kinds.Pes (Ok h) = whole_or_cut (h.0.len == 0) open_ended h.0 (drop h.1 bytes) bytes
@@ -143,13 +144,13 @@ rest_one i front (Some part) h =
       open_pes part.packet (part.bytes ++ front) (decided unit_kinds.Pes (part.bytes ++ front)),
     )
 
-rest_fine : (text is : List ℕ) (held : Option OpenUnit) → PesOrNone held → All FineAt (finds (cut false text is) held)
+rest_fine : (text is : List ℕ) (held : Option OpenUnit) → PesOrNone held → All FineAt (finds (cut Continues text is) held)
 unfolding finds cut
 rest_fine text [] held h = All-nil FineAt
 rest_fine text (i ∷ is) held h =
     let front : List ℕ = take 184 text in
     let one = rest_one i front held h in
-    All-append FineAt (map (at_packet i) (by_role i (does (later i front)) held)) (finds (cut false (drop 184 text) is) (next_open i (does (later i front)) held))
+    All-append FineAt (map (at_packet i) (by_role i (does (later i front)) held)) (finds (cut Continues (drop 184 text) is) (next_open i (does (later i front)) held))
     (at_fine i (by_role i (does (later i front)) held) one.0) (rest_fine (drop 184 text) is (next_open i (does (later i front)) held) one.1)
 
 -- ---- sections
@@ -177,7 +178,7 @@ taken_for_fill i bytes held e f w =
 -- the packets of either
 odd_fine : (text : List ℕ) (i : ℕ) (is : List ℕ) (held : Option OpenUnit) →
     All Fine (by_role i (does (pointing i (filled_to 183 text))) held) × PesOrNone (next_open i (does (pointing i (filled_to 183 text))) held) →
-    All FineAt (finds (cut true (filled_section text) (i ∷ is)) held)
+    All FineAt (finds (cut Begins (filled_section text) (i ∷ is)) held)
 unfolding finds cut filled_section
 odd_fine text i is held h =
     All-append FineAt (map (at_packet i) (by_role i (does (pointing i (filled_to 183 text))) held)) _
@@ -193,7 +194,7 @@ found_section e text i is = section_fine (nat_le (1 + length text) (184 * length
 
 -- a section that is taken for one
 given_fine : (text : List ℕ) (i : ℕ) (is : List ℕ) (held : Option OpenUnit) → IsRecognized text → 184 * length (i ∷ is) < 1 + length text + 184 → Waits held →
-    All FineAt (finds (cut true (filled_section text) (i ∷ is)) held)
+    All FineAt (finds (cut Begins (filled_section text) (i ∷ is)) held)
 unfolding if_sent begin_or
 given_fine text i is held g few w =
     let e : Ending = record { packet = 0; open_ended = true } in
@@ -201,11 +202,11 @@ given_fine text i is held g few w =
     let fine : All FineAt (map (at_packet i) (ended false held) ++ section_found e text i is ∷ []) =
     All-append FineAt (map (at_packet i) (ended false held)) (section_found e text i is ∷ []) (at_fine i (ended false held) (ended_fine false held))
     (All-cons FineAt (section_found e text i is) [] (found_section e text i is) (All-nil FineAt)) in
-    front_fine (finds (cut true (filled_section text) (i ∷ is)) held) (ends_at e (leaves (cut true (filled_section text) (i ∷ is)) held)) (subst (All FineAt) (sym gives) fine)
+    front_fine (finds (cut Begins (filled_section text) (i ∷ is)) held) (ends_at e (leaves (cut Begins (filled_section text) (i ∷ is)) held)) (subst (All FineAt) (sym gives) fine)
 
 -- any whole section
 one_fine : (text is : List ℕ) (held : Option OpenUnit) → IsWhole text → 184 * length is < 1 + length text + 184 → Waits held →
-    All FineAt (finds (cut true (filled_section text) is) held)
+    All FineAt (finds (cut Begins (filled_section text) is) held)
 one_fine text [] held whole few w = nothing_fine text held
 one_fine text (i ∷ is) held whole few w =
     let size : 3 ≤ length text = (read_fits text (whole.view, length text) whole.read).some in
@@ -225,12 +226,12 @@ one_fine text (i ∷ is) held whole few w =
 abbrev SentWhole : Sending (List ℕ) → Type 0
 SentWhole x = IsWhole x.item × (184 * length x.packets < 1 + length x.item + 184)
 
-all_fine : (xs : List (Sending (List ℕ))) (held : Option OpenUnit) → All SentWhole xs → Waits held → All FineAt (finds (sent_payloads filled_section xs) held)
+all_fine : (xs : List (Sending (List ℕ))) (held : Option OpenUnit) → All SentWhole xs → Waits held → All FineAt (finds (sent_payloads (λ _. Begins) filled_section xs) held)
 unfolding sent_payloads
 all_fine [] held h w = none_fine held
 all_fine (x ∷ xs) held h w =
-    let one : List Payload = cut true (filled_section x.item) x.packets in
-    let more : List Payload = sent_payloads filled_section xs in
+    let one : List Payload = cut Begins (filled_section x.item) x.packets in
+    let more : List Payload = sent_payloads (λ _. Begins) filled_section xs in
     let first = All-head SentWhole x xs h in
     subst (All FineAt) (sym (finds_append one more held))
     (All-append FineAt (finds one held) (finds more (leaves one held)) (one_fine x.item x.packets held first.0 first.1 w)
@@ -245,7 +246,7 @@ found_clean pid (x ∷ xs) h = All-cons IsClean (with_pid_at pid x) (map (with_p
 pub sections_are_clean : SectionsAreClean
 sections_are_clean pid n content texts run not_null c whole =
     let sent : List (Sending (List ℕ)) = sendings section_packets texts (packets_on pid (run_bytes content 0 n)) in
-    let ps : List Payload = sent_payloads filled_section sent in
+    let ps : List Payload = sent_payloads (λ _. Begins) filled_section sent in
     let each : All SentWhole sent = all_sendings IsWhole SentWhole section_packets texts (packets_on pid (run_bytes content 0 n)) (λ t js w le. (w, omega (arith, le))) whole in
     let fine : All FineAt (finds ps None ++ map (at_packet n) (ended true (leaves ps None))) =
     All-append FineAt (finds ps None) (map (at_packet n) (ended true (leaves ps None))) (all_fine sent None each tt) (at_fine n (ended true (leaves ps None)) (ended_fine true (leaves ps None))) in

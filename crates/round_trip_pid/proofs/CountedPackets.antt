@@ -1,6 +1,7 @@
 -- Payload packets with numbers that count on are neither duplicates nor breaks.
 use Rattle.std.proofs.Common.{◌≡◌, ℕ, ◌+◌, ◌%◌, ◌==◌, ◌&&◌, ◌||◌, not, Bool, true, false, cond, Option, Some, None, refl, sym, ap, arith, eq-eqb, ne_eqb}
 use Rattle.ts_packet.specs.PidList.{Entry}
+use Rattle.ts_packet.specs.Beginnings.{is_start}
 use Rattle.slot_contents.specs.Contents.{Payload, payload_entry, view_of}
 use Rattle.demux.specs.Marks.{LastView, Marked, mark, is_repeat, break_at, repeats, break_after, seen}
 use Rattle.demux.specs.Roles.{Role, role_by, role_of, role}
@@ -14,7 +15,7 @@ Follows number (Some last) = (last.counter + 1) % 16 ≡ number % 16
 
 -- what a payload does
 abbrev pub does : Payload → Role
-does p = role_by p.start (Some p.bytes)
+does p = role_by (is_start p.start) (Some p.bytes)
 
 differs : (l n : ℕ) → (l + 1) % 16 ≡ n % 16 → (n % 16 == l) ≡ false
 differs l n h = ne_eqb (n % 16) l (λ e. omega (arith, e, h))

@@ -12,6 +12,7 @@ use Rattle.pes_packet.specs.declared.marks.Marks.{Marks}
 use Rattle.pes_packet.specs.declared.reading.PesHeader.{PesHeader}
 use Rattle.pes_packet.specs.declared.time_stamps.Stamps.TheVariants.{Pts, PtsDts}
 use Rattle.pes_packet.proofs.Written.{written_is_read, header_sizes}
+use Rattle.ts_packet.specs.Beginnings.{room_of, start_by}
 use Rattle.demux.specs.declared.finding.Kind.TheVariants.{Pes}
 use Rattle.demux.specs.declared.open_unit.UnitKind.TheVariants as unit_kinds
 use Rattle.demux.specs.Views.{IsPes, IsTruncated}
@@ -22,10 +23,11 @@ use Rattle.round_trip_pid.specs.Units.{unit_header, unit_header_size}
 
 -- a PES packet whose header, of n bytes, is read as h, and its data
 pub record PesText (text : List ℕ) (h : PesHeader) (n : ℕ) (body : List ℕ) : Type 0 where
-  pub begins : may_begin_pes (take 184 text) ≡ true
+  pub begins : (access : Bool) → may_begin_pes (take (room_of (start_by true access)) text) ≡ true
   pub stamped : is_stamped h.stamps ≡ true
   pub header : (m : ℕ) → n ≤ m → header_at (take m text) ≡ Ok (h, n)
-  pub short : n ≤ 184
+  pub some : 0 < n
+  pub short : n ≤ 182
   pub size : length text ≡ n + length body
   pub parted : (m : ℕ) → n ≤ m → drop n (take m text) ≡ take (m - n) body
   pub bounded : length text ≤ max_unbounded_pes
@@ -33,9 +35,11 @@ pub record PesText (text : List ℕ) (h : PesHeader) (n : ℕ) (body : List ℕ)
 
 -- ---- the PES packet of a unit is one
 
-begins_pes : (id size : ℕ) (marks : Marks) (pts dts : ℕ) (body : List ℕ) → may_begin_pes (take 184 (pes_header_bytes id size marks pts dts ++ body)) ≡ true
+begins_pes : (id size : ℕ) (marks : Marks) (pts dts : ℕ) (body : List ℕ) (access : Bool) →
+    may_begin_pes (take (room_of (start_by true access)) (pes_header_bytes id size marks pts dts ++ body)) ≡ true
 unfolding pes_header_bytes pts_header pts_dts_header header_with pes_start_bytes
-begins_pes id size marks pts dts body = elim (cases_Bool (on_wire pts == on_wire dts)) [ inl y ↦ rw y refl | inr k ↦ rw k refl ]
+begins_pes id size marks pts dts body true = elim (cases_Bool (on_wire pts == on_wire dts)) [ inl y ↦ rw y refl | inr k ↦ rw k refl ]
+begins_pes id size marks pts dts body false = elim (cases_Bool (on_wire pts == on_wire dts)) [ inl y ↦ rw y refl | inr k ↦ rw k refl ]
 
 has_stamps : (id size : ℕ) (marks : Marks) (pts dts : ℕ) → is_stamped (written_header id size marks pts dts).stamps ≡ true
 unfolding written_header
@@ -91,6 +95,14 @@ short_by false false = omega arith
 size_short : (marks : Marks) (pts dts : ℕ) → header_size marks pts dts ≤ 45
 size_short marks pts dts = short_by marks.long (on_wire pts == on_wire dts)
 
+some_by : (long same : Bool) → 0 < cond long 45 (cond same 14 19)
+some_by true same = omega arith
+some_by false true = omega arith
+some_by false false = omega arith
+
+size_some : (marks : Marks) (pts dts : ℕ) → 0 < header_size marks pts dts
+size_some marks pts dts = some_by marks.long (on_wire pts == on_wire dts)
+
 -- a beginning with at least the header, and what of the data is in it
 front_of : (m n : ℕ) (head body : List ℕ) → length head ≡ n → n ≤ m → take m (head ++ body) ≡ head ++ take (m - n) body
 front_of m n head body e h =
@@ -112,10 +124,11 @@ unit_is_pes id base0 u fits =
     let n : ℕ = header_size u.marks pts dts in
     let has : length head ≡ n = header_sizes id size u.marks pts dts in
     let whole : length (head ++ u.bytes) ≡ n + size = omega (arith, length-append head u.bytes, has) in record {
-      begins = begins_pes id size u.marks pts dts u.bytes;
+      begins = λ access. begins_pes id size u.marks pts dts u.bytes access;
       stamped = has_stamps id size u.marks pts dts;
       header = λ m h. ap header_at (front_of m n head u.bytes has h) ∙ written_is_read id size u.marks pts dts (take (m - n) u.bytes) fits
           ∙ ap (λ (k : ℕ). Ok (written_header id size u.marks pts dts, k)) has;
+      some = size_some u.marks pts dts;
       short = omega (arith, size_short u.marks pts dts);
       size = whole;
       parted = λ m h. ap (drop n) (front_of m n head u.bytes has h)

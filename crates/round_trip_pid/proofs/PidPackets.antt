@@ -5,13 +5,18 @@ use Rattle.std.proofs.lemmas.List.Elements.{All-nil, All-cons, All-head, All-tai
 use Rattle.std.proofs.lemmas.List.Concat.{flat_map-cons}
 use Rattle.std.specs.List.{flat_map}
 use Rattle.std.specs.Simd.{first_chunks}
+use Rattle.ts_packet.specs.declared.start.Start.{Start}
+use Rattle.ts_packet.specs.declared.start.Start.TheVariants.{Continues, Begins, Access}
+use Rattle.ts_packet.specs.Beginnings.{room_of}
+use Rattle.ts_packet.proofs.PlainWritten.{start_again}
 use Rattle.ts_packet.specs.PidList.{Entry, is_of_pid, pid_list}
 use Rattle.slot_contents.specs.Contents.{Content, PayloadContent, PcrContent, NullContent, packet_of, view_of, run_bytes, entry_at, entries_in, Payload, payloads_in, payload_entry, payload_entries, payload_at, Piece}
 use Rattle.slot_contents.specs.RunLaws.{Fits}
 use Rattle.slot_contents.proofs.Runs.{run_pid_list}
-use Rattle.slot_contents.proofs.Counts.{run_payload_entries}
+use Rattle.slot_contents.proofs.Counts.{payload_again, run_payload_entries}
 use Rattle.unit_queue.specs.Payloads.{marked, piece_in}
 use Rattle.round_trip_pid.specs.Sent.{first_pieces}
+use Rattle.round_trip_pid.proofs.SendingPackets.{chunks_more, chunks_none}
 use Rattle.round_trip_pid.specs.Laws.{CarriesPieces, NumberedPayloads}
 use Rattle.table_rounds.proofs.CarriedBytes.{counters as counters_follow}
 
@@ -38,7 +43,9 @@ entry_is : (pid s k : ℕ) (c : Content) → (pid == 8191) ≡ false → is_of_p
     HasBytes (piece_of (entry_at s c)) → entry_at s c ≡ payload_entry pid k (payload_at (entry_at s c))
 unfolding view_of packet_of
 entry_is pid s k (PayloadContent other number start payload) not_null is counter some =
-    let same : other ≡ pid = eqb-true other pid (and_left (other == pid) is) in rw (same, counter) refl
+    let same : other ≡ pid = eqb-true other pid (and_left (other == pid) is) in
+    let begins = start_again pid start (number % 16) payload in
+    rw (same, begins, counter) refl
 entry_is pid s k (PcrContent other pcr) not_null is counter some = absurd (omega (arith, some))
 entry_is pid s k NullContent not_null is counter some = absurd (null_no pid not_null (and_left (8191 == pid) is))
 
@@ -79,27 +86,49 @@ carries_payloads pid n content pieces fits not_null some c =
     (λ a b. listed pid content 0 n 0 not_null a b) counts each
 
 -- the payloads of a text that needs them all have bytes
-pieces_some : (k : ℕ) (start : Bool) (text : List ℕ) → 184 * k < length text + 184 → All HasBytes (marked start (first_chunks 184 k text))
+later_some : (k : ℕ) (text : List ℕ) → 184 * k < length text + 184 → All HasBytes (marked Continues (first_chunks 184 k text))
 unfolding marked
-pieces_some zero start text h = All-nil HasBytes
-pieces_some (suc k) start text h =
-    All-cons HasBytes (record { start = start; bytes = take 184 text }) (marked false (first_chunks 184 k (drop 184 text)))
-    (omega (arith, length-take 184 text, mul-suc 184 k)) (pieces_some k false (drop 184 text) (omega (arith, mul-suc 184 k, length-drop 184 text)))
+later_some zero text h = All-nil HasBytes
+later_some (suc k) text h =
+    All-cons HasBytes (record { start = Continues; bytes = take 184 text }) (marked Continues (first_chunks 184 k (drop 184 text)))
+    (omega (arith, h, length-take 184 text, mul-suc 184 k)) (later_some k (drop 184 text) (omega (arith, h, mul-suc 184 k, length-drop 184 text)))
 
-pub all_some : {X : Type 0} (text : X → List ℕ) (count : X → ℕ) (P : X → Type 0) (xs : List X) → ((x : X) → P x → 184 * count x < length (text x) + 184) → All P xs →
-    All HasBytes (flat_map (λ x. first_pieces (count x) (text x)) xs)
-all_some text count P [] fits h = All-nil HasBytes
-all_some {X} text count P (x ∷ xs) fits h =
-    let f : X → List Piece = λ y. first_pieces (count y) (text y) in
+-- a text has bytes, and needs all payloads
+abbrev pub NeedsAll : Start → ℕ → List ℕ → Type 0
+NeedsAll start k text = (0 < length text) × (184 * k + room_of start < length text + 368)
+
+room_some : (start : Start) → 0 < room_of start
+room_some Continues = omega arith
+room_some Begins = omega arith
+room_some Access = omega arith
+
+pieces_some : (k : ℕ) (start : Start) (text : List ℕ) → NeedsAll start k text → All HasBytes (first_pieces start k text)
+unfolding marked
+pieces_some zero start text h = rw (chunks_none start text) (All-nil HasBytes)
+pieces_some (suc k) start text h =
+    rw (chunks_more start k text)
+    (All-cons HasBytes (record { start = start; bytes = take (room_of start) text }) (marked Continues (first_chunks 184 k (drop (room_of start) text)))
+    (omega (arith, h.0, room_some start, length-take (room_of start) text))
+    (later_some k (drop (room_of start) text) (omega (arith, h.0, h.1, mul-suc 184 k, length-drop (room_of start) text))))
+
+pub all_some : {X : Type 0} (start : X → Start) (text : X → List ℕ) (count : X → ℕ) (P : X → Type 0) (xs : List X) →
+    ((x : X) → P x → NeedsAll (start x) (count x) (text x)) → All P xs → All HasBytes (flat_map (λ x. first_pieces (start x) (count x) (text x)) xs)
+all_some start text count P [] fits h = All-nil HasBytes
+all_some {X} start text count P (x ∷ xs) fits h =
+    let f : X → List Piece = λ y. first_pieces (start y) (count y) (text y) in
     subst (All HasBytes) (sym (flat_map-cons f x xs))
-    (All-append HasBytes (f x) (flat_map f xs) (pieces_some (count x) true (text x) (fits x (All-head P x xs h))) (all_some text count P xs fits (All-tail P x xs h)))
+    (All-append HasBytes (f x) (flat_map f xs) (pieces_some (count x) (start x) (text x) (fits x (All-head P x xs h)))
+    (all_some start text count P xs fits (All-tail P x xs h)))
 
 -- ---- payloads that are numbered slot by slot
 
 carried_pieces : (pid k : ℕ) (ps : List Payload) → (map piece_of (payload_entries pid k ps) ≡ map piece_in ps) × (length (payload_entries pid k ps) ≡ length ps)
 unfolding payload_entries view_of
 carried_pieces pid k [] = (refl, refl)
-carried_pieces pid k (p ∷ ps) = let rest = carried_pieces pid (k + 1) ps in (ap (λ (xs : List Piece). piece_in p ∷ xs) rest.0, ap suc rest.1)
+carried_pieces pid k (p ∷ ps) = let rest = carried_pieces pid (k + 1) ps in (
+  ap₂ (λ (x : Piece) (xs : List Piece). x ∷ xs) (ap piece_in (payload_again p.index p.start pid (k % 16) p.bytes)) rest.0,
+  ap suc rest.1,
+)
 
 pub numbered_payloads : NumberedPayloads
 numbered_payloads pid n content pieces fits not_null numbered are =

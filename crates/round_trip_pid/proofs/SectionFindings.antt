@@ -3,6 +3,7 @@ use Rattle.std.proofs.Common.{◌≡◌, ℕ, suc, ◌+◌, ◌-◌, ◌*◌, �
 use Rattle.std.specs.Prelude.{option_map}
 use Rattle.std.proofs.lemmas.List.{map-append}
 use Rattle.std.proofs.lemmas.Bool.{lt-leb, cases_lt}
+use Rattle.ts_packet.specs.declared.start.Start.TheVariants.{Continues, Begins}
 use Rattle.slot_contents.specs.Contents.{Payload}
 use Rattle.demux.specs.declared.finding.Kind.{Kind}
 use Rattle.demux.specs.declared.finding.Kind.TheVariants.{Table}
@@ -24,7 +25,7 @@ use Rattle.round_trip_pid.proofs.SectionPrefixes.{filled_to, given_size, open_be
 
 -- the first payload of a section: pointer_field 0, and bytes
 abbrev pub pointing : ℕ → List ℕ → Payload
-pointing i bytes = record { index = i; start = true; bytes = 0 ∷ bytes }
+pointing i bytes = record { index = i; start = Begins; bytes = 0 ∷ bytes }
 
 -- what is open before it gets no byte
 no_last_by : (f : UnitKind) (packet : ℕ) (bytes : List ℕ) → decided f bytes ≡ None →
@@ -99,13 +100,13 @@ after_first n text = take-add 183 n (text ++ replicate 184 0xFF)
 -- what the packets i and `is` of a section are to find
 abbrev SectionGives : Ending → List ℕ → ℕ → List ℕ → Option OpenUnit → Type 0
 SectionGives e text i is held =
-    finds (cut true (filled_section text) (i ∷ is)) held ++ ends_at e (leaves (cut true (filled_section text) (i ∷ is)) held)
+    finds (cut Begins (filled_section text) (i ∷ is)) held ++ ends_at e (leaves (cut Begins (filled_section text) (i ∷ is)) held)
     ≡ map (at_packet i) (ended false held) ++ section_found e text i is ∷ []
 
 -- the packets of one that is cut short
 cut_packets : (text : List ℕ) (i : ℕ) (is : List ℕ) → IsRecognized text → (held : Option OpenUnit) → Waits held → 183 + 184 * length is < length text →
-    (finds (cut true (filled_section text) (i ∷ is)) held ≡ map (at_packet i) (ended false held))
-    × (leaves (cut true (filled_section text) (i ∷ is)) held ≡ Some (section i (filled_to (183 + 184 * length is) text)))
+    (finds (cut Begins (filled_section text) (i ∷ is)) held ≡ map (at_packet i) (ended false held))
+    × (leaves (cut Begins (filled_section text) (i ∷ is)) held ≡ Some (section i (filled_to (183 + 184 * length is) text)))
 unfolding finds leaves cut filled_section
 cut_packets text i is g held w less =
     let body : List ℕ = text ++ replicate 184 0xFF in
@@ -116,7 +117,7 @@ cut_packets text i is g held w less =
     subst (λ (t : List ℕ). decided unit_kinds.Section t ≡ None) (after_first n text) (open_before text (183 + n) g less) in
     let rest = rest_quiet (drop 183 body) is (section i (filled_to 183 text)) stays in (
       rw (found, left, rest.0) (append-nil (map (at_packet i) (ended false held))),
-      ap (leaves (cut false (drop 183 body) is)) left ∙ rest.1 ∙ ap (λ (t : List ℕ). Some (section i t)) (sym (after_first n text)),
+      ap (leaves (cut Continues (drop 183 body) is)) left ∙ rest.1 ∙ ap (λ (t : List ℕ). Some (section i t)) (sym (after_first n text)),
     )
 
 -- how it ends
@@ -155,9 +156,9 @@ section_within text i g e held w le =
 -- whole in a later one
 later_packets : (text : List ℕ) (i j : ℕ) (is : List ℕ) → IsRecognized text → (held : Option OpenUnit) → Waits held → 184 * suc (length is) < 1 + length text →
     1 + length text ≤ 184 * suc (suc (length is)) →
-    (finds (cut true (filled_section text) (i ∷ j ∷ is)) held
+    (finds (cut Begins (filled_section text) (i ∷ j ∷ is)) held
     ≡ map (at_packet i) (ended false held) ++ record { packet = last_of j is; found = begun_table i text (IsSection text) false } ∷ [])
-    × (leaves (cut true (filled_section text) (i ∷ j ∷ is)) held ≡ None)
+    × (leaves (cut Begins (filled_section text) (i ∷ j ∷ is)) held ≡ None)
 unfolding finds leaves cut filled_section
 later_packets text i j is g held w few whole =
     let body : List ℕ = text ++ replicate 184 0xFF in
@@ -175,7 +176,7 @@ later_packets text i j is g held w few whole =
     subst (λ (t : List ℕ). begun_kind unit_kinds.Section t ≡ Table (slice_index text 0)) (after_first n text) (kind_at text (183 + n) (omega (arith, given_size text g)) (omega arith)) in (
       rw (found, left, rest.0)
           (ap (λ (k : Kind). map (at_packet i) (ended false held) ++ record { packet = last_of j is; found = record { begun = Some (i, k); what = IsSection text; within = false } } ∷ []) kind),
-      ap (leaves (cut false (drop 183 body) (j ∷ is))) left ∙ rest.1,
+      ap (leaves (cut Continues (drop 183 body) (j ∷ is))) left ∙ rest.1,
     )
 
 section_whole : (text : List ℕ) (i j : ℕ) (is : List ℕ) → IsRecognized text → (e : Ending) (held : Option OpenUnit) → Waits held →
@@ -197,7 +198,7 @@ by_packets text i (j ∷ is) g e held w few whole =
     section_whole text i j is g e held w (omega (arith, few, mul-suc 184 (suc (length is)))) whole
 
 -- a section in some packets: its one finding
-pub section_gives : (text is : List ℕ) → IsRecognized text → 184 * length is < 1 + length text + 184 → Gives filled_section section_found (record { item = text; packets = is })
+pub section_gives : (text is : List ℕ) → IsRecognized text → 184 * length is < 1 + length text + 184 → Gives (λ _. Begins) filled_section section_found (record { item = text; packets = is })
 unfolding begin_or if_sent cut finds leaves
 section_gives text [] g few e held w = sym (append-nil (ends_at e held))
 section_gives text (i ∷ is) g few e held w = elim (cases_lt (184 * suc (length is)) (1 + length text)) [

@@ -13,6 +13,7 @@ use Rattle.std.proofs.lemmas.Grind.{flat_map-append}
 use Rattle.own_slots.specs.Slots.{own_before, own_slots}
 use Rattle.own_slots.specs.Rounds.{starts}
 use Rattle.own_slots.proofs.Counts.{own_before_own, own_before_other}
+use Rattle.ts_packet.specs.Beginnings.{start_by}
 use Rattle.slot_contents.specs.Contents.{Payload, Piece, put}
 use Rattle.table_rounds.specs.Parts.{places_of, filled, part_of}
 use Rattle.table_rounds.specs.Tables.{Table, SectionPlace, round_places, place_in, round_before, moment_of, part_at}
@@ -61,7 +62,7 @@ places_shift text j l ls n i (suc d) e =
 
 -- the places of one section carry its payloads, from payload q on
 section_places : (text : ℕ → List ℕ) (j l : ℕ) (ls : List ℕ) (q d : ℕ) → q + d ≡ places_of l → section_packets (text j) ≤ places_of l →
-    places_pieces text j (l ∷ ls) q d ≡ marked (q == 0) (first_chunks 184 (section_packets (text j) - q) (drop (184 * q) (filled (text j))))
+    places_pieces text j (l ∷ ls) q d ≡ marked (start_by (q == 0) false) (first_chunks 184 (section_packets (text j) - q) (drop (184 * q) (filled (text j))))
 unfolding places_pieces marked part_of
 section_places text j l ls q zero e room =
     let none : section_packets (text j) - q ≡ 0 = omega (arith, e, room) in rw none refl
@@ -81,7 +82,7 @@ section_places text j l ls q (suc d) e room =
           rw (here, le-ltb (184 * q) (1 + length (text j)) none, rest, left, after) refl
     ]
 
-from_start : (text : List ℕ) → marked (0 == 0) (first_chunks 184 (section_packets text - 0) (drop (184 * 0) (filled text))) ≡ section_pieces text
+from_start : (text : List ℕ) → marked (start_by (0 == 0) false) (first_chunks 184 (section_packets text - 0) (drop (184 * 0) (filled text))) ≡ section_pieces text
 unfolding filled_section
 from_start text =
     let a : section_packets text - 0 ≡ section_packets text = omega arith in

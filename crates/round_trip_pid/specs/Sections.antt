@@ -4,6 +4,7 @@ use Rattle.pes_packet.specs.Payloads.{piece_count}
 use Rattle.psi_tables.specs.Views.{SectionView}
 use Rattle.psi_tables.specs.Reading.{section_at}
 use Rattle.psi_tables.specs.Encoding.{IsWritable, section_bytes}
+use Rattle.ts_packet.specs.declared.start.Start.TheVariants.{Begins}
 use Rattle.slot_contents.specs.Contents.{Piece}
 use Rattle.demux.specs.declared.finding.Kind.TheVariants.{Table}
 use Rattle.demux.specs.Views.{WhatView, IsSection, IsTruncated, Found, PidFinding}
@@ -20,7 +21,7 @@ abbrev pub section_packets : List ℕ → ℕ
 section_packets section = piece_count (1 + length section)
 
 abbrev pub section_pieces : List ℕ → List Piece
-section_pieces section = first_pieces (section_packets section) (filled_section section)
+section_pieces section = first_pieces Begins (section_packets section) (filled_section section)
 
 -- a section that begins in packet i
 abbrev pub begun_table : ℕ → List ℕ → WhatView → Bool → Found

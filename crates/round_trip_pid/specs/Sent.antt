@@ -1,19 +1,33 @@
--- What is sent on one PID: PES packets, or sections with their pointer_field, one after another, each cut into payloads of 184 bytes, and the
--- packets that carry them.
-use Rattle.std.specs.Prelude.{ℕ, Bool, true, false, List, [], ◌∷◌, ◌++◌, take, drop}
+-- What is sent on one PID: PES packets, or sections with their pointer_field, one after another, each cut into payloads of 184 bytes, of 182 the
+-- first if a decoder may begin with it, and the packets that carry them.
+use Rattle.std.specs.Prelude.{ℕ, zero, suc, Bool, true, false, List, [], ◌∷◌, ◌++◌, take, drop}
 use Rattle.std.specs.Simd.{first_chunks}
+use Rattle.ts_packet.specs.declared.start.Start.{Start}
+use Rattle.ts_packet.specs.declared.start.Start.TheVariants.{Continues, Begins, Access}
+use Rattle.ts_packet.specs.Beginnings.{room_of}
 use Rattle.slot_contents.specs.Contents.{Payload, Piece}
 use Rattle.unit_queue.specs.Payloads.{marked}
 use Rattle.demux.specs.Views.{PidFinding}
 
--- the first payloads of a PES packet or section: 184 bytes each, the last one the rest; it begins in the first
-abbrev pub first_pieces : ℕ → List ℕ → List Piece
-first_pieces count bytes = marked true (first_chunks 184 count bytes)
+-- the bytes of the first payloads of a PES packet or section: 184 each, or 182 the first, the last one the rest
+unfoldable pub access_chunks : ℕ → List ℕ → List (List ℕ)
+access_chunks zero bytes = []
+access_chunks (suc count) bytes = take 182 bytes ∷ first_chunks 184 count (drop 182 bytes)
 
--- a PES packet or section in these packets, until there are no more packets: 184 bytes each, the last one the rest; it begins in the first
-unfoldable pub cut : Bool → List ℕ → List ℕ → List Payload
+abbrev pub start_chunks : Start → ℕ → List ℕ → List (List ℕ)
+start_chunks Continues count bytes = first_chunks 184 count bytes
+start_chunks Begins count bytes = first_chunks 184 count bytes
+start_chunks Access count bytes = access_chunks count bytes
+
+-- the first payloads; it begins in the first
+abbrev pub first_pieces : Start → ℕ → List ℕ → List Piece
+first_pieces start count bytes = marked start (start_chunks start count bytes)
+
+-- a PES packet or section in these packets, until there are no more packets: 184 bytes each, or 182 the first, the last one the rest; it begins in
+-- the first
+unfoldable pub cut : Start → List ℕ → List ℕ → List Payload
 cut start bytes [] = []
-cut start bytes (i ∷ is) = record { index = i; start = start; bytes = take 184 bytes } ∷ cut false (drop 184 bytes) is
+cut start bytes (i ∷ is) = record { index = i; start = start; bytes = take (room_of start) bytes } ∷ cut Continues (drop (room_of start) bytes) is
 
 -- something that is sent, and the indices of the packets that carry it, as far as it is sent
 pub record Sending (X : Type 0) : Type 0 where

@@ -3,7 +3,7 @@ use Rattle.std.proofs.Common.{◌≡◌, ℕ, zero, suc, ◌+◌, ◌-◌, ◌*�
 use Rattle.std.proofs.Math.Nat.{mul-le-mul_right}
 use Rattle.std.proofs.lemmas.Bool.{cases_Bool}
 use Rattle.std.proofs.lemmas.List.{length-drop, length-take, drop_all}
-use Rattle.std.proofs.lemmas.List.Elements.{All-head, All-take}
+use Rattle.std.proofs.lemmas.List.Elements.{All-nil, All-cons, All-head, All-take}
 use Rattle.clock27.specs.Release.{release}
 use Rattle.own_slots.specs.Slots.{own_slots}
 use Rattle.pes_packet.specs.AccessUnits.{AccessUnit}
@@ -21,8 +21,9 @@ use Rattle.slot_plan.specs.Schedule.{owned}
 use Rattle.plan_timing.specs.Promised.{declaration, Promised}
 use Rattle.tstd.specs.Carried.{timed_pes_packets}
 use Rattle.unit_timing.specs.Plans.{KeepsDeclaration}
-use Rattle.unit_queue.specs.OwnedStreams.{OwnedStream, timed, packet_count, first_slot, end_slot}
-use Rattle.unit_queue.proofs.Leftover.{count_some, first_free, first_released}
+use Rattle.unit_queue.specs.OwnedStreams.{OwnedStream, has_access, timed, packet_count, first_slot, end_slot}
+use Rattle.unit_queue.proofs.PieceBytes.{field_most}
+use Rattle.unit_queue.proofs.Leftover.{text_some, count_some, first_free, first_released}
 use Rattle.monitor.specs.Gaps.{late}
 use Rattle.monitor.specs.Begins.{found_on, pts_begins}
 use Rattle.monitor.specs.Faults.{pts_late}
@@ -39,7 +40,7 @@ use Rattle.round_trip_run.proofs.NothingElse.{sent_or_silent}
 use Rattle.round_trip_run.proofs.RunFindings.{is_run, silent_back, given_back}
 use Rattle.round_trip_run.proofs.Soundness.{as_told}
 use Rattle.round_trip_run.proofs.UnitHeads.{head_in, heads, told_stamps, stamps_told, unit_heads, no_heads}
-use Rattle.round_trip_run.proofs.UnitsTimely.{from_release, reached, Timely, timely}
+use Rattle.round_trip_run.proofs.UnitsTimely.{IsCarried, from_release, reached, Timely, timely}
 
 -- ---- units one after another
 
@@ -139,6 +140,11 @@ by_told : (rate pid : ℕ) (bytes places : List ℕ) → (pid == 8191) ≡ false
 by_told rate pid bytes places told few are none =
     ap (late rate 700) (sym (stamps_told pid (found_on pid bytes)) ∙ ap told_stamps (sym (as_told pid bytes told few)) ∙ are) ∙ none
 
+all_carried : (l : OwnedStream) (us : List AccessUnit) → All IsCarried (map (timed l) us)
+all_carried l [] = All-nil IsCarried
+all_carried l (u ∷ us) =
+    All-cons IsCarried (timed l u) (map (timed l) us) (omega (arith, text_some l u), omega (arith, field_most (has_access u))) (all_carried l us)
+
 stream_in_time : (d : Scheduled) (units : ℕ → List AccessUnit) (n k : ℕ) (s : DescribedStream) → IsInRange d.description → Promised d.description d.schedule →
     UnitsKept d units → ComeOften s.lead (units k) → slice_get d.description.streams k ≡ Some s →
     late d.description.rate 700 (heads (sent_units (owned_stream d k s) n (units k))) ≡ []
@@ -149,7 +155,7 @@ stream_in_time d units n k s r promised kept often is =
     let served = promised.streams k s texts is keeps in
     let range = stream_range d.description k s r is in
     heads_often (owned_stream d k s) n (units k) often
-    (timely (owned d.schedule (StreamItem k)) d.description.rate s.lead s.rx n (omega (arith, range.least_rx)) texts 0 0 (served.arrived n))
+    (timely (owned d.schedule (StreamItem k)) d.description.rate s.lead s.rx n (omega (arith, range.least_rx)) texts 0 0 (all_carried (owned_stream d k s) (units k)) (served.arrived n))
 
 sent_in_time : (d : Scheduled) (units : ℕ → List AccessUnit) (n pid : ℕ) → IsInRange d.description → Promised d.description d.schedule → UnitsKept d units →
     HasPtsSpacing d units → n < 2 ^ 64 - 1 → (pid == 8191) ≡ false → length (run_bytes (content_at d units) 0 n) / 188 < 2 ^ 64 - 1 → IsSentOn d.description pid →

@@ -11,7 +11,8 @@ use Rattle.plan_timing.specs.Promised.{Promised}
 use Rattle.own_slots.specs.Slots.{own_before}
 use Rattle.own_slots.specs.Rounds.{starts}
 use Rattle.pes_packet.specs.AccessUnits.{AccessUnit}
-use Rattle.pes_packet.proofs.Payloads.{payloads_join}
+use Rattle.pes_packet.proofs.UnitPieces.{unit_pieces_join}
+use Rattle.ts_packet.specs.Beginnings.{start_by}
 use Rattle.ts_packet.specs.PidList.{Entry, is_of_pid, pid_list}
 use Rattle.slot_contents.specs.Contents.{Content, Piece, packet_of, view_of, run_bytes, entry_at, entries_in, payload_at}
 use Rattle.slot_contents.specs.RunLaws.{Fits}
@@ -28,7 +29,7 @@ use Rattle.slot_plan.specs.Schedule.{slot_of, owned}
 use Rattle.slot_plan.specs.SlotPids.{slot_pid}
 use Rattle.slot_plan.specs.TableRounds.{section_starts, first_packet}
 use Rattle.slot_plan.proofs.SlotPids.{slots_apart, slots_below}
-use Rattle.unit_queue.specs.OwnedStreams.{OwnedStream, pes_bytes, packet_count}
+use Rattle.unit_queue.specs.OwnedStreams.{OwnedStream, pes_bytes, has_access, packet_count}
 use Rattle.unit_queue.specs.Payloads.{pes_pieces, piece_in, all_pieces, all_senders}
 use Rattle.mux_core.specs.Scheduled.{Scheduled}
 use Rattle.mux_core.specs.Histories.{owned_stream, content_at}
@@ -106,15 +107,15 @@ side_by_side l u us (x ∷ front) zero j p size is rest = absurd (omega (arith, 
 side_by_side l u us (x ∷ front) (suc count) zero p size is rest = (u, refl, λ late. All-head (λ x. 180000 ≤ x.dts) u us late)
 side_by_side l u us (x ∷ front) (suc count) (suc j) p size is rest = side_by_side l u us front count j p (omega (arith, size)) is rest
 
-piece_counts : (l : OwnedStream) (u : AccessUnit) → length (pes_pieces (pes_bytes l u)) ≡ packet_count l u
-piece_counts l u = marked_length true _ ∙ (payloads_join (pes_bytes l u)).count
+piece_counts : (l : OwnedStream) (u : AccessUnit) → length (pes_pieces (has_access u) (pes_bytes l u)) ≡ packet_count l u
+piece_counts l u = marked_length (start_by true (has_access u)) _ ∙ (unit_pieces_join (has_access u) (pes_bytes l u)).count
 
 sender : (l : OwnedStream) (us : List AccessUnit) (j : ℕ) (p : Piece) → slice_get (all_pieces l us) j ≡ Some p → Sender l us j
 sender l [] j p is = absurd (let no : ⊥ = cc in no)
 sender l (u ∷ us) j p is =
-    let pieces = flat_map-cons (λ (x : AccessUnit). pes_pieces (pes_bytes l x)) u us in
+    let pieces = flat_map-cons (λ (x : AccessUnit). pes_pieces (has_access x) (pes_bytes l x)) u us in
     let senders = flat_map-cons (λ (x : AccessUnit). replicate (packet_count l x) x) u us in
-    let found = side_by_side l u us (pes_pieces (pes_bytes l u)) (packet_count l u) j p (piece_counts l u) (subst (λ (xs : List Piece). slice_get xs j ≡ Some p) pieces is)
+    let found = side_by_side l u us (pes_pieces (has_access u) (pes_bytes l u)) (packet_count l u) j p (piece_counts l u) (subst (λ (xs : List Piece). slice_get xs j ≡ Some p) pieces is)
     (λ i there. sender l us i p there) in
     record { unit = found.0; is = ap (λ (xs : List AccessUnit). slice_get xs j) senders ∙ found.1; late = found.2 }
 

@@ -40,10 +40,10 @@ take_none (suc n) = refl
 abbrev slots_in : List Packet → List ℕ
 slots_in ps = map (λ p. p.slot) ps
 
-slots_of_cut : (size : ℕ) (slots : List ℕ) → slots_in (cut size slots) ≡ slots
+slots_of_cut : (front size : ℕ) (slots : List ℕ) → slots_in (cut front size slots) ≡ slots
 unfolding cut
-slots_of_cut size [] = refl
-slots_of_cut size (s ∷ slots) = ap (λ (xs : List ℕ). s ∷ xs) (slots_of_cut (size - 184) slots)
+slots_of_cut front size [] = refl
+slots_of_cut front size (s ∷ slots) = ap (λ (xs : List ℕ). s ∷ xs) (slots_of_cut (front - 184) (size - (184 - front)) slots)
 
 slots_of_entries : (es : List Entry) → map (λ e. e.index) es ≡ slots_in (map (λ e. record { slot = e.index; size = length (payload_of e.packet) }) es)
 slots_of_entries [] = refl
@@ -63,7 +63,7 @@ unfolding packets_in_slots first_slot
 slots_more l free u us slots =
     let one : List ℕ = first_slots l free u slots in
     let rest : List Packet = packets_in_slots l.own l.parameters.rate l.parameters.lead (end_slot l free u) (map (timed l) us) slots in
-    map-append (λ (p : Packet). p.slot) (cut (timed l u).size one) rest ∙ ap (λ (xs : List ℕ). xs ++ slots_in rest) (slots_of_cut (timed l u).size one)
+    map-append (λ (p : Packet). p.slot) (cut (timed l u).front (timed l u).size one) rest ∙ ap (λ (xs : List ℕ). xs ++ slots_in rest) (slots_of_cut (timed l u).front (timed l u).size one)
 
 -- where all slots are taken there are none
 none_left : (l : OwnedStream) (free : ℕ) (us : List AccessUnit) (slots : List ℕ) → length slots ≤ free → slots_from l free us slots ≡ []

@@ -2,8 +2,8 @@
 use Rattle.std.proofs.Common.{◌≡◌, ℕ, zero, suc, ◌+◌, ◌-◌, ◌*◌, ◌<◌, ◌≤◌, min, Bool, List, [], ◌∷◌, ◌++◌, length, take, drop, refl, ap, subst, ◌∙◌, arith, All, inl, inr}
 use Rattle.std.proofs.Math.Nat.{mul-le-mul_right}
 use Rattle.std.proofs.lemmas.Bool.{cases_Bool, cases_lt}
-use Rattle.std.proofs.lemmas.List.{append_assoc, length-drop, length-take}
-use Rattle.std.proofs.lemmas.List.Elements.{All-nil, All-cons, All-head, All-drop, All-take}
+use Rattle.std.proofs.lemmas.List.{append_assoc, length-drop}
+use Rattle.std.proofs.lemmas.List.Elements.{All-nil, All-cons, All-head, All-tail, All-drop, All-take}
 use Rattle.clock27.specs.Arrival.{bytes_from, arrivals}
 use Rattle.clock27.specs.Departure.{departures, last_left}
 use Rattle.clock27.specs.Release.{release}
@@ -66,18 +66,18 @@ first_byte low high (suc size) (x ∷ xs) ys some pos from to =
     omega (arith, a, b)
 
 -- a slot in whose packet the first bytes of a unit stand, all of whose bytes have left by its stamp
-left_by_stamp : (rate r prev s high size : ℕ) (more later : List ℕ) → 0 < size →
-    All (λ d. d * 720000 ≤ high) (take size (pes_left rate r prev (cut size (s ∷ more)) ++ later)) → 188 * s * r * 720000 ≤ high
+left_by_stamp : (rate r prev s high front size : ℕ) (more later : List ℕ) → 0 < size → front < 184 →
+    All (λ d. d * 720000 ≤ high) (take size (pes_left rate r prev (cut front size (s ∷ more)) ++ later)) → 188 * s * r * 720000 ≤ high
 unfolding cut
-left_by_stamp rate r prev s high size more later pos all =
+left_by_stamp rate r prev s high front size more later pos small all =
     let bytes : List ℕ = bytes_from r (188 * s) 188 in
     let ds : List ℕ = departures rate prev bytes in
-    let k : ℕ = 188 - min 184 size in
-    let rest : List ℕ = pes_left rate r (last_left rate prev bytes) (cut (size - 184) more) in
+    let k : ℕ = 188 - min (184 - front) size in
+    let rest : List ℕ = pes_left rate r (last_left rate prev bytes) (cut (front - 184) (size - (184 - front)) more) in
     let many : length ds ≡ 188 = length-departures rate prev bytes ∙ length-bytes_from r (188 * s) 188 in
     let from : All (λ d. 188 * s * r + rate ≤ d) ds = earliest rate prev (188 * s * r) bytes (row r (188 * s) 188) in
-    let some : 0 < length (drop k ds) = omega (arith, length-drop k ds, many, pos) in
-    let parts = pes_left-cons rate r prev (record { slot = s; size = min 184 size }) (cut (size - 184) more) in
+    let some : 0 < length (drop k ds) = omega (arith, length-drop k ds, many, pos, small) in
+    let parts = pes_left-cons rate r prev (record { slot = s; size = min (184 - front) size }) (cut (front - 184) (size - (184 - front)) more) in
     let whole : All (λ d. d * 720000 ≤ high) (take size (drop k ds ++ (rest ++ later))) =
     subst (λ (l : List ℕ). All (λ d. d * 720000 ≤ high) (take size l)) (ap (λ (l : List ℕ). l ++ later) parts ∙ append_assoc (drop k ds) rest later) all in
     let low = first_byte (188 * s * r + rate) high size (drop k ds) (rest ++ later) some pos (All-drop (λ d. 188 * s * r + rate ≤ d) k ds from) whole in
@@ -96,38 +96,41 @@ by_due r s high pos le = elim (cases_lt high (s * 135360000)) [
   | inr fine ↦ fine
 ]
 
-one_timely : (rate r n prev : ℕ) (unit : PesPacket) (xs later : List ℕ) → 0 < r → length xs ≤ packets_of_unit unit → All (λ t. t < n) xs →
-    (unit.dts * rate ≤ n * 135360000 → All (λ d. d * 720000 ≤ unit.dts * rate * r) (take unit.size (pes_left rate r prev (cut unit.size xs) ++ later))) →
+-- a PES packet that has bytes in its first transport packet
+abbrev pub IsCarried : PesPacket → Type 0
+IsCarried unit = (0 < unit.size) × (unit.front < 184)
+
+one_timely : (rate r n prev : ℕ) (unit : PesPacket) (xs later : List ℕ) → 0 < r → 0 < unit.size → unit.front < 184 → All (λ t. t < n) xs →
+    (unit.dts * rate ≤ n * 135360000 → All (λ d. d * 720000 ≤ unit.dts * rate * r) (take unit.size (pes_left rate r prev (cut unit.front unit.size xs) ++ later))) →
     All (λ s. s * 135360000 ≤ unit.dts * rate) (head_in xs)
-one_timely rate r n prev unit [] later pos few inside left = All-nil (λ s. s * 135360000 ≤ unit.dts * rate)
-one_timely rate r n prev unit (s ∷ more) later pos few inside left =
+one_timely rate r n prev unit [] later pos some small inside left = All-nil (λ s. s * 135360000 ≤ unit.dts * rate)
+one_timely rate r n prev unit (s ∷ more) later pos some small inside left =
     All-cons (λ s. s * 135360000 ≤ unit.dts * rate) s [] (elim (cases_lt (n * 135360000) (unit.dts * rate)) [
       | inl over ↦ let before = All-head (λ t. t < n) s more inside in omega (arith, over, before)
       | inr due ↦
-          let some : 0 < unit.size = omega (arith, few) in
-          by_due r s (unit.dts * rate) pos (left_by_stamp rate r prev s (unit.dts * rate * r) unit.size more later some (left due))
+          by_due r s (unit.dts * rate) pos (left_by_stamp rate r prev s (unit.dts * rate * r) unit.front unit.size more later some small (left due))
     ])
     (All-nil (λ s. s * 135360000 ≤ unit.dts * rate))
 
-pub timely : (own : ℕ → Bool) (rate lead r n : ℕ) → 0 < r → (units : List PesPacket) (free prev : ℕ) →
+pub timely : (own : ℕ → Bool) (rate lead r n : ℕ) → 0 < r → (units : List PesPacket) (free prev : ℕ) → All IsCarried units →
     AllLeft rate r n units (pes_left rate r prev (packets_in_slots own rate lead free units (own_slots own 0 n))) → Timely own rate lead free units (own_slots own 0 n)
 unfolding AllLeft packets_in_slots Timely
-timely own rate lead r n pos [] free prev all = tt
-timely own rate lead r n pos (unit ∷ units) free prev all =
+timely own rate lead r n pos [] free prev carried all = tt
+timely own rate lead r n pos (unit ∷ units) free prev carried all =
     let slots = own_slots own 0 n in
     let b = first_slot own rate lead free unit in
     let p = packets_of_unit unit in
     let xs = take p (drop b slots) in
     let next = last_left rate prev (arrivals r xs) in
-    let small : unit.size ≤ 184 * packets_of_unit unit = omega arith in
+    let small : unit.front + unit.size ≤ 184 * packets_of_unit unit = omega arith in
     let later = pes_left rate r next (packets_in_slots own rate lead (b + p) units slots) in
-    let joined : pes_left rate r prev (cut unit.size xs ++ packets_in_slots own rate lead (b + p) units slots)
-    ≡ pes_left rate r prev (cut unit.size xs) ++ pes_left rate r next (packets_in_slots own rate lead (b + p) units slots) =
-    pes_left-append rate r prev (cut unit.size xs) (packets_in_slots own rate lead (b + p) units slots) ∙ rw (slots_of-cut unit.size xs) refl in
-    let both : AllLeft rate r n (unit ∷ units) (pes_left rate r prev (cut unit.size xs) ++ later) = subst (AllLeft rate r n (unit ∷ units)) joined all in
-    let few : length xs ≤ p = omega (arith, length-take p (drop b slots)) in
+    let joined : pes_left rate r prev (cut unit.front unit.size xs ++ packets_in_slots own rate lead (b + p) units slots)
+    ≡ pes_left rate r prev (cut unit.front unit.size xs) ++ pes_left rate r next (packets_in_slots own rate lead (b + p) units slots) =
+    pes_left-append rate r prev (cut unit.front unit.size xs) (packets_in_slots own rate lead (b + p) units slots) ∙ rw (slots_of-cut unit.front unit.size xs) refl in
+    let both : AllLeft rate r n (unit ∷ units) (pes_left rate r prev (cut unit.front unit.size xs) ++ later) = subst (AllLeft rate r n (unit ∷ units)) joined all in
+    let mine = All-head IsCarried unit units carried in
     let inside : All (λ t. t < n) xs = All-take (λ t. t < n) p (drop b slots) (All-drop (λ t. t < n) b slots (in_run own 0 n n (omega arith))) in (
-      one_timely rate r n prev unit xs later pos few inside (λ due. (both.0 due).1),
-      timely own rate lead r n pos units (b + p) next
-          (subst (AllLeft rate r n units) (after_unit own rate lead r n b p unit.size prev next units small) both.1),
+      one_timely rate r n prev unit xs later pos mine.0 mine.1 inside (λ due. (both.0 due).1),
+      timely own rate lead r n pos units (b + p) next (All-tail IsCarried unit units carried)
+          (subst (AllLeft rate r n units) (after_unit own rate lead r n b p unit.front unit.size prev next units small) both.1),
     )

@@ -58,7 +58,9 @@ spaced_all l base (u ∷ us) le due = unfold unit_at in (due, spaced_after l bas
 sized_all : (l : OwnedStream) (us : List AccessUnit) → max_unit_size us ≤ l.parameters.size → Sized (19 + l.parameters.size) (map (timed l) us)
 unfolding Sized max_unit_size
 sized_all l [] le = tt
-sized_all l (u ∷ us) le = (bytes_most l.parameters.stream_id l.parameters.base0 l.parameters.size u (omega (arith, le)), sized_all l us (omega (arith, le)))
+sized_all l (u ∷ us) le =
+    let most = bytes_most l.parameters.stream_id l.parameters.base0 l.parameters.size u (omega (arith, le)) in
+    (omega (arith, most), sized_all l us (omega (arith, le)))
 
 -- 4. The number of their packets
 

@@ -41,7 +41,7 @@ pub row_more : (group at row : ℕ) (units : List PesPacket) (numbers : List ℕ
     row ≡ sum (take group (drop at numbers)) → max_group group (drop at units) ≡ max row (max_group group (drop (at + 1) units))
 unfolding max_group
 row_more group at row units numbers is below counted =
-    let first : PesPacket = record { dts = 0; size = 0 } in
+    let first : PesPacket = record { dts = 0; size = 0; front = 0 } in
     let within : at < length units = omega (arith, below, lengths_are units numbers is) in
     let all : row ≡ packets_of_units (take group (drop at units)) = counted ∙ row_is group at units numbers is in
     let front : packets_of_units (take group (drop at units)) ≡ packets_of_units (take group (get_or units at first ∷ drop (at + 1) units)) =

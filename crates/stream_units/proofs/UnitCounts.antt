@@ -6,7 +6,7 @@ use Rattle.std.proofs.lemmas.Grind.{div_ceil_times}
 use Rattle.std.proofs.lemmas.List.{drop_all, length-append}
 use Rattle.pes_packet.specs.AccessUnits.{AccessUnit}
 use Rattle.pes_packet.specs.Encoding.{pes_packet_bytes, pes_header_bytes, on_wire, header_size}
-use Rattle.pes_packet.specs.Marks.{marks_size}
+use Rattle.pes_packet.specs.Marks.{field_size, marks_size}
 use Rattle.pes_packet.specs.declared.marks.Marks.{Marks}
 use Rattle.pes_packet.proofs.Written.{header_sizes}
 use Rattle.stream_units.specs.Stamps.{distance, min_distance}
@@ -59,11 +59,12 @@ header_by true same = omega arith
 header_by false true = omega arith
 header_by false false = omega arith
 
-header_most : (marks : Marks) (pts dts : ℕ) → header_size marks pts dts ≤ 19 + marks_size marks
-header_most marks pts dts = header_by marks.long (on_wire pts == on_wire dts)
+header_most : (marks : Marks) (pts dts : ℕ) → field_size marks.random_access + header_size marks pts dts ≤ 19 + marks_size marks
+header_most marks pts dts = omega (arith, header_by marks.long (on_wire pts == on_wire dts))
 
--- a header has at most 19 bytes, and what the marks take
-pub bytes_most : (id base0 size : ℕ) (u : AccessUnit) → length u.bytes + marks_size u.marks ≤ size → length (pes_packet_bytes id base0 u) ≤ 19 + size
+-- a header has at most 19 bytes with what is in front of it, and what the marks take
+pub bytes_most : (id base0 size : ℕ) (u : AccessUnit) → length u.bytes + marks_size u.marks ≤ size →
+    field_size u.marks.random_access + length (pes_packet_bytes id base0 u) ≤ 19 + size
 unfolding pes_packet_bytes
 bytes_most id base0 size u le =
     let head = pes_header_bytes id (length u.bytes) u.marks (u.pts + base0) (u.dts + base0) in

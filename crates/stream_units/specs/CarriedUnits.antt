@@ -54,7 +54,7 @@ unfoldable pub role_of_what : ℕ → Bool → WhatView → RoleView
 role_of_what packet unstamped IsDuplicate = Ignored
 role_of_what packet unstamped (IsBadPacket error) = Ignored
 role_of_what packet unstamped IsErrored = Ignored
-role_of_what packet unstamped (IsPes header unended body) = pes_role packet header.id (header_marks header) header.stamps body
+role_of_what packet unstamped (IsPes header unended body) = pes_role packet header.id (header_marks false header) header.stamps body
 role_of_what packet unstamped (IsTruncated bytes) = Interruption unstamped
 role_of_what packet unstamped _ = Interruption false
 

@@ -4,7 +4,7 @@ use Rattle.std.specs.Int.{div_ceil}
 use Rattle.clock27.specs.Units.{slot_units_at_1bps}
 use Rattle.pes_packet.specs.AccessUnits.{AccessUnit}
 use Rattle.pes_packet.specs.Encoding.{pes_packet_bytes}
-use Rattle.pes_packet.specs.Marks.{marks_size}
+use Rattle.pes_packet.specs.Marks.{field_size, marks_size}
 use Rattle.unit_timing.specs.declared.allowance.Allowance.{Allowance}
 use Rattle.unit_timing.specs.declared.allowance.Allowance.TheVariants.{Groups, Pace}
 use Rattle.unit_timing.specs.PesPacket.{PesPacket, packets_of_unit, packets_of_units}
@@ -35,7 +35,7 @@ max_group group (unit ∷ units) = max (packets_of_units (take group (unit ∷ u
 
 -- the PES packets of units, whose sizes do not depend on the stream_id
 abbrev pub timed_unit : ℕ → ℕ → AccessUnit → PesPacket
-timed_unit id base0 u = record { dts = u.dts; size = length (pes_packet_bytes id base0 u) }
+timed_unit id base0 u = record { dts = u.dts; size = length (pes_packet_bytes id base0 u); front = field_size u.marks.random_access }
 
 abbrev pub timed_units : ℕ → ℕ → List AccessUnit → List PesPacket
 timed_units id base0 us = map (timed_unit id base0) us

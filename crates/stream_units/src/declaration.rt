@@ -2,10 +2,11 @@
 
 ghost use Rattle.std.specs.Prelude.{◌≡◌, ◌≤◌, ◌<◌, ◌+◌, ◌-◌, ◌/◌, ◌^◌, ℕ, min, length};
 ghost use Rattle.pes_packet.specs.Encoding.{pes_packet_bytes};
+ghost use Rattle.pes_packet.specs.Marks.{field_size};
 ghost use Rattle.stream_units.specs.Declaration as spec;
 
 use crate::unit::{dts_of, size_of};
-use pes_packet::{Unit, packet_size};
+use pes_packet::{Unit, field_size, packet_size};
 use std::alloc::Allocator;
 
 /// Returns the least time from one DTS to the next, in units of 90 kHz: at most 90,000, and 90,000 for a single unit.
@@ -48,7 +49,7 @@ fn shorter(least: u32, time: u64) -> u32
 /// Returns the size of the largest unit in bytes, with what its marks take.
 pub fn max_unit_size<A: Allocator>(units: &[Unit<A>]) -> usize
     ensures value { result ≡ spec.max_unit_size units.now }
-    ensures bound { result < 2 ^ 63 + 26 }
+    ensures bound { result < 2 ^ 63 + 28 }
 {
     let mut greatest = 0;
     for unit in units {
@@ -59,15 +60,16 @@ pub fn max_unit_size<A: Allocator>(units: &[Unit<A>]) -> usize
 
 /// Returns the packets of a unit, whatever its stream_id.
 pub(crate) fn unit_packets<A: Allocator>(base0: u64, unit: &Unit<A>) -> u64
-    ensures value { (id : ℕ) → result ≡ (length (pes_packet_bytes id base0 unit.now) + 183) / 184 }
+    ensures value { (id : ℕ) →
+        result ≡ (field_size unit.now.marks.random_access + length (pes_packet_bytes id base0 unit.now) + 183) / 184 }
     ensures bound { result ≤ 2 ^ 56 }
 {
-    (packet_size(base0, unit) + 183) / 184
+    (field_size(unit.marks.random_access) as u64 + packet_size(base0, unit) + 183) / 184
 }
 
 /// Returns the packets of a unit of `size` bytes with the longest header.
 pub(crate) fn max_unit_packets(size: usize) -> u64
-    requires { size < 2 ^ 63 + 26 }
+    requires { size < 2 ^ 63 + 28 }
     ensures { result ≡ spec.max_unit_packets size }
 {
     (19 + size as u64 + 183) / 184

@@ -115,7 +115,7 @@ pub(crate) fn role_of<'f, A: Allocator>(pid: u16, finding: &'f Finding<'_, A>) -
         What::Pes { header, body, .. } => pes_role(
             first_packet(finding.packet, finding.begun),
             header.id,
-            header.marks(),
+            header.marks(false),
             header.stamps,
             body.bytes(),
         ),

@@ -16,7 +16,7 @@ pub(crate) fn dts_of<A: Allocator>(unit: &Unit<A>) -> u64
 /// Returns its size in bytes, with what its marks take.
 pub(crate) fn size_of<A: Allocator>(unit: &Unit<A>) -> usize
     ensures value { result ≡ length unit.now.bytes + marks_size unit.now.marks }
-    ensures bound { result < 2 ^ 63 + 26 }
+    ensures bound { result < 2 ^ 63 + 28 }
 {
     unit.bytes.len() + unit.marks.size()
 }

@@ -23,7 +23,7 @@ unfoldable units_in : List Part → List PesPacket
 units_in [] = []
 units_in (Passes ts ∷ before) = units_in before
 units_in (Carries ts ∷ before) = with_bytes_of_last (length ts) (units_in before)
-units_in (Begins due ∷ before) = units_in before ++ record { dts = due.until; size = 0 } ∷ []
+units_in (Begins due ∷ before) = units_in before ++ record { dts = due.until; size = 0; front = 0 } ∷ []
 
 until_in : (parts : List Part) → until_of parts ≡ last_due (units_in parts)
 unfolding until_of units_in

@@ -40,7 +40,7 @@ take_all_of (suc n) (x ∷ xs) many = ap (λ (l : List ℕ). x ∷ l) (take_all_
 
 -- a unit more, and bytes more of the last unit
 pub unit_more : (rate r x due : ℕ) (units : List PesPacket) (left ds : List ℕ) → length left ≡ sizes units →
-    mb_fullness rate r x (units ++ record { dts = due; size = length ds } ∷ []) (left ++ ds) ≡ mb_fullness rate r x units left + kept rate r x due ds
+    mb_fullness rate r x (units ++ record { dts = due; size = length ds; front = 0 } ∷ []) (left ++ ds) ≡ mb_fullness rate r x units left + kept rate r x due ds
 unfolding mb_fullness kept sizes
 unit_more rate r x due [] [] ds many = rw (take_all_of (length ds) ds refl) (omega arith)
 unit_more rate r x due [] (d ∷ left) ds many = absurd (omega (arith, many))
@@ -61,7 +61,7 @@ bytes_more rate r x (u ∷ v ∷ units) left ds many =
     rw (take_whole u.size (sizes (v ∷ units)) left ds many, drop_whole u.size (sizes (v ∷ units)) left ds many)
     (omega (arith, bytes_more rate r x (v ∷ units) (drop u.size left) ds (drop_many u.size (sizes (v ∷ units)) left many)))
 
-pub sizes_more : (due size : ℕ) (units : List PesPacket) → sizes (units ++ record { dts = due; size = size } ∷ []) ≡ sizes units + size
+pub sizes_more : (due size : ℕ) (units : List PesPacket) → sizes (units ++ record { dts = due; size = size; front = 0 } ∷ []) ≡ sizes units + size
 unfolding sizes
 sizes_more due size [] = omega arith
 sizes_more due size (u ∷ units) = omega (arith, sizes_more due size units)
@@ -77,7 +77,7 @@ unfolding with_payload
 sizes_with None size units = sizes_last size units
 sizes_with (Some due) size units = sizes_more due size units
 
-pub due_more : (due size : ℕ) (units : List PesPacket) → last_due (units ++ record { dts = due; size = size } ∷ []) ≡ due
+pub due_more : (due size : ℕ) (units : List PesPacket) → last_due (units ++ record { dts = due; size = size; front = 0 } ∷ []) ≡ due
 unfolding last_due
 due_more due size [] = refl
 due_more due size (u ∷ []) = refl

@@ -44,14 +44,14 @@ packets_of (p ∷ before) = packets_of before ++ record { slot = p.slot; size = 
 
 -- more bytes of the last unit; bytes before the first unit are never in the main buffer, as those of one due at 0
 unfoldable pub with_bytes_of_last : ℕ → List PesPacket → List PesPacket
-with_bytes_of_last size [] = record { dts = 0; size = size } ∷ []
-with_bytes_of_last size (u ∷ []) = record { dts = u.dts; size = u.size + size } ∷ []
+with_bytes_of_last size [] = record { dts = 0; size = size; front = 0 } ∷ []
+with_bytes_of_last size (u ∷ []) = record { dts = u.dts; size = u.size + size; front = u.front } ∷ []
 with_bytes_of_last size (u ∷ v ∷ units) = u ∷ with_bytes_of_last size (v ∷ units)
 
 -- the payload of a packet more
 unfoldable pub with_payload : Option ℕ → ℕ → List PesPacket → List PesPacket
 with_payload None size units = with_bytes_of_last size units
-with_payload (Some due) size units = units ++ record { dts = due; size = size } ∷ []
+with_payload (Some due) size units = units ++ record { dts = due; size = size; front = 0 } ∷ []
 
 -- the units that these packets carry, in the order of the stream
 unfoldable pub units_of : List StreamPacket → List PesPacket

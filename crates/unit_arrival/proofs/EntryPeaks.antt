@@ -36,8 +36,8 @@ held_early rate r x (pes_packet ∷ pes_packets) left all =
 
 -- the first byte of a text, and its other bytes
 held_byte : (rate r due m : ℕ) (pes_packets : List PesPacket) (d : ℕ) (ds : List ℕ) (x : ℕ) → d ≤ x →
-    mb_fullness rate r x (record { dts = due; size = suc m } ∷ pes_packets) (d ∷ ds)
-    ≡ one_buffered (removal_time rate r due) x + mb_fullness rate r x (record { dts = due; size = m } ∷ pes_packets) ds
+    mb_fullness rate r x (record { dts = due; size = suc m; front = 0 } ∷ pes_packets) (d ∷ ds)
+    ≡ one_buffered (removal_time rate r due) x + mb_fullness rate r x (record { dts = due; size = m; front = 0 } ∷ pes_packets) ds
 unfolding mb_fullness
 held_byte rate r due m pes_packets d ds x le =
     rw (sum_by-cons (λ e. cond (is_in_main_buffer rate r x due e) 1 0) d (take m ds)) (omega (arith, one_kept rate r due d x le))
@@ -45,24 +45,24 @@ held_byte rate r due m pes_packets d ds x le =
 -- a byte enters
 pub byte_entered : (rate r due m : ℕ) (pes_packets : List PesPacket) (before after : ℕ → ℕ) (d : ℕ) (ds : List ℕ) → Climbs (suc d) ds →
     ((x : ℕ) → d ≤ x → after x ≡ before x + one_buffered (removal_time rate r due) x) →
-    peak_ahead before rate r (record { dts = due; size = suc m } ∷ pes_packets) (d ∷ ds)
-    ≡ max (before d + one_buffered (removal_time rate r due) d) (peak_ahead after rate r (record { dts = due; size = m } ∷ pes_packets) ds)
+    peak_ahead before rate r (record { dts = due; size = suc m; front = 0 } ∷ pes_packets) (d ∷ ds)
+    ≡ max (before d + one_buffered (removal_time rate r due) d) (peak_ahead after rate r (record { dts = due; size = m; front = 0 } ∷ pes_packets) ds)
 unfolding greatest_at
 byte_entered rate r due m pes_packets before after d ds climbs counted =
     let same : d ≤ d = omega arith in
     let next : d < suc d = omega arith in
     let now = held_byte rate r due m pes_packets d ds d same in
-    let none = held_early rate r d (record { dts = due; size = m } ∷ pes_packets) ds (climbs_following d (suc d) ds next climbs) in
-    let rest = greatest_same (λ x. before x + mb_fullness rate r x (record { dts = due; size = suc m } ∷ pes_packets) (d ∷ ds))
-    (λ x. after x + mb_fullness rate r x (record { dts = due; size = m } ∷ pes_packets) ds) (suc d) ds climbs
+    let none = held_early rate r d (record { dts = due; size = m; front = 0 } ∷ pes_packets) ds (climbs_following d (suc d) ds next climbs) in
+    let rest = greatest_same (λ x. before x + mb_fullness rate r x (record { dts = due; size = suc m; front = 0 } ∷ pes_packets) (d ∷ ds))
+    (λ x. after x + mb_fullness rate r x (record { dts = due; size = m; front = 0 } ∷ pes_packets) ds) (suc d) ds climbs
     (λ x le. let low : d ≤ x = omega (arith, le) in omega (arith, held_byte rate r due m pes_packets d ds x low, counted x low)) in
     omega (arith, now, none, rest)
 
 -- a text has entered
 pub text_entered : (rate r due : ℕ) (pes_packets : List PesPacket) (before : ℕ → ℕ) (left : List ℕ) →
-    peak_ahead before rate r (record { dts = due; size = 0 } ∷ pes_packets) left ≡ peak_ahead before rate r pes_packets left
+    peak_ahead before rate r (record { dts = due; size = 0; front = 0 } ∷ pes_packets) left ≡ peak_ahead before rate r pes_packets left
 text_entered rate r due pes_packets before left =
-    greatest_ext (λ x. before x + mb_fullness rate r x (record { dts = due; size = 0 } ∷ pes_packets) left) (λ x. before x + mb_fullness rate r x pes_packets left) left
+    greatest_ext (λ x. before x + mb_fullness rate r x (record { dts = due; size = 0; front = 0 } ∷ pes_packets) left) (λ x. before x + mb_fullness rate r x pes_packets left) left
     (λ x. unfold mb_fullness in omega arith)
 
 -- a byte that has entered by the last moment that is not after a stamp has entered by the stamp
@@ -108,9 +108,9 @@ first_by_parts rate rx rbx due =
 -- whether a unit has left in time, of one whose bytes have all come, and of one whose bytes have not
 pub left_whole : (rate drain due size last moment : ℕ) (ahead : List ℕ) (in_time : Bool) → nat_le size (length ahead) ≡ true →
     list_all (λ d. nat_le (d * 720000) (due * rate * drain)) (take size ahead) ≡ nat_le (last * 720000) (due * rate * drain) →
-    moment ≡ due_moment rate drain due → in_time ≡ nat_le last moment → has_left rate drain (record { dts = due; size = size }) ahead ≡ in_time
+    moment ≡ due_moment rate drain due → in_time ≡ nat_le last moment → has_left rate drain (record { dts = due; size = size; front = 0 }) ahead ≡ in_time
 left_whole rate drain due size last moment ahead in_time whole all by is =
     rw (whole, all, left_test rate drain due last, is, by) refl
 
-pub left_short : (rate drain due size : ℕ) (ahead : List ℕ) → nat_le size (length ahead) ≡ false → has_left rate drain (record { dts = due; size = size }) ahead ≡ false
+pub left_short : (rate drain due size : ℕ) (ahead : List ℕ) → nat_le size (length ahead) ≡ false → has_left rate drain (record { dts = due; size = size; front = 0 }) ahead ≡ false
 left_short rate drain due size ahead short = rw short refl

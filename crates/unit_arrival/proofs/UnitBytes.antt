@@ -26,8 +26,8 @@ most_none walk walk' buffer pes_packets pes_packets' none none' = rw (none, none
 one_byte : (before after : ℕ → ℕ) (peak peak' rate rx rate' rx' due m d : ℕ) (pes_packets : List PesPacket) (left left' : List ℕ) → left ≡ d ∷ left' → Climbs (suc d) left' →
     rx' ≡ rx → rate' ≡ rate → ((x : ℕ) → d ≤ x → after x ≡ before x + one_buffered (removal_time rate rx due) x) →
     peak' ≡ max peak (before d + one_buffered (removal_time rate rx due) d) →
-    max peak' (peak_ahead after rate' rx' (record { dts = due; size = m } ∷ pes_packets) left')
-    ≡ max peak (peak_ahead before rate rx (record { dts = due; size = suc m } ∷ pes_packets) left)
+    max peak' (peak_ahead after rate' rx' (record { dts = due; size = m; front = 0 } ∷ pes_packets) left')
+    ≡ max peak (peak_ahead before rate rx (record { dts = due; size = suc m; front = 0 } ∷ pes_packets) left)
 one_byte before after peak peak' rate rx rate' rx' due m d pes_packets left left' ahead climbs same_rx same_rate counted best =
     rw (ahead, same_rx, same_rate) (omega (arith, best, byte_entered rate rx due m pes_packets before after d left' climbs counted))
 
@@ -36,7 +36,7 @@ pub most_byte : {A : Type 0} (walk walk' : PayloadBytes) (buffer buffer' : MainB
     bytes_ahead walk ≡ d ∷ bytes_ahead walk' → last_of walk' ≡ d → drain_of walk' ≡ drain_of walk → walk'.rate ≡ walk.rate →
     ((x : ℕ) → d ≤ x → fullness_at buffer' x ≡ fullness_at buffer x + one_buffered buffer.current.until x) →
     buffer'.peak ≡ max buffer.peak (fullness_at buffer d + one_buffered buffer.current.until d) → buffer.current.until ≡ removal_time walk.rate (drain_of walk) due →
-    peak_of walk' buffer' (record { dts = due; size = m } ∷ pes_packets) ≡ peak_of walk buffer (record { dts = due; size = suc m } ∷ pes_packets)
+    peak_of walk' buffer' (record { dts = due; size = m; front = 0 } ∷ pes_packets) ≡ peak_of walk buffer (record { dts = due; size = suc m; front = 0 } ∷ pes_packets)
 most_byte walk walk' buffer buffer' due m d pes_packets ahead last drain rate there peak until =
     let climbs : Climbs (suc d) (bytes_ahead walk') = subst (λ (n : ℕ). Climbs (suc n) (bytes_ahead walk')) last (bytes_climb walk') in
     let counted : (x : ℕ) → d ≤ x → fullness_at buffer' x ≡ fullness_at buffer x + one_buffered (removal_time walk.rate (drain_of walk) due) x =
@@ -48,7 +48,7 @@ most_byte walk walk' buffer buffer' due m d pes_packets ahead last drain rate th
 
 -- the text is whole
 pub most_whole : {A : Type 0} (walk : PayloadBytes) (buffer : MainBuffer A) (due : ℕ) (pes_packets : List PesPacket) →
-    peak_of walk buffer pes_packets ≡ peak_of walk buffer (record { dts = due; size = 0 } ∷ pes_packets)
+    peak_of walk buffer pes_packets ≡ peak_of walk buffer (record { dts = due; size = 0; front = 0 } ∷ pes_packets)
 most_whole walk buffer due pes_packets =
     ap (max buffer.peak) (sym (text_entered walk.rate (drain_of walk) due pes_packets (fullness_at buffer) (bytes_ahead walk)))
 

@@ -22,4 +22,4 @@ peak_of walk buffer pes_packets = max buffer.peak (peak_ahead (fullness_at buffe
 abbrev pub EntersUnit : {A : Type 0} → PayloadBytes → PayloadBytes → MainBuffer A → MainBuffer A → ℕ → Type 0
 EntersUnit walk walk' buffer buffer' size =
     (due : ℕ) (pes_packets : List PesPacket) → buffer.current.until ≡ removal_time walk.rate (drain_of walk) due →
-    peak_of walk' buffer' pes_packets ≡ peak_of walk buffer (record { dts = due; size = size } ∷ pes_packets)
+    peak_of walk' buffer' pes_packets ≡ peak_of walk buffer (record { dts = due; size = size; front = 0 } ∷ pes_packets)

@@ -75,12 +75,12 @@ pub fn measure_unit<A: Allocator>(
     requires sound { IsSound buffer.old }
     requires fullness { buffer.old.fullness ≤ walk.old.transport.byte }
     requires positive { 0 < size }
-    ensures late { let pes_packet : PesPacket = record { dts = due; size = size } in
+    ensures late { let pes_packet : PesPacket = record { dts = due; size = size; front = 0 } in
         IfOk result (λ late. late ≡ (is_due walk.old.rate slots pes_packet
         && not (has_left walk.old.rate (drain_of walk.old) pes_packet (bytes_ahead walk.old)))) }
     ensures left { OnOk result (bytes_ahead walk.new ≡ drop size (bytes_ahead walk.old)) }
     ensures peak { OnOk result ((pes_packets : List PesPacket) →
-        let pes_packet : PesPacket = record { dts = due; size = size } in
+        let pes_packet : PesPacket = record { dts = due; size = size; front = 0 } in
         peak_of walk.new buffer.new pes_packets ≡ peak_of walk.old buffer.old (pes_packet ∷ pes_packets)) }
     ensures residences { OnOk result (residences walk.new ≡ residences walk.old) }
     ensures rate { OnOk result (walk.new.rate ≡ walk.old.rate) }

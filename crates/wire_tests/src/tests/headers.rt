@@ -42,6 +42,7 @@ static WRITTEN: [(u8, usize, Marks, u64, u64, &[u8]); 5] = [
 
 /// The marks of teletext and VBI data: aligned, with a header of 45 bytes.
 const TELETEXT: Marks = Marks {
+    random_access: false,
     flags: ALIGNED_ALONE,
     long: true,
 };
@@ -56,6 +57,7 @@ const ALIGNED_ALONE: PesFlags = PesFlags {
 
 /// An aligned original.
 const ALIGNED: Marks = Marks {
+    random_access: false,
     flags: PesFlags {
         priority: false,
         aligned: true,

@@ -15,8 +15,8 @@ invariant-loop-taken g l = record {
   in_time : (limit : ℕ) → list_all (λ d. nat_le (d * 720000) limit) (take l.taken (bytes_ahead l.fn.walk))
       ≡ (nat_eq l.taken 0 || nat_le (last_of l.walk * 720000) limit);
   peak : (due : ℕ) (pes_packets : List PesPacket) → l.fn.buffer.current.until ≡ removal_time l.fn.walk.rate (drain_of l.fn.walk) due →
-      peak_of l.walk l.buffer (record { dts = due; size = l.size - l.taken } ∷ pes_packets)
-      ≡ peak_of l.fn.walk l.fn.buffer (record { dts = due; size = l.size } ∷ pes_packets);
+      peak_of l.walk l.buffer (record { dts = due; size = l.size - l.taken; front = 0 } ∷ pes_packets)
+      ≡ peak_of l.fn.walk l.fn.buffer (record { dts = due; size = l.size; front = 0 } ∷ pes_packets);
   residences : residences l.walk ≡ residences l.fn.walk;
   rate : l.walk.rate ≡ l.fn.walk.rate;
   rx : l.walk.rx ≡ l.fn.walk.rx;
