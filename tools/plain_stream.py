@@ -159,8 +159,9 @@ def descriptors(data):
 
 
 def of_multiplex(tag, body):
-    """Whether a descriptor speaks of the rates and buffers of the multiplex in which it stands: 12, 14, 16, STD without leak, managed HRD."""
-    return tag in (12, 14, 16) or tag == 17 and body[:1] != b"" and not body[0] & 1 or tag == 42 and body[:1] >= b"\x80"
+    """Whether a descriptor speaks of the rates and buffers of the multiplex in which it stands: 12, 14, 16, STD without leak, managed HRD of AVC and of HEVC."""
+    managed = tag == 42 and body[:1] >= b"\x80" or tag == 63 and body[:1] == b"\x03" and body[1:2] >= b"\x80"
+    return tag in (12, 14, 16) or tag == 17 and body[:1] != b"" and not body[0] & 1 or managed
 
 
 def kept(data):

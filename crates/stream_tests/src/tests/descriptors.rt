@@ -52,14 +52,18 @@ fn are_kept(alloc: Global) -> bool {
     }
 }
 
-// Of a multiplex: buffer utilization, maximum bit rate, smoothing buffer, an STD_descriptor by vbv_delay, a managed HRD. An
-// STD_descriptor by the leak, one without its byte, and an HRD that is not managed speak of no other multiplex.
-static MULTIPLEX: [u8; 35] = [
+// Of a multiplex: buffer utilization, maximum bit rate, smoothing buffer, an STD_descriptor by vbv_delay, a managed HRD of AVC and
+// of HEVC. An STD_descriptor by the leak, one without its byte, an HRD that is not managed, and another extension speak of no other
+// multiplex.
+static MULTIPLEX: [u8; 47] = [
     12, 3, 0xff, 0, 0x10, 14, 3, 0xc0, 0, 1, 16, 6, 0xc0, 0, 1, 0xc0, 0, 2, 17, 1, 0xfe, 17, 1,
-    0xff, 17, 0, 42, 2, 0x80, 0, 42, 2, 0x7f, 0, 0x6a,
+    0xff, 17, 0, 42, 2, 0x80, 0, 42, 2, 0x7f, 0, 63, 2, 3, 0xfe, 63, 2, 3, 0x7e, 63, 2, 5, 0xfe,
+    0x6a,
 ];
 
-static OF_NONE: [u8; 9] = [17, 1, 0xff, 17, 0, 42, 2, 0x7f, 0];
+static OF_NONE: [u8; 17] = [
+    17, 1, 0xff, 17, 0, 42, 2, 0x7f, 0, 63, 2, 3, 0x7e, 63, 2, 5, 0xfe,
+];
 
 fn are_of_multiplex(alloc: Global) -> bool {
     let known = has_of_multiplex(&MULTIPLEX) && !has_of_multiplex(&OF_NONE);
