@@ -80,8 +80,11 @@ def in_step(data):
     return b"".join(kept) + data[at:], lines, list(fields)
 
 
-RANDOM_ACCESS = "random access indicators left out"
-ADAPTATION = "splice countdown, private data or extension of adaptation fields left out"
+TRANSPORT_PRIORITY = "transport priority left out"
+INDICATORS = ((0x80, "discontinuity indicators left out"), (0x40, "random access indicators left out"),
+              (0x20, "elementary stream priority indicators left out"), (8, "original program clock references left out"),
+              (4, "splice countdown left out"), (2, "private data of adaptation fields left out"), (1, "extension of adaptation fields left out"))
+OF_PACKETS = (TRANSPORT_PRIORITY, *(name for _, name in INDICATORS))
 ALIGNMENT = "data alignment indicators left out"
 FLAGS = "priority, copyright or original flags of PES headers left out"
 SCRAMBLED = "scrambled in PES packets: taken as it is"
@@ -94,7 +97,7 @@ UNREAD = "PES header continues in another packet: not read"
 def fields_of(p):
     """The fields of a packet and of a PES header at its front that are not written again."""
     flags = p[5] if p[3] & 0x20 and p[4] else 0
-    told = [RANDOM_ACCESS] * bool(flags & 0x40) + [ADAPTATION] * bool(flags & 7)
+    told = [TRANSPORT_PRIORITY] * bool(p[1] & 0x20) + [name for bit, name in INDICATORS if flags & bit]
     body = p[5 + p[4] if p[3] & 0x20 else 4:] if p[1] >> 6 == 1 and p[3] >> 6 == 0 and p[3] & 0x10 else b""
     if len(body) < 9:
         return told + [UNREAD] * bool(body)

@@ -16,10 +16,14 @@ fn field_text(field: Field) -> &'static str
     ensures { result.now ≡ spec.field_text field }
 {
     match field {
+        Field::TransportPriority => " transport priority left out\n",
+        Field::Discontinuity => " discontinuity indicators left out\n",
         Field::RandomAccess => " random access indicators left out\n",
-        Field::AdaptationData => {
-            " splice countdown, private data or extension of adaptation fields left out\n"
-        }
+        Field::StreamPriority => " elementary stream priority indicators left out\n",
+        Field::OriginalClock => " original program clock references left out\n",
+        Field::SpliceCountdown => " splice countdown left out\n",
+        Field::AdaptationPrivateData => " private data of adaptation fields left out\n",
+        Field::AdaptationExtension => " extension of adaptation fields left out\n",
         Field::Alignment => " data alignment indicators left out\n",
         Field::Flags => " priority, copyright or original flags of PES headers left out\n",
         Field::Scrambling => " scrambled in PES packets: taken as it is\n",
@@ -50,7 +54,16 @@ pub fn write_fields(fields: &[FieldLeftOut], text: &mut String) -> Result<(), Al
     Ok(())
 }
 
-/// Returns the fields of streams that are carried.
+// Returns whether a field is reported: of a stream that is carried, and in packets also of a table or a clock.
+fn is_told(input: &JobInput, left_out: &FieldLeftOut) -> bool
+    ensures { result ≡ spec.is_told input.now left_out.now }
+{
+    let FieldLeftOut { pid, field } = *left_out;
+    input.has_stream(pid)
+        || (field.is_of_packet() && (input.carries_table(pid) || input.has_clock(pid)))
+}
+
+/// Returns the fields of streams that are carried, and in packets also of tables and clocks.
 pub fn told_fields(
     alloc: Global,
     input: &JobInput,
@@ -60,7 +73,7 @@ pub fn told_fields(
 {
     fields
         .iter()
-        .filter(|field| input.has_stream(field.pid))
+        .filter(|field| is_told(input, field))
         .copied()
         .collect(alloc)
 }

@@ -47,8 +47,36 @@ fn note<A: Allocator>(
     Ok(())
 }
 
+// Appends the indicators and the clock reference of an adaptation field.
+#[tactic(auto, unfolding(crate::specs::FieldsLeftOut::with_indicators))]
+fn note_indicators<A: Allocator>(
+    pid: u16,
+    flags: u8,
+    found: &mut Vec<FieldLeftOut, A>,
+) -> Result<(), AllocError>
+    ensures { OnOk result (found.new.items ≡ spec.with_indicators pid flags found.old.items) }
+{
+    note(pid, Field::Discontinuity, flags / 128 % 2 == 1, found)?;
+    note(pid, Field::RandomAccess, flags / 64 % 2 == 1, found)?;
+    note(pid, Field::StreamPriority, flags / 32 % 2 == 1, found)?;
+    note(pid, Field::OriginalClock, flags / 8 % 2 == 1, found)
+}
+
+// Appends the data of an adaptation field.
+#[tactic(auto, unfolding(crate::specs::FieldsLeftOut::with_adaptation_data))]
+fn note_adaptation_data<A: Allocator>(
+    pid: u16,
+    flags: u8,
+    found: &mut Vec<FieldLeftOut, A>,
+) -> Result<(), AllocError>
+    ensures { OnOk result (found.new.items ≡ spec.with_adaptation_data pid flags found.old.items) }
+{
+    note(pid, Field::SpliceCountdown, flags / 4 % 2 == 1, found)?;
+    note(pid, Field::AdaptationPrivateData, flags / 2 % 2 == 1, found)?;
+    note(pid, Field::AdaptationExtension, flags % 2 == 1, found)
+}
+
 // Appends what stands in an adaptation field.
-#[tactic(auto, unfolding(crate::specs::FieldsLeftOut::with_adaptation))]
 fn note_adaptation<A: Allocator>(
     pid: u16,
     flags: u8,
@@ -56,8 +84,8 @@ fn note_adaptation<A: Allocator>(
 ) -> Result<(), AllocError>
     ensures { OnOk result (found.new.items ≡ spec.with_adaptation pid flags found.old.items) }
 {
-    note(pid, Field::RandomAccess, flags / 64 % 2 == 1, found)?;
-    note(pid, Field::AdaptationData, flags % 8 != 0, found)
+    note_indicators(pid, flags, found)?;
+    note_adaptation_data(pid, flags, found)
 }
 
 // Appends what the first flag byte of a PES header says.
@@ -154,6 +182,12 @@ fn note_packet<A: Allocator>(
     ensures { OnOk result (found.new.items ≡ spec.with_packet packet.now found.old.items) }
 {
     let pid = pid_of(packet);
+    note(
+        pid,
+        Field::TransportPriority,
+        packet[1] / 32 % 2 == 1,
+        found,
+    )?;
     note_adaptation(pid, adaptation_flags(packet), found)?;
     note_header(pid, start_payload(packet), found)
 }

@@ -20,6 +20,7 @@ use Rattle.stream_jobs.specs.declared.declarations.StreamChoice.{StreamChoice}
 use Rattle.stream_jobs.specs.Declarations.{UnitCountsView, too_many, too_long, all_unit_counts, choices}
 use Rattle.stream_jobs.specs.BufferWarnings.{buffer_warnings}
 use Rattle.stream_jobs.specs.JobPrograms.{JobProgramView, job_programs, all_program_warnings, text_warnings}
+use Rattle.stream_jobs.specs.ProgramClocks.{is_clock_on}
 use Rattle.given_values.specs.GivenNames.{ServiceNameView}
 use Rattle.stream_jobs.specs.Events.{programs_information}
 use Rattle.stream_jobs.specs.Information.{JobInformationView, information_of}
@@ -50,6 +51,10 @@ has_stream m pid = list_any (λ s. s.pid == pid) m.streams
 -- sections of this PID are carried
 abbrev pub carries_table : JobInputView → ℕ → Bool
 carries_table m pid = list_any (λ t. t.pid == pid) m.tables
+
+-- the clock of a program comes on this PID
+abbrev pub has_clock : JobInputView → ℕ → Bool
+has_clock m pid = list_any (λ p. is_clock_on pid p.clock) m.programs
 
 -- 1. Warnings
 

@@ -17,6 +17,7 @@ use crate::job_options::JobOptions;
 use crate::job_programs::JobProgram;
 use crate::job_stream::TimedStream;
 use crate::job_tables::JobTable;
+use crate::program_clock::is_clock_on;
 use crate::refusal::JobError;
 use crate::timed_streams::timed_streams;
 use crate::warning::Warning;
@@ -69,6 +70,15 @@ impl JobInput {
         ensures { result ≡ spec.carries_table self.now pid }
     {
         self.tables.iter().any(|table| table.pid == pid)
+    }
+
+    /// Returns whether the clock of a program that is carried comes on this PID.
+    pub fn has_clock(&self, pid: u16) -> bool
+        ensures { result ≡ spec.has_clock self.now pid }
+    {
+        self.programs
+            .iter()
+            .any(|program| is_clock_on(pid, program.clock))
     }
 }
 
