@@ -2,6 +2,6 @@ pub mod SlipLines
 pub mod FieldLines
 pub mod TableLines
 pub mod InformationLines
-pub mod WarningLines
 pub mod RefusalLine
+pub mod WarningLines
 pub mod InputLines

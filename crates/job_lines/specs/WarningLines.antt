@@ -13,7 +13,9 @@ use Rattle.stream_jobs.specs.declared.warning.ProgramWarning.{ProgramWarning}
 use Rattle.stream_jobs.specs.declared.warning.ProgramWarning.TheVariants.{Missing, NoStream, UnreadText}
 use Rattle.stream_jobs.specs.declared.warning.Warning.{Warning}
 use Rattle.stream_jobs.specs.declared.warning.Warning.TheVariants as warning
+use Rattle.stream_jobs.specs.declared.refusal.JobRefusal.{JobRefusal}
 use Rattle.job_lines.specs.InformationLines.{information_line}
+use Rattle.job_lines.specs.RefusalLine.{refusal_line}
 
 -- 1. A line each
 
@@ -83,6 +85,10 @@ header_line pid said unit counted = codes "pid " ++ decimal pid ++ codes " says 
 unfoldable pub leak_line : ℕ → ℕ → ℕ → List ℕ
 leak_line pid rate leak = codes "pid " ++ decimal pid ++ codes " asks for " ++ decimal rate ++ codes " bits/s and its leak gives " ++ decimal leak ++ codes ": declared without rbx and mb\n"
 
+-- a stream that is left out: the line of the refusal that it would be, and one that it is left out
+unfoldable pub left_out_line : ℕ → JobRefusal → List ℕ
+left_out_line pid why = refusal_line why ++ codes "pid " ++ decimal pid ++ codes " left out\n"
+
 unfoldable pub warning_line : Warning → List ℕ
 warning_line (warning.Packet packet what) = packet_line packet what
 warning_line (warning.TrailingBytes size) = codes "rest of " ++ decimal size ++ codes " bytes\n"
@@ -99,6 +105,7 @@ warning_line (warning.Information about) = information_line about
 warning_line (warning.MapMoved program from to) = codes "PMT of program " ++ decimal program ++ codes " moved from pid " ++ decimal from ++ codes " to " ++ decimal to ++ codes "\n"
 warning_line (warning.HeaderBuffer pid said unit counted) = header_line pid said unit counted
 warning_line (warning.Leak pid rate leak) = leak_line pid rate leak
+warning_line (warning.LeftOut pid why) = left_out_line pid why
 
 -- 2. All of them
 

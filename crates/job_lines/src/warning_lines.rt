@@ -5,9 +5,10 @@ ghost use Rattle.stream_jobs.specs.Warnings.{are_damaged};
 ghost use Rattle.job_lines.specs.WarningLines as spec;
 
 use crate::information_lines::write_information;
+use crate::refusal_line::write_refusal;
 use std::alloc::{AllocError, Global};
 use std::fmt::Write;
-use stream_jobs::{PacketWarning, ProgramWarning, Warning};
+use stream_jobs::{JobRefusal, PacketWarning, ProgramWarning, Warning};
 use stream_programs::{MapPart, TableOmission};
 use stream_units::{UnitWarning, UnitWarningCause};
 
@@ -210,6 +211,15 @@ fn write_leak(pid: u16, rate: u64, leak: u32, text: &mut String) -> Result<(), A
     )
 }
 
+// The lines for a stream that is left out.
+#[tactic(auto, unfolding(crate::specs::WarningLines::left_out_line))]
+fn write_left_out(pid: u16, why: JobRefusal, text: &mut String) -> Result<(), AllocError>
+    ensures { OnOk result (string_bytes text.new ≡ string_bytes text.old ++ spec.left_out_line pid why) }
+{
+    write_refusal(why, text)?;
+    write!(text, "pid {pid} left out\n")
+}
+
 // The line of a warning.
 #[tactic(auto, unfolding(crate::specs::WarningLines::warning_line))]
 fn write_warning(warning: Warning, text: &mut String) -> Result<(), AllocError>
@@ -256,6 +266,7 @@ fn write_warning(warning: Warning, text: &mut String) -> Result<(), AllocError>
             counted,
         } => write_header_buffer(pid, said, unit, counted, text),
         Warning::Leak { pid, rate, leak } => write_leak(pid, rate, leak, text),
+        Warning::LeftOut { pid, why } => write_left_out(pid, why, text),
     }
 }
 

@@ -9,7 +9,7 @@ use Rattle.stream_jobs.specs.JobOptions.{JobOptionsView}
 use Rattle.stream_jobs.specs.JoinedInputs.{JoinedInputsView, first_input, information_joined, joined, most_events, with_input, with_inputs, with_renumbered}
 use Rattle.stream_jobs.specs.RenumberedInputs.{RenumberingView, event_with, information_with, renumbered}
 use Rattle.stream_jobs.proofs.JoinedStreams.{next_of}
-use Rattle.stream_jobs.proofs.MovedInputs.{moved_of}
+use Rattle.stream_jobs.proofs.LeftOut.{moved_of}
 use Rattle.stream_jobs.proofs.Steps.{comes, same_value}
 use Rattle.job_outcomes.specs.SeveralInputs.{all_joined}
 use Rattle.piped_jobs.specs.PipedFiles.{TakesInput}

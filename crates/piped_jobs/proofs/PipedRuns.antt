@@ -13,7 +13,7 @@ use Rattle.stream_jobs.specs.JobOptions.{JobOptionsView}
 use Rattle.stream_jobs.specs.JobPrograms.{clock_in}
 use Rattle.stream_jobs.specs.Jobs.{AreUnits}
 use Rattle.stream_jobs.proofs.ClockConstants.{constants_of}
-use Rattle.stream_jobs.proofs.MovedInputs.{moved_of}
+use Rattle.stream_jobs.proofs.LeftOut.{moved_of}
 use Rattle.stream_jobs.specs.declared.refusal.JobRefusal.{JobRefusal}
 use Rattle.unit_records.proofs.RecordBytes.{records_are_read}
 use Rattle.round_trip_job.specs.Laws.{AcceptedLaw, FoundAgainLaw, schedule_for}

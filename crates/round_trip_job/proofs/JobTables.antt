@@ -9,7 +9,7 @@ use Rattle.mux_core.proofs.UnitCounts.{other_units}
 use Rattle.round_trip_run.specs.TablesFirst.{DueLate}
 use Rattle.unit_order.specs.Merging.{AreMerged}
 use Rattle.stream_jobs.specs.JobStreams.{TimedStreamView}
-use Rattle.stream_jobs.proofs.MovedInputs.{moved_of}
+use Rattle.stream_jobs.proofs.LeftOut.{moved_of}
 use Rattle.round_trip_job.specs.FirstUnits.{FirstUnitsLaw, TablesFirstLaw}
 use Rattle.round_trip_job.proofs.FirstUnits.{all_late}
 

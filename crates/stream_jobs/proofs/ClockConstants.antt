@@ -18,7 +18,7 @@ use Rattle.stream_jobs.specs.JobPrograms.{JobProgramView, clock_in}
 use Rattle.stream_jobs.specs.Jobs.{IsCarried}
 use Rattle.stream_jobs.specs.JobStreams.{TimedStreamView, WireStreamView}
 use Rattle.stream_jobs.specs.Moments.{base_for, base_of, base_of_first, earliest, first_base, first_dts_of, firsts, moved_by, moved_stream, moved_streams, stamps_of, stamps_refusal, wire_of, with_moments}
-use Rattle.stream_jobs.proofs.MovedInputs.{moved_of}
+use Rattle.stream_jobs.proofs.LeftOut.{moved_of}
 use Rattle.stream_jobs.proofs.Steps.{granted, not_against, comes, same_value, each_all}
 
 -- 1. A stream

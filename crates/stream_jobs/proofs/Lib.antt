@@ -17,6 +17,8 @@ mod TriedRates
 mod FirstWhy
 pub mod Steps
 pub mod MovedInputs
+pub mod OddStreams
+pub mod LeftOut
 pub mod ClockConstants
 mod JoinedSteps
 pub mod JoinedStreams

@@ -12,7 +12,7 @@ use Rattle.stream_jobs.specs.ClockBases.{base0_of}
 use Rattle.stream_jobs.specs.declared.declarations.StreamChoice.{StreamChoice}
 use Rattle.stream_jobs.specs.Declarations.{UnitCountsView, too_many, too_long, all_unit_counts, choices}
 use Rattle.stream_jobs.specs.BufferWarnings.{buffer_warnings}
-use Rattle.stream_jobs.specs.JobInput.{JobInputView, job_input, with_association, with_programs, with_pids, with_streams, with_moved, with_unit_counts, job_warnings, named_of, nothing_carried, tables_of}
+use Rattle.stream_jobs.specs.JobInput.{JobInputView, whole_input, with_association, with_programs, with_pids, with_streams, with_moved, with_unit_counts, job_warnings, named_of, nothing_carried, tables_of}
 use Rattle.stream_jobs.specs.Information.{JobInformationView, information_of}
 use Rattle.stream_jobs.specs.JobOptions.{JobOptionsView}
 use Rattle.stream_jobs.specs.JobPrograms.{JobProgramView, job_programs}
@@ -70,9 +70,9 @@ pub record Moved (options : JobOptionsView) (findings : List FindingView) (input
   pub moved : moved_streams findings (earliest input.programs input.tables streams) input.programs streams ≡ Ok input.streams
   pub base0_is : input.base0 ≡ base0_of options.base (first_base (earliest input.programs input.tables streams) input.programs streams)
 
-pub moved_of : (options : JobOptionsView) (count : ℕ) (findings : List FindingView) (input : JobInputView) → job_input options count findings ≡ Ok input → Moved options findings input
-unfolding job_input with_association with_programs with_pids with_streams
-moved_of options count findings input is =
+pub moved_whole : (options : JobOptionsView) (count : ℕ) (findings : List FindingView) (input : JobInputView) → whole_input options count findings ≡ Ok input → Moved options findings input
+unfolding whole_input with_association with_programs with_pids with_streams
+moved_whole options count findings input is =
     let associated = comes (with_association options count findings) (ok_or (association findings) refusals.NoAssociation) input
     (granted (no_packets count findings) (and_then (with_association options count findings) (ok_or (association findings) refusals.NoAssociation)) input is) in
     let a = associated.value in

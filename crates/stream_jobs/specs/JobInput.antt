@@ -1,7 +1,7 @@
 -- What a job is made of: the programs and streams of a transport stream, and what is declared of their units.
-use Rattle.std.specs.Prelude.{ℕ, ◌==◌, Bool, if◌then◌else◌, List, [], ◌∷◌, ◌++◌, length, map, filter, flat_map, ok_or, Option, Some, None, Result, Ok}
+use Rattle.std.specs.Prelude.{ℕ, zero, suc, ◌==◌, Bool, if◌then◌else◌, List, [], ◌∷◌, ◌++◌, length, map, filter, flat_map, ok_or, Option, Some, None, Result, Ok, Err}
 use Rattle.std.specs.List.{list_any}
-use Rattle.std.specs.Option.{option_or}
+use Rattle.std.specs.Option.{option_or, option_map_or}
 use Rattle.psi_tables.specs.declared.pat.programs.Program.{Program}
 use Rattle.demux.specs.Views.{FindingView}
 use Rattle.stream_units.specs.Damage.{is_scrambled}
@@ -150,7 +150,43 @@ named_of options a = filter (is_selected_program options.programs) a.programs
 unfoldable pub with_association : JobOptionsView → ℕ → List FindingView → AssociationView → Result JobInputView JobRefusal
 with_association options count findings a = with_programs options count findings a (named_of options a) (programs_of (named_of options a) findings)
 
+-- what a stream of `count` whole packets gives, if nothing refuses the job
+unfoldable pub whole_input : JobOptionsView → ℕ → List FindingView → Result JobInputView JobRefusal
+whole_input options count findings =
+    unless (no_packets count findings) (and_then (with_association options count findings) (ok_or (association findings) refusals.NoAssociation))
+
+-- 3. Streams that are left out, since their units would refuse the job
+
+-- the PID of the stream whose stream_ids or stamps refuse a job
+unfoldable pub odd_pid : JobRefusal → Option ℕ
+odd_pid (refusals.OtherStreamId packet pid id first) = Some pid
+odd_pid (refusals.Stamps packet pid fault mended) = Some pid
+odd_pid (refusals.Dts pid fault) = Some pid
+odd_pid _ = None
+
+-- the options by which these PIDs are left out
+abbrev pub with_without : JobOptionsView → List ℕ → JobOptionsView
+with_without options without = record options { without = without }
+
+-- an input with other warnings before its own
+abbrev pub with_warnings : List Warning → JobInputView → JobInputView
+with_warnings before input = record input { warnings = before ++ input.warnings }
+
+-- what the other streams give, with the warning that this one is left out; if they give nothing, its refusal stays
+unfoldable pub without_odd : JobRefusal → ℕ → Result JobInputView JobRefusal → Result JobInputView JobRefusal
+without_odd why pid (Ok input) = Ok (with_warnings (warnings.LeftOut pid why ∷ []) input)
+without_odd why pid (Err later) = Err why
+
+-- an answer, or what the options without the stream that refuses it give
+unfoldable pub or_without : (List ℕ → Result JobInputView JobRefusal) → List ℕ → Result JobInputView JobRefusal → Result JobInputView JobRefusal
+or_without others without (Ok input) = Ok input
+or_without others without (Err why) = option_map_or (λ pid. without_odd why pid (others (without ++ pid ∷ []))) (odd_pid why) (Err why)
+
+-- at most n streams are left out beside these
+unfoldable pub leaving : ℕ → JobOptionsView → ℕ → List FindingView → List ℕ → Result JobInputView JobRefusal
+leaving zero options count findings without = whole_input (with_without options without) count findings
+leaving (suc n) options count findings without = or_without (leaving n options count findings) without (whole_input (with_without options without) count findings)
+
 -- what a stream of `count` whole packets gives
 unfoldable pub job_input : JobOptionsView → ℕ → List FindingView → Result JobInputView JobRefusal
-job_input options count findings =
-    unless (no_packets count findings) (and_then (with_association options count findings) (ok_or (association findings) refusals.NoAssociation))
+job_input options count findings = leaving 32 options count findings options.without

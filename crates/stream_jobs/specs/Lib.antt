@@ -16,6 +16,7 @@ pub mod Moments
 pub mod Declarations
 pub mod BufferWarnings
 pub mod JobInput
+pub mod LeftOut
 pub mod InputDrafts
 pub mod TakenStreams
 pub mod Texts

@@ -126,6 +126,7 @@ is_damage (warning.Information about) = true
 is_damage (warning.MapMoved program from to) = false
 is_damage (warning.HeaderBuffer pid said unit counted) = false
 is_damage (warning.Leak pid rate leak) = false
+is_damage (warning.LeftOut pid why) = true
 
 abbrev pub are_damaged : List Warning → Bool
 are_damaged warnings = list_any is_damage warnings

@@ -12,16 +12,17 @@ use crate::buffer_warnings::push_buffer_warnings;
 use crate::choices::choices;
 use crate::declarations::{StreamChoice, UnitCounts, count_units, too_long, too_many};
 use crate::information::JobInformation;
-use crate::input_draft::{InputDraft, input_draft};
+use crate::input_draft::InputDraft;
 use crate::job_options::JobOptions;
 use crate::job_programs::JobProgram;
 use crate::job_stream::TimedStream;
 use crate::job_tables::JobTable;
+use crate::left_out::{LeftDraft, draft_leaving, first_error};
 use crate::refusal::JobError;
 use crate::timed_streams::timed_streams;
 use crate::warning::Warning;
 use demux::Finding;
-use std::alloc::Global;
+use std::alloc::{AllocError, Global};
 use std::marker::Model;
 
 /// What a job is made of.
@@ -158,6 +159,17 @@ fn finished(
     )
 }
 
+// An input with other warnings before its own.
+fn with_warnings(before: Vec<Warning>, input: JobInput) -> Result<JobInput, AllocError>
+    ensures { IfOk result (λ i. i ≡ spec.with_warnings before.items input) }
+{
+    let mut warnings = before;
+    warnings.extend_from_slice(&input.warnings)?;
+    let mut input = input;
+    input.warnings = warnings;
+    Ok(input)
+}
+
 // What a job of these findings is made of, whose units' bodies are moved out of them.
 #[tactic(auto, unfolding(crate::specs::InputDrafts::Leads, crate::specs::Answers::Answers, crate::specs::Answers::Refuses))]
 fn input_of(
@@ -169,8 +181,11 @@ fn input_of(
     ensures value { Answers (spec.job_input options.now count (map finding_view findings.old)) result }
     ensures streams { IfOk result (AreStreams options.now.make_dts (map finding_view findings.old)) }
 {
-    let draft = input_draft(alloc, options, count, findings)?;
-    finished(alloc, options, draft, findings)
+    let LeftDraft { draft, left, first } = draft_leaving(alloc, options, count, findings)?;
+    match finished(alloc, options, draft, findings) {
+        Ok(input) => Ok(with_warnings(left, input)?),
+        Err(error) => Err(first_error(first, error)),
+    }
 }
 
 /// Returns what a job of these findings is made of; `count` is the number of whole packets of the stream. The streams of

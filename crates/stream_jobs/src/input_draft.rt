@@ -300,14 +300,14 @@ fn with_association(
 }
 
 /// Returns what a job of these findings is made of, step by step, but for the bytes of its units.
-#[tactic(auto, unfolding(crate::specs::JobInput::job_input, crate::specs::Answers::unless, crate::specs::Answers::and_then, crate::specs::InputDrafts::Leads, crate::specs::Answers::Refuses))]
+#[tactic(auto, unfolding(crate::specs::JobInput::whole_input, crate::specs::Answers::unless, crate::specs::Answers::and_then, crate::specs::InputDrafts::Leads, crate::specs::Answers::Refuses))]
 pub(crate) fn input_draft(
     alloc: Global,
     options: &JobOptions<'_>,
     count: u64,
     findings: &[Finding<'_>],
 ) -> Result<InputDraft, JobError>
-    ensures value { Leads (spec.job_input options.now count (map finding_view findings.now))
+    ensures value { Leads (spec.whole_input options.now count (map finding_view findings.now))
         (drafts.finished options.now (map finding_view findings.now)) result }
     ensures streams { IfOk result (λ d. All (IsMoved options.now.make_dts (map finding_view findings.now))
         (map (drafts.timed_stream (map finding_view findings.now)) d.streams)) }

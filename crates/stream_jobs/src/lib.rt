@@ -32,6 +32,7 @@ mod job_stream;
 mod job_tables;
 mod joined_inputs;
 mod laws;
+mod left_out;
 mod moved_streams;
 mod named_service;
 mod new_numbers;

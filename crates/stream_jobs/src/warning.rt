@@ -3,6 +3,7 @@
 ghost use Rattle.std.specs.Prelude.{◌≡◌};
 ghost use Rattle.stream_jobs.specs.Warnings as spec;
 
+use crate::refusal::JobRefusal;
 use service_information::InformationWarning;
 use stream_programs::{MapPart, TableOmission};
 use stream_units::UnitWarning;
@@ -107,6 +108,11 @@ pub enum Warning {
         rate: u64,
         leak: u32,
     },
+    /// The stream of this PID is left out, since its units would refuse the job.
+    LeftOut {
+        pid: u16,
+        why: JobRefusal,
+    },
 }
 
 impl PacketWarning {
@@ -156,6 +162,7 @@ impl Warning {
             Warning::MapMoved { .. } => false,
             Warning::HeaderBuffer { .. } => false,
             Warning::Leak { .. } => false,
+            Warning::LeftOut { .. } => true,
         }
     }
 }
