@@ -40,7 +40,7 @@ fn write_field(left_out: &FieldLeftOut, text: &mut String) -> Result<(), AllocEr
     text.push_str(field_text(field))
 }
 
-/// Returns a line for each field on a PID.
+/// Appends a line for each field on a PID.
 pub fn write_fields(fields: &[FieldLeftOut], text: &mut String) -> Result<(), AllocError>
     ensures { OnOk result (string_bytes text.new ≡ string_bytes text.old ++ spec.field_lines fields.now) }
 {

@@ -7,7 +7,7 @@ use service_information::InformationWarning;
 use std::alloc::AllocError;
 use std::fmt::Write;
 
-/// Returns the line of a warning.
+/// Appends the line of a warning.
 #[tactic(auto, unfolding(crate::specs::InformationLines::information_line))]
 pub(crate) fn write_information(
     warning: InformationWarning,

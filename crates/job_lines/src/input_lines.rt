@@ -65,7 +65,7 @@ fn write_note(names: &[&str], note: InputNote, text: &mut String) -> Result<(), 
     write_cause(note.cause, text)
 }
 
-/// Returns a line for each note; the inputs have these names.
+/// Appends a line for each note; the inputs have these names.
 pub fn write_notes(names: &[&str], notes: &[InputNote], text: &mut String) -> Result<(), AllocError>
     ensures { OnOk result (string_bytes text.new ≡ string_bytes text.old
         ++ spec.note_lines (map (λ s. s.now) names.now) notes.now) }

@@ -147,7 +147,7 @@ fn write_description(fault: DescFault, text: &mut String) -> Result<(), AllocErr
     write!(text, "description {code} {item}\n")
 }
 
-/// Returns the line of a refusal.
+/// Appends the line of a refusal.
 #[tactic(auto, unfolding(crate::specs::RefusalLine::refusal_line))]
 pub fn write_refusal(refusal: JobRefusal, text: &mut String) -> Result<(), AllocError>
     ensures { OnOk result (string_bytes text.new ≡ string_bytes text.old ++ spec.refusal_line refusal) }

@@ -16,7 +16,7 @@ fn write_slip(slip: &Slip, text: &mut String) -> Result<(), AllocError>
     write!(text, "packet {packet} slip of {size} bytes\n")
 }
 
-/// Returns a line for each slip.
+/// Appends a line for each slip.
 pub fn write_slips(slips: &[Slip], text: &mut String) -> Result<(), AllocError>
     ensures { OnOk result (string_bytes text.new ≡ string_bytes text.old ++ spec.slip_lines slips.now) }
 {

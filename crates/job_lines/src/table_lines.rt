@@ -40,7 +40,7 @@ fn write_other_table(table: &OtherTable, text: &mut String) -> Result<(), AllocE
     text.push_str(": left out\n")
 }
 
-/// Returns a line for each table.
+/// Appends a line for each table.
 pub fn write_other_tables(tables: &[OtherTable], text: &mut String) -> Result<(), AllocError>
     ensures { OnOk result (string_bytes text.new ≡ string_bytes text.old ++ spec.other_table_lines tables.now) }
 {

@@ -349,7 +349,7 @@ fn write_after(before: Option<u16>, warning: Warning, text: &mut String) -> Resu
     write_warning(warning, text)
 }
 
-/// Returns a line for each warning; one for each run of scrambled packets of a PID.
+/// Appends a line for each warning; one for each run of scrambled packets of a PID.
 pub fn write_warnings(all: &[Warning], text: &mut String) -> Result<(), AllocError>
     ensures { OnOk result (string_bytes text.new ≡ string_bytes text.old ++ spec.warning_lines all.now) }
 {

@@ -48,7 +48,7 @@ fn write_field<A: Allocator>(text: &mut String<A>, field: &(&str, u64)) -> Resul
     write_number(text, key, *number)
 }
 
-/// Returns each key with its number.
+/// Appends each key with its number.
 pub(crate) fn write_numbers<A: Allocator>(
     text: &mut String<A>,
     fields: &[(&str, u64)],
@@ -84,7 +84,7 @@ pub(crate) fn write_string<A: Allocator>(
     write!(text, "{key} = {value}\n")
 }
 
-/// Returns bytes as pairs of lower-case hexadecimal digits, and no line if there are none.
+/// Appends bytes as pairs of lower-case hexadecimal digits, and no line if there are none.
 #[tactic(auto, unfolding(crate::specs::KeyLines::hex_line))]
 pub(crate) fn write_hex<A: Allocator + Clone>(
     text: &mut String<A>,
@@ -124,7 +124,7 @@ fn write_array<A: Allocator>(
     write!(text, "]\n")
 }
 
-/// Returns numbers as an array, and no line if there are none.
+/// Appends numbers as an array, and no line if there are none.
 #[tactic(auto, using(crate::proofs::FlatArrays::list_written), unfolding(crate::specs::KeyLines::list_line))]
 pub(crate) fn write_list<A: Allocator>(
     text: &mut String<A>,
@@ -139,7 +139,7 @@ pub(crate) fn write_list<A: Allocator>(
     }
 }
 
-/// Returns bytes as pairs of lower-case hexadecimal digits, also if there are none.
+/// Appends bytes as pairs of lower-case hexadecimal digits, also if there are none.
 pub(crate) fn write_digits(
     alloc: Global,
     text: &mut String,
@@ -204,7 +204,7 @@ fn write_digits_array(
     write!(text, "]\n")
 }
 
-/// Returns bytes as strings of digits, in an array.
+/// Appends bytes as strings of digits, in an array.
 #[tactic(auto, using(crate::proofs::FlatArrays::digits_all), unfolding(crate::specs::KeyLines::key_line))]
 pub(crate) fn write_digits_list(
     alloc: Global,
@@ -221,7 +221,7 @@ pub(crate) fn write_digits_list(
     }
 }
 
-/// Returns the header of a table.
+/// Appends the header of a table.
 #[tactic(auto, unfolding(crate::specs::KeyLines::table_header))]
 pub(crate) fn write_table_header<A: Allocator>(
     text: &mut String<A>,
@@ -232,7 +232,7 @@ pub(crate) fn write_table_header<A: Allocator>(
     write!(text, "\n[{key}]\n")
 }
 
-/// Returns the header of an element of an array of tables.
+/// Appends the header of an element of an array of tables.
 #[tactic(auto, unfolding(crate::specs::KeyLines::header))]
 pub(crate) fn write_header<A: Allocator>(text: &mut String<A>, key: &str) -> Result<(), AllocError>
     ensures { OnOk result (string_bytes text.new ≡ string_bytes text.old ++ header key.now) }

@@ -108,7 +108,7 @@ impl PidCurves {
         Ok(())
     }
 
-    /// Returns the value of a window, if the PID has a curve.
+    /// Adds the value of a window, if the PID has a curve.
     pub fn take(&mut self, pid: u16, number: u64, value: u64) -> Result<(), AllocError>
         ensures { (kept : List KeptCurve) → AreCurves self.old.curves.items kept →
             OnOk result (AreCurves self.new.curves.items (with_sample pid (sample number value) kept)) }

@@ -108,7 +108,7 @@ impl Curve {
         self.slots[slot] = bounds;
     }
 
-    /// Returns the value of a window.
+    /// Adds the value of a window.
     pub fn take(&mut self, number: u64, value: u64) -> Result<(), AllocError>
         ensures { (samples : List Sample) → IsCurve self.old samples →
             OnOk result (IsCurve self.new (sample number value ∷ samples)) }

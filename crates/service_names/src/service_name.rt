@@ -73,7 +73,7 @@ impl ServiceName {
         })
     }
 
-    /// Returns what is found later counts in place of that.
+    /// Takes later findings in place of earlier ones.
     pub(crate) fn take(&mut self, alloc: Global, findings: &[Finding<'_>]) -> Result<(), AllocError>
         ensures { OnOk result (self.new ≡ spec.with_later (map finding_view findings.now) self.old) }
     {

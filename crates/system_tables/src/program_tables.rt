@@ -185,7 +185,7 @@ impl ProgramTables {
         Ok(ended)
     }
 
-    /// Returns a packet of the stream, with its index and PID: the excesses that end with it are appended.
+    /// Takes a packet of the stream, with its index and PID, and appends the excesses that end with it.
     pub(crate) fn take(
         &mut self,
         alloc: Global,

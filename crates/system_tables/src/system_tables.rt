@@ -84,7 +84,7 @@ impl SystemTables {
         Ok(())
     }
 
-    /// Returns the packet of a PID at an index: the excesses that end with it are appended.
+    /// Takes the packet of a PID at an index, and appends the excesses that end with it.
     #[tactic(auto, unfolding(crate::specs::Programs::known))]
     pub fn take(
         &mut self,

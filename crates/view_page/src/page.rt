@@ -53,7 +53,7 @@ impl Page {
         }
     }
 
-    /// Returns an event.
+    /// Takes an event.
     pub fn take(&mut self, event: &Event) -> Result<(), AllocError>
         ensures { (s : PageState) → IsPage self.old s → OnOk result (IsPage self.new (after_event s event.now)) }
     {

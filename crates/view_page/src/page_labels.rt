@@ -56,7 +56,7 @@ fn take_window(
     }
 }
 
-/// Returns an event.
+/// Takes an event.
 #[tactic(auto, unfolding(crate::specs::PageLabels::with_event))]
 pub(crate) fn take_label(
     alloc: Global,

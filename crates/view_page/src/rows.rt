@@ -158,7 +158,7 @@ impl Rows {
         write_row(&mut self.buffers, labels, cells)
     }
 
-    /// Returns an event, with what PIDs carry.
+    /// Takes an event, with what PIDs carry.
     #[tactic(auto, unfolding(crate::specs::Rows::with_event))]
     pub fn take(&mut self, labels: &PidLabels, event: &Event) -> Result<(), AllocError>
         ensures { OnOk result (self.new ≡ spec.with_event labels.now self.old event.now) }

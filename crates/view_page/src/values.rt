@@ -92,7 +92,7 @@ impl Values {
             .take(units.pid, units.number, short(units.slack) / 27)
     }
 
-    /// Returns an event.
+    /// Takes an event.
     #[tactic(auto, unfolding(crate::specs::Values::with_event))]
     pub fn take(&mut self, event: &Event) -> Result<(), AllocError>
         ensures { (kept : KeptValues) → AreValues self.old kept →
