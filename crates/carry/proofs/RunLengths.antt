@@ -1,6 +1,7 @@
 -- A run of more records than its input has bytes says no more.
-use Rattle.std.proofs.Common.{◌≡◌, ℕ, zero, suc, ◌+◌, ◌%◌, ◌<◌, ◌≤◌, false, List, [], ◌∷◌, ◌++◌, length, Option, Some, None, Result, Ok, Err, refl, ap, arith}
+use Rattle.std.proofs.Common.{◌≡◌, ℕ, zero, suc, ◌+◌, ◌%◌, ◌<◌, ◌≤◌, List, [], ◌∷◌, ◌++◌, length, Option, Some, None, Result, Ok, Err, refl, ap, arith}
 use Rattle.std.proofs.lemmas.List.{length-drop}
+use Rattle.ts_packet.specs.declared.start.Start.TheVariants.{Continues}
 use Rattle.ts_packet.specs.Packets.{packets, payload_packet}
 use Rattle.pes_packet.specs.AccessUnits.{AccessUnit}
 use Rattle.unit_records.specs.Records.{record_at, after_record, size_at}
@@ -39,4 +40,4 @@ pub packets_join : PacketsJoin
 unfolding payload_packets packets
 packets_join pid number start [] = refl
 packets_join pid number start (piece ∷ pieces) =
-    ap (λ (t : List ℕ). payload_packet pid start (number % 16) piece ++ t) (packets_join pid (number + 1) false pieces)
+    ap (λ (t : List ℕ). payload_packet pid start (number % 16) piece ++ t) (packets_join pid (number + 1) Continues pieces)

@@ -1,6 +1,7 @@
 -- What the laws of this crate say.
-use Rattle.std.specs.Prelude.{◌≡◌, ◌<◌, ℕ, Bool, List, length}
+use Rattle.std.specs.Prelude.{◌≡◌, ◌<◌, ℕ, List, length}
 use Rattle.std.specs.List.{concat}
+use Rattle.ts_packet.specs.declared.start.Start.{Start}
 use Rattle.ts_packet.specs.Packets.{packets}
 use Rattle.carry.specs.PidPackets.{payload_packets}
 use Rattle.carry.specs.RecordRuns.{run_from, run_of}
@@ -11,4 +12,4 @@ RunsAreWhole = (n id : ℕ) (xs : List ℕ) → length xs < n → run_from n id 
 
 -- the packets of payloads one by one, joined, are the packets of the payloads
 abbrev pub PacketsJoin : Type 0
-PacketsJoin = (pid number : ℕ) (start : Bool) (pieces : List (List ℕ)) → concat (payload_packets pid start number pieces) ≡ packets pid start number pieces
+PacketsJoin = (pid number : ℕ) (start : Start) (pieces : List (List ℕ)) → concat (payload_packets pid start number pieces) ≡ packets pid start number pieces

@@ -1,23 +1,28 @@
 -- The packets that units become on one PID.
-use Rattle.std.specs.Prelude.{ℕ, ◌+◌, ◌%◌, Bool, true, false, List, [], ◌∷◌, ◌++◌, length}
+use Rattle.std.specs.Prelude.{ℕ, ◌+◌, ◌%◌, true, List, [], ◌∷◌, ◌++◌, length}
+use Rattle.ts_packet.specs.declared.start.Start.{Start}
+use Rattle.ts_packet.specs.declared.start.Start.TheVariants.{Continues}
+use Rattle.ts_packet.specs.Beginnings.{start_by}
 use Rattle.ts_packet.specs.Packets.{payload_packet}
 use Rattle.pes_packet.specs.AccessUnits.{AccessUnit}
 use Rattle.pes_packet.specs.Encoding.{pes_packet_bytes}
-use Rattle.pes_packet.specs.Payloads.{pieces, piece_count}
+use Rattle.pes_packet.specs.Marks.{field_size}
+use Rattle.pes_packet.specs.Payloads.{piece_count, unit_pieces}
+use Rattle.unit_queue.specs.OwnedStreams.{has_access}
 
--- the packets of payloads on one PID: the first has this start indicator and this number on its PID, from which each counts on;
+-- the packets of payloads on one PID: the first begins so and has this number on its PID, from which each counts on;
 -- the continuity counter is the number modulo 16
-unfoldable pub payload_packets : ℕ → Bool → ℕ → List (List ℕ) → List (List ℕ)
+unfoldable pub payload_packets : ℕ → Start → ℕ → List (List ℕ) → List (List ℕ)
 payload_packets pid start number [] = []
-payload_packets pid start number (piece ∷ pieces) = payload_packet pid start (number % 16) piece ∷ payload_packets pid false (number + 1) pieces
+payload_packets pid start number (piece ∷ pieces) = payload_packet pid start (number % 16) piece ∷ payload_packets pid Continues (number + 1) pieces
 
 -- the packets of one unit, whose first has this number on its PID; stamps as they are given
 abbrev pub unit_packets : ℕ → ℕ → ℕ → AccessUnit → List (List ℕ)
-unit_packets pid id number unit = payload_packets pid true number (pieces (pes_packet_bytes id 0 unit))
+unit_packets pid id number unit = payload_packets pid (start_by true (has_access unit)) number (unit_pieces (has_access unit) (pes_packet_bytes id 0 unit))
 
 -- how many they are
 abbrev pub unit_count : ℕ → AccessUnit → ℕ
-unit_count id unit = piece_count (length (pes_packet_bytes id 0 unit))
+unit_count id unit = piece_count (field_size (has_access unit) + length (pes_packet_bytes id 0 unit))
 
 -- the packets of units one after the other
 unfoldable pub stream_packets : ℕ → ℕ → ℕ → List AccessUnit → List (List ℕ)

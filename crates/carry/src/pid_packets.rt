@@ -1,11 +1,13 @@
 //! The packets of a unit on its PID (ISO/IEC 13818-1, 2.4.3.2 and 2.4.3.6): one PES packet, which begins in a packet of
-//! its own and is cut into payloads of 184 bytes.
+//! its own and is cut into payloads of 184 bytes; the first has 182 if a decoder may begin with the unit (2.4.3.5).
 
 ghost use Rattle.std.specs.Prelude.{◌≡◌, ◌≤◌, ◌<◌, ℕ, ◌+◌, ◌%◌, ◌++◌, true, List, Option, IsTrue, IfOk, IfErr};
 ghost use Rattle.std.specs.Prelude.{OnOk, OnErr, length};
 ghost use Rattle.counted_io.specs.Device.{Failed};
 ghost use Rattle.pes_packet.specs.StreamIds.{fits_packet};
-ghost use Rattle.pes_packet.specs.Payloads.{pieces, piece_count};
+ghost use Rattle.pes_packet.specs.Marks.{field_size};
+ghost use Rattle.pes_packet.specs.Payloads.{piece_count, unit_pieces};
+ghost use Rattle.ts_packet.specs.Beginnings.{start_by};
 ghost use Rattle.packet_output.specs.Buffer.{IsOutput, Took};
 ghost use Rattle.carry.specs.PidPackets.{payload_packets, unit_packets, unit_count};
 ghost use Rattle.packet_output.specs.Formats.{formatted_all};
@@ -53,7 +55,8 @@ pub(crate) fn push_unit<A: Allocator, B: Allocator, W: Sink>(
     ensures fault { OnErr result (Failed (W.fault_count to.old) (W.fault_count to.new)) }
 {
     let header = write_header(id, unit.bytes.len(), unit.marks, unit.pts, unit.dts);
-    push_pieces(packets, to, pid, counter, &header, &unit.bytes)
+    let access = unit.marks.random_access;
+    push_pieces(packets, to, pid, counter, access, &header, &unit.bytes)
 }
 
 // Writes the packets of a PES packet, its header and then the unit.
@@ -62,6 +65,7 @@ fn push_pieces<A: Allocator, W: Sink>(
     to: &mut W,
     pid: u16,
     counter: u8,
+    access: bool,
     header: &[u8],
     bytes: &[u8],
 ) -> Result<u8, OutputFault>
@@ -71,13 +75,15 @@ fn push_pieces<A: Allocator, W: Sink>(
     requires upper { length header.now ≤ 45 }
     ensures ok { (start : Option (List ℕ)) (all : List ℕ) (number : ℕ) →
         IsOutput start (W.contents to.old) packets.old all → counter ≡ number % 16 →
-        IfOk result (λ next. (next ≡ (number + piece_count (length (header.now ++ bytes.now))) % 16)
+        IfOk result (λ next. (next ≡ (number + piece_count (field_size access + length (header.now ++ bytes.now))) % 16)
         × IsOutput start (W.contents to.new) packets.new
-        (all ++ formatted_all packets.old.hex (payload_packets pid true number (pieces (header.now ++ bytes.now))))) }
+        (all ++ formatted_all packets.old.hex (payload_packets pid (start_by true access) number
+        (unit_pieces access (header.now ++ bytes.now))))) }
     ensures err { (start : Option (List ℕ)) (all : List ℕ) (number : ℕ) →
         IsOutput start (W.contents to.old) packets.old all → counter ≡ number % 16 →
         IfErr result (λ fault. Took start (W.contents to.new) fault.sent
-        (all ++ formatted_all packets.old.hex (payload_packets pid true number (pieces (header.now ++ bytes.now))))) }
+        (all ++ formatted_all packets.old.hex (payload_packets pid (start_by true access) number
+        (unit_pieces access (header.now ++ bytes.now))))) }
     ensures next { IfOk result (λ next. next < 16) }
     ensures hex { packets.new.hex ≡ packets.old.hex }
     ensures clean { OnOk result (W.fault_count to.new ≡ W.fault_count to.old) }
@@ -86,7 +92,7 @@ fn push_pieces<A: Allocator, W: Sink>(
     let mut counter = counter;
     let mut sent = 0;
     'pieces: loop {
-        let more = write_piece(packets.room(), pid, counter, header, bytes, sent);
+        let more = write_piece(packets.room(), pid, counter, access, header, bytes, sent);
         match packets.push(to) {
             Ok(()) => {}
             Err(fault) => return Err(fault),

@@ -6,7 +6,7 @@ ghost use Rattle.clock27.specs.Laws.{FullnessLaw, FullnessBound, FullnessBefore,
 ghost use Rattle.clock27.specs.Laws.{TandemLaw, SecondLaw, ScaleLaw, ArrivalsScaleLaw, FullnessScaleLaw};
 ghost use Rattle.clock27.specs.Laws.{LimitLaw, ReleaseLaw};
 
-/// Departures of bytes that arrive in two parts.
+/// States when bytes leave that arrive in two parts.
 pub fn departures()
     ensures appended { DeparturesLaw }
     ensures last { LastLaw }

@@ -27,24 +27,24 @@ pub waits_for : (bytes : List ℕ) (header : PesHeader) (size least : ℕ) → h
 waits_for bytes header size least is e = least_by bytes (header, size) least (header.len == 0) is refl e
 
 -- where nothing more comes, one without a length ends with all that came
-endless : (packet : ℕ) (front body : List ℕ) (header : PesHeader) → header_at (front ++ body) ≡ Ok (header, length front) → header.len ≡ 0 →
-    ended false (Some (record { packet = packet; kind = unit_kinds.Pes; bytes = front ++ body })) ≡ whole_pes packet header body ∷ []
+endless : (packet : ℕ) (access : Bool) (front body : List ℕ) (header : PesHeader) → header_at (front ++ body) ≡ Ok (header, length front) → header.len ≡ 0 →
+    ended false (Some (record { packet = packet; kind = unit_kinds.Pes; access = access; bytes = front ++ body })) ≡ whole_pes packet access header body ∷ []
 unfolding ended begun_kind
-endless packet front body header is zero = rw (is, zero, after_front front body) refl
+endless packet access front body header is zero = rw (is, zero, after_front front body) refl
 
 take_whole : (xs : List ℕ) → take (length xs) xs ≡ xs
 take_whole [] = refl
 take_whole (x ∷ xs) = ap (λ (ys : List ℕ). x ∷ ys) (take_whole xs)
 
-pub endless_found : (open_unit : Option OpenUnit) (unit : OpenUnit) (packet : ℕ) (kind : UnitKind) (read : Option PesHeader) (front body : List ℕ) (header : PesHeader) (size : ℕ) →
-    open_unit ≡ Some unit → record { packet = packet; kind = kind; bytes = front ++ body } ≡ unit → IsFront read kind front (front ++ body) → read ≡ Some header →
-    header.len ≡ 0 → size ≡ length body → ended false open_unit ≡ whole_pes packet header (take size (body ++ [])) ∷ []
-endless_found open_unit unit packet kind read front body header size opened view stands some zero sized =
+pub endless_found : (open_unit : Option OpenUnit) (unit : OpenUnit) (packet : ℕ) (kind : UnitKind) (access : Bool) (read : Option PesHeader) (front body : List ℕ) (header : PesHeader) (size : ℕ) →
+    open_unit ≡ Some unit → record { packet = packet; kind = kind; access = access; bytes = front ++ body } ≡ unit → IsFront read kind front (front ++ body) → read ≡ Some header →
+    header.len ≡ 0 → size ≡ length body → ended false open_unit ≡ whole_pes packet access header (take size (body ++ [])) ∷ []
+endless_found open_unit unit packet kind access read front body header size opened view stands some zero sized =
     let head : IsFront (Some header) kind front (front ++ body) = subst (λ (o : Option PesHeader). IsFront o kind front (front ++ body)) some stands in
     let all : take size (body ++ []) ≡ body = ap (λ (n : ℕ). take n (body ++ [])) sized ∙ ap (take (length body)) (append-nil body) ∙ take_whole body in
     ap (ended false) opened ∙ ap (λ (u : OpenUnit). ended false (Some u)) (sym view)
-    ∙ ap (λ (k : UnitKind). ended false (Some (record { packet = packet; kind = k; bytes = front ++ body }))) head.0
-    ∙ endless packet front body header head.1 zero ∙ ap (λ (xs : List ℕ). whole_pes packet header xs ∷ []) (sym all)
+    ∙ ap (λ (k : UnitKind). ended false (Some (record { packet = packet; kind = k; access = access; bytes = front ++ body }))) head.0
+    ∙ endless packet access front body header head.1 zero ∙ ap (λ (xs : List ℕ). whole_pes packet access header xs ∷ []) (sym all)
 
 -- one with a length ends with the last of its bytes
 fewer : (n m : ℕ) → m ≤ n → nat_lt n m ≡ false
@@ -64,12 +64,12 @@ whole_decided front body payload header is more le =
       after_front front (body ++ payload),
     ) refl
 
-pub whole_found : (packet : ℕ) (front body payload : List ℕ) (header : PesHeader) → header_at (front ++ body) ≡ Ok (header, length front) → header.len ≢ 0 →
+pub whole_found : (packet : ℕ) (access : Bool) (front body payload : List ℕ) (header : PesHeader) → header_at (front ++ body) ≡ Ok (header, length front) → header.len ≢ 0 →
     6 + header.len ≤ length front + length body + length payload →
-    decided_by (record { packet = packet; kind = unit_kinds.Pes; bytes = (front ++ body) ++ payload })
-    ≡ whole_pes packet header (take (6 + header.len - length front) (body ++ payload)) ∷ []
+    decided_by (record { packet = packet; kind = unit_kinds.Pes; access = access; bytes = (front ++ body) ++ payload })
+    ≡ whole_pes packet access header (take (6 + header.len - length front) (body ++ payload)) ∷ []
 unfolding found_if begun_kind
-whole_found packet front body payload header is more le =
+whole_found packet access front body payload header is more le =
     rw (whole_decided front body payload header is more le, still_read (front ++ body) payload (header, length front) is) refl
 
 -- more bytes leave an open unit as it is, as long as all are fewer than the least that may decide it

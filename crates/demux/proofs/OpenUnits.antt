@@ -19,7 +19,7 @@ begins_more : (packet : ℕ) (r : Role) (a b : List ℕ) → begins packet r (a 
 unfolding begins
 begins_more packet NoPayload a b = refl
 begins_more packet ScrambledPayload a b = refl
-begins_more packet (PesStart payload) a b = ap (λ (x : List ℕ). Some (record { packet = packet; kind = unit_kinds.Pes; bytes = x })) (sym (append_assoc payload a b))
+begins_more packet (PesStart access payload) a b = ap (λ (x : List ℕ). Some (record { packet = packet; kind = unit_kinds.Pes; access = access; bytes = x })) (sym (append_assoc payload a b))
 begins_more packet (SectionStart before bytes) a b = by_rest (last_in 0 bytes)
   where
     by_rest : (o : Option (List ℕ)) → option_map (λ rest. section packet (rest ++ (a ++ b))) o ≡ option_map (λ p. appended p b) (option_map (λ rest. section packet (rest ++ a)) o)
@@ -33,7 +33,7 @@ begins_new : (packet : ℕ) (r : Role) (open_unit : Option OpenUnit) → role_di
 unfolding begins next_open undecided unless_decided
 begins_new packet NoPayload open_unit d = absurd cc
 begins_new packet ScrambledPayload open_unit d = refl
-begins_new packet (PesStart payload) open_unit d = ap (λ (x : List ℕ). undecided (record { packet = packet; kind = unit_kinds.Pes; bytes = x })) (append-nil payload)
+begins_new packet (PesStart access payload) open_unit d = ap (λ (x : List ℕ). undecided (record { packet = packet; kind = unit_kinds.Pes; access = access; bytes = x })) (append-nil payload)
 begins_new packet (SectionStart before bytes) open_unit d = by_rest (last_in 0 bytes) refl
   where
     by_rest : (o : Option (List ℕ)) → last_in 0 bytes ≡ o → option_and_then undecided (option_map (λ rest. section packet (rest ++ [])) o) ≡ option_map (section packet) o
@@ -47,7 +47,7 @@ begins_broken : (packet : ℕ) (r : Role) → option_and_then undecided (begins 
 unfolding begins next_open
 begins_broken packet NoPayload = refl
 begins_broken packet ScrambledPayload = refl
-begins_broken packet (PesStart payload) = begins_new packet (PesStart payload) None refl
+begins_broken packet (PesStart access payload) = begins_new packet (PesStart access payload) None refl
 begins_broken packet (SectionStart before bytes) = begins_new packet (SectionStart before bytes) None refl
 begins_broken packet PointerPastEnd = refl
 begins_broken packet (Continuation payload) = refl
@@ -70,7 +70,7 @@ unfolding next_open
 stays packet NoPayload p d = ap (λ (x : List ℕ). undecided (record p { bytes = x })) (append-nil p.bytes)
 stays packet (Continuation c) p d = grows packet c p
 stays packet ScrambledPayload p d = absurd cc
-stays packet (PesStart payload) p d = absurd cc
+stays packet (PesStart access payload) p d = absurd cc
 stays packet (SectionStart before bytes) p d = absurd cc
 stays packet PointerPastEnd p d = absurd cc
 
@@ -79,7 +79,7 @@ unfolding next_open
 stays_none packet NoPayload d = refl
 stays_none packet (Continuation c) d = refl
 stays_none packet ScrambledPayload d = absurd cc
-stays_none packet (PesStart payload) d = absurd cc
+stays_none packet (PesStart access payload) d = absurd cc
 stays_none packet (SectionStart before bytes) d = absurd cc
 stays_none packet PointerPastEnd d = absurd cc
 

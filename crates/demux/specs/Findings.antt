@@ -34,7 +34,7 @@ joined (m ∷ before) = if divides m then [] else joined before ++ continuing (r
 
 -- what begins in a packet and does not end by its own bytes, with these bytes after them
 unfoldable pub begins : ℕ → Role → List ℕ → Option OpenUnit
-begins packet (PesStart payload) more = Some (record { packet = packet; kind = unit_kinds.Pes; bytes = payload ++ more })
+begins packet (PesStart access payload) more = Some (record { packet = packet; kind = unit_kinds.Pes; access = access; bytes = payload ++ more })
 begins packet (SectionStart before bytes) more = option_map (λ rest. section packet (rest ++ more)) (last_in 0 bytes)
 begins packet _ more = None
 
@@ -106,7 +106,8 @@ found_appended payload (Some unit) = decided_by (appended unit payload)
 unfoldable pub by_role : ℕ → Role → Option OpenUnit → List Found
 by_role packet NoPayload open_unit = []
 by_role packet ScrambledPayload open_unit = plain IsScrambled ∷ cut_short open_unit
-by_role packet (PesStart payload) open_unit = ended false open_unit ++ decided_within (record { packet = packet; kind = unit_kinds.Pes; bytes = payload })
+by_role packet (PesStart access payload) open_unit =
+    ended false open_unit ++ decided_within (record { packet = packet; kind = unit_kinds.Pes; access = access; bytes = payload })
 by_role packet (SectionStart before bytes) open_unit = last_bytes before open_unit ++ sections_in packet 0 bytes
 by_role packet PointerPastEnd open_unit = plain (IsBadSection section_errors.Body) ∷ cut_short open_unit
 by_role packet (Continuation payload) open_unit = found_appended payload open_unit

@@ -21,7 +21,7 @@ fresh = record { last = None; open_unit = None }
 unfoldable pub next_open : ℕ → Role → Option OpenUnit → Option OpenUnit
 next_open packet NoPayload open_unit = open_unit
 next_open packet ScrambledPayload open_unit = None
-next_open packet (PesStart payload) open_unit = undecided (record { packet = packet; kind = unit_kinds.Pes; bytes = payload })
+next_open packet (PesStart access payload) open_unit = undecided (record { packet = packet; kind = unit_kinds.Pes; access = access; bytes = payload })
 next_open packet (SectionStart before bytes) open_unit = option_map (section packet) (last_in 0 bytes)
 next_open packet PointerPastEnd open_unit = None
 next_open packet (Continuation payload) None = None

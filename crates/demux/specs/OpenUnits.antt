@@ -16,10 +16,12 @@ pub use Rattle.demux.specs.declared.open_unit.UnitKind.{UnitKind}
 use Rattle.demux.specs.declared.open_unit.UnitKind.TheVariants as unit_kinds
 use Rattle.demux.specs.Views.{WhatView, IsTruncated, IsSection, IsBadSection, IsPes, IsBadPes, is_whole, Found}
 
--- from its first byte on, as far as it has come: the packet of that byte, and the bytes
+-- from its first byte on, as far as it has come: the packet of that byte, whether that packet has the random_access_indicator if it is a PES
+-- packet, and the bytes
 pub record OpenUnit : Type 0 where
   pub packet : ℕ
   pub kind : UnitKind
+  pub access : Bool
   pub bytes : List ℕ
 
 -- the most bytes that a PES packet without a length may have
@@ -70,22 +72,23 @@ abbrev pub has_pts : Result (PesHeader × ℕ) PesError → Bool
 has_pts (Err e) = false
 has_pts (Ok h) = is_stamped h.0.stamps
 
--- what begins: a section of a table_id, or a PES packet, whose header has a PTS if it could be read
-unfoldable pub begun_kind : UnitKind → List ℕ → Kind
-begun_kind unit_kinds.Pes bytes = Pes (has_pts (header_at bytes))
-begun_kind unit_kinds.Section bytes = Table (slice_index bytes 0)
+-- what begins: a section of a table_id, or a PES packet, whose header has a PTS if it could be read, and whose first packet has the
+-- random_access_indicator or not
+unfoldable pub begun_kind : UnitKind → Bool → List ℕ → Kind
+begun_kind unit_kinds.Pes access bytes = Pes (has_pts (header_at bytes)) access
+begun_kind unit_kinds.Section access bytes = Table (slice_index bytes 0)
 
 -- what is found of it
 abbrev pub about : OpenUnit → WhatView → Found
-about unit what = record { begun = Some (unit.packet, begun_kind unit.kind unit.bytes); what = what; within = false }
+about unit what = record { begun = Some (unit.packet, begun_kind unit.kind unit.access unit.bytes); what = what; within = false }
 
 -- what is found of it in the packet where it begins
 abbrev pub about_within : OpenUnit → WhatView → Found
-about_within unit what = record { begun = Some (unit.packet, begun_kind unit.kind unit.bytes); what = what; within = is_whole what }
+about_within unit what = record { begun = Some (unit.packet, begun_kind unit.kind unit.access unit.bytes); what = what; within = is_whole what }
 
 -- what is found of a PES packet with this header and body, with what comes after the packet where it began
-abbrev pub whole_pes : ℕ → PesHeader → List ℕ → Found
-whole_pes packet header body = record { begun = Some (packet, Pes (is_stamped header.stamps)); what = IsPes header false body; within = false }
+abbrev pub whole_pes : ℕ → Bool → PesHeader → List ℕ → Found
+whole_pes packet access header body = record { begun = Some (packet, Pes (is_stamped header.stamps) access); what = IsPes header false body; within = false }
 
 abbrev pub plain : WhatView → Found
 plain what = record { begun = None; what = what; within = false }
@@ -97,7 +100,7 @@ appended unit more = record unit { bytes = unit.bytes ++ more }
 -- Sections one after the other, up to a byte FF in a table_id's place (ISO/IEC 13818-1, 2.4.4).
 
 abbrev pub section : ℕ → List ℕ → OpenUnit
-section packet bytes = record { packet = packet; kind = unit_kinds.Section; bytes = bytes }
+section packet bytes = record { packet = packet; kind = unit_kinds.Section; access = false; bytes = bytes }
 
 -- stuffing, or nothing, is at the front
 abbrev pub is_stuffing : List ℕ → Bool

@@ -136,14 +136,14 @@ what_of bytes (verdicts.BadSection error) = IsBadSection error
 abbrev pub role_view : PayloadRole → Role
 role_view payload_roles.NoPayload = NoPayload
 role_view payload_roles.Scrambled = ScrambledPayload
-role_view (payload_roles.PesStart payload) = PesStart (payload_list payload)
+role_view (payload_roles.PesStart access payload) = PesStart access (payload_list payload)
 role_view (payload_roles.SectionStart before payload) = SectionStart before.now (payload_list payload)
 role_view payload_roles.PointerPastEnd = PointerPastEnd
 role_view (payload_roles.Continuation payload) = Continuation payload.now
 
 -- whether findings borrow the bytes that begin something, if there are any
 abbrev pub role_borrowed : Bool → PayloadRole → Bool
-role_borrowed otherwise (payload_roles.PesStart payload) = is_borrowed payload
+role_borrowed otherwise (payload_roles.PesStart access payload) = is_borrowed payload
 role_borrowed otherwise (payload_roles.SectionStart before payload) = is_borrowed payload
 role_borrowed otherwise payload_roles.NoPayload = otherwise
 role_borrowed otherwise payload_roles.Scrambled = otherwise

@@ -33,11 +33,14 @@ fn has_pts(bytes: &[u8]) -> bool
 
 /// Returns what begins with these bytes.
 #[tactic(auto, unfolding(crate::specs::OpenUnits::begun_kind))]
-pub(crate) fn begun_kind(kind: UnitKind, bytes: &[u8]) -> Kind
-    ensures { result ≡ units.begun_kind kind bytes.now }
+pub(crate) fn begun_kind(kind: UnitKind, access: bool, bytes: &[u8]) -> Kind
+    ensures { result ≡ units.begun_kind kind access bytes.now }
 {
     match kind {
-        UnitKind::Pes => Kind::Pes(has_pts(bytes)),
+        UnitKind::Pes => Kind::Pes {
+            stamped: has_pts(bytes),
+            access,
+        },
         UnitKind::Section => match bytes {
             [table_id, ..] => Kind::Table(*table_id),
             [] => Kind::Table(0),
@@ -51,15 +54,16 @@ pub(crate) fn note_decided<'a, A: Allocator + Clone>(
     place: Place,
     packet: u64,
     kind: UnitKind,
+    access: bool,
     bytes: &[u8],
     verdict: Verdict,
     found: &mut Vec<Finding<'a, A>, A>,
 ) -> Result<(), AllocError>
-    ensures ok { let unit : units.OpenUnit = record { packet = packet; kind = kind; bytes = bytes.now } in
+    ensures ok { let unit : units.OpenUnit = record { packet = packet; kind = kind; access = access; bytes = bytes.now } in
         OnOk result (Finds place found.old.items found.new.items (units.about unit (what_of unit.bytes verdict) ∷ [])) }
     ensures err { OnErr result (KeepsFindings found.old.items found.new.items) }
 {
-    let begun = begun_kind(kind, bytes);
+    let begun = begun_kind(kind, access, bytes);
     let what = what_by(alloc, verdict, PayloadBytes::Copied(bytes))?;
     note(place, Some((packet, begun)), what, found)
 }
@@ -69,6 +73,7 @@ pub(crate) fn note_decided_here<'p, 'a: 'p, A: Allocator + Clone>(
     alloc: &A,
     place: Place,
     kind: UnitKind,
+    access: bool,
     payload: PayloadBytes<'p, 'a>,
     verdict: Verdict,
     found: &mut Vec<Finding<'a, A>, A>,
@@ -77,13 +82,14 @@ pub(crate) fn note_decided_here<'p, 'a: 'p, A: Allocator + Clone>(
     ensures ok { let unit : units.OpenUnit = record {
       packet = place.packet;
       kind = kind;
+      access = access;
       bytes = payload_list payload.entry;
     } in
         OnOk result (Finds place found.old.items found.new.items
         (units.about_within unit (what_of unit.bytes verdict) ∷ [])) }
     ensures err { OnErr result (KeepsFindings found.old.items found.new.items) }
 {
-    let begun = begun_kind(kind, bytes_of(payload));
+    let begun = begun_kind(kind, access, bytes_of(payload));
     let what = what_by(alloc, verdict, payload)?;
     note_here(place, begun, what, found)
 }
@@ -105,6 +111,7 @@ fn with_room<A: Allocator>(alloc: A, bytes: &[u8], all: usize) -> Result<Vec<u8,
 fn open_pes<A: Allocator + Clone>(
     alloc: &A,
     packet: u64,
+    access: bool,
     head: Head<'_>,
 ) -> Result<OpenUnit<A>, AllocError>
     requires open { units.IsOpen head.header UnitKind.Pes head.front.now (head.front.now ++ head.rest.now) head.least }
@@ -112,6 +119,7 @@ fn open_pes<A: Allocator + Clone>(
     ensures { IfOk result (λ unit. unit ≡ record {
       packet = packet;
       kind = UnitKind.Pes;
+      access = access;
       bytes = head.entry.front.now ++ head.entry.rest.now;
     }) }
 {
@@ -124,6 +132,7 @@ fn open_pes<A: Allocator + Clone>(
     Ok(OpenUnit {
         packet,
         kind: UnitKind::Pes,
+        access,
         header: head.header,
         front,
         bytes,
@@ -131,11 +140,12 @@ fn open_pes<A: Allocator + Clone>(
     })
 }
 
-/// Returns a PES packet that begins.
+/// Returns a PES packet that begins, in a packet with the random_access_indicator or without.
 #[tactic(auto, unfolding(crate::specs::Findings::undecided, crate::specs::Findings::unless_decided, crate::specs::Findings::found_within))]
 pub(crate) fn begin_pes<'p, 'a: 'p, A: Allocator + Clone>(
     alloc: &A,
     place: Place,
+    access: bool,
     payload: PayloadBytes<'p, 'a>,
     found: &mut Vec<Finding<'a, A>, A>,
 ) -> Result<Option<OpenUnit<A>>, AllocError>
@@ -144,17 +154,23 @@ pub(crate) fn begin_pes<'p, 'a: 'p, A: Allocator + Clone>(
         (findings.decided_within (record {
           packet = place.packet;
           kind = UnitKind.Pes;
+          access = access;
           bytes = payload_list payload.entry;
         }))) }
     ensures begun { IfOk result (λ begun. begun ≡ findings.undecided
-        (record { packet = place.packet; kind = UnitKind.Pes; bytes = payload_list payload.entry })) }
+        (record {
+          packet = place.packet;
+          kind = UnitKind.Pes;
+          access = access;
+          bytes = payload_list payload.entry;
+        })) }
 {
     let bytes = bytes_of(payload);
     let head = head_of(bytes);
     match decide_first(head, bytes) {
-        None => Ok(Some(open_pes(alloc, place.packet, head)?)),
+        None => Ok(Some(open_pes(alloc, place.packet, access, head)?)),
         Some(verdict) => {
-            note_decided_here(alloc, place, UnitKind::Pes, payload, verdict, found)?;
+            note_decided_here(alloc, place, UnitKind::Pes, access, payload, verdict, found)?;
             Ok(None)
         }
     }

@@ -79,7 +79,7 @@ pub(crate) fn cut_short<'a, A: Allocator + Clone>(
         return Ok(());
     };
     let bytes = unit.joined(alloc, 0)?;
-    let begun = begun_kind(unit.kind, &bytes);
+    let begun = begun_kind(unit.kind, unit.access, &bytes);
     let what = What::Truncated(Part::Joined(bytes));
     note(place, Some((unit.packet, begun)), what, found)
 }
@@ -102,7 +102,7 @@ pub(crate) fn end_unit<'a, A: Allocator + Clone>(
         return Ok(());
     };
     let bytes = unit.joined(alloc, 0)?;
-    let begun = begun_kind(unit.kind, &bytes);
+    let begun = begun_kind(unit.kind, unit.access, &bytes);
     let what = end_of(alloc, unended, unit.kind, &bytes)?;
     note(place, Some((unit.packet, begun)), what, found)
 }
@@ -129,7 +129,10 @@ fn end_section<'a, A: Allocator + Clone>(
             let what = truncated(alloc, bytes)?;
             note(
                 place,
-                Some((unit.packet, begun_kind(UnitKind::Section, bytes))),
+                Some((
+                    unit.packet,
+                    begun_kind(UnitKind::Section, unit.access, bytes),
+                )),
                 what,
                 found,
             )
@@ -140,6 +143,7 @@ fn end_section<'a, A: Allocator + Clone>(
                 place,
                 unit.packet,
                 UnitKind::Section,
+                unit.access,
                 bytes,
                 verdict,
                 found,
@@ -148,7 +152,7 @@ fn end_section<'a, A: Allocator + Clone>(
     }
 }
 
-/// Returns the bytes before the place to which pointer_field points.
+/// Appends what the bytes before the place of pointer_field end: a section of the open unit.
 #[tactic(auto, unfolding(crate::specs::Findings::last_bytes, crate::specs::Findings::last_bytes_by))]
 pub(crate) fn end_before_pointer<'a, A: Allocator + Clone>(
     alloc: &A,
@@ -176,6 +180,7 @@ fn append_bytes<'a, A: Allocator + Clone>(
     place: Place,
     packet: u64,
     kind: UnitKind,
+    access: bool,
     payload: &[u8],
     bytes: &mut Vec<u8, A>,
     found: &mut Vec<Finding<'a, A>, A>,
@@ -183,7 +188,12 @@ fn append_bytes<'a, A: Allocator + Clone>(
     requires { length bytes.old.items ≤ units.max_unbounded_pes }
     ensures joined { IfOk result (λ decided. decided ≡ false → bytes.new.items ≡ bytes.old.items ++ payload.now) }
     ensures found { OnOk result (Finds place found.old.items found.new.items
-        (findings.decided_by (record { packet = packet; kind = kind; bytes = bytes.old.items ++ payload.now }))) }
+        (findings.decided_by (record {
+          packet = packet;
+          kind = kind;
+          access = access;
+          bytes = bytes.old.items ++ payload.now;
+        }))) }
     ensures decided { IfOk result (λ decided. decided ≡ is_some (units.decided kind (bytes.old.items ++ payload.now))) }
     ensures bounded { length bytes.new.items ≤ units.max_unbounded_pes }
     ensures err { OnErr result (bytes.new.items ≡ bytes.old.items) }
@@ -194,7 +204,7 @@ fn append_bytes<'a, A: Allocator + Clone>(
     let Some(verdict) = decide(kind, bytes) else {
         return Ok(false);
     };
-    match note_decided(alloc, place, packet, kind, bytes, verdict, found) {
+    match note_decided(alloc, place, packet, kind, access, bytes, verdict, found) {
         Ok(()) => {
             bytes.clear();
             Ok(true)
@@ -206,19 +216,20 @@ fn append_bytes<'a, A: Allocator + Clone>(
     }
 }
 
-// Notes a PES packet whose header was read: its body, of which there are to be `size` bytes, ends with this payload, and is
+// Notes a PES packet whose header was read, and that began in this packet, with the random_access_indicator or without: its body, of which there are to be `size` bytes, ends with this payload, and is
 // moved to the finding with its room: at most 4,096 bytes, or fewer than twice those that came.
 fn note_whole<'a, A: Allocator + Clone>(
     alloc: &A,
     place: Place,
-    begun: (u64, PesHeader),
+    begun: (u64, bool),
+    header: PesHeader,
     size: usize,
     payload: &[u8],
     body: &mut Vec<u8, A>,
     found: &mut Vec<Finding<'a, A>, A>,
 ) -> Result<(), AllocError>
     ensures ok { OnOk result (Finds place found.old.items found.new.items
-        (units.whole_pes begun.0 begun.1 (take size (body.old.items ++ payload.now)) ∷ [])) }
+        (units.whole_pes begun.0 begun.1 header (take size (body.old.items ++ payload.now)) ∷ [])) }
     ensures moved { OnOk result (body.new.items ≡ []) }
     ensures err { OnErr result (body.new.items ≡ body.old.items) }
     ensures none { OnErr result (KeepsFindings found.old.items found.new.items) }
@@ -230,11 +241,15 @@ fn note_whole<'a, A: Allocator + Clone>(
     body.extend_from_slice(payload)?;
     let mut whole = mem::replace(body, empty);
     whole.truncate(size);
-    let (packet, header) = begun;
+    let (packet, access) = begun;
+    let kind = Kind::Pes {
+        stamped: is_stamped(header.stamps),
+        access,
+    };
     found.push_reserved(Finding {
         packet: place.packet,
         pid: Some(place.pid),
-        begun: Some((packet, Kind::Pes(is_stamped(header.stamps)))),
+        begun: Some((packet, kind)),
         what: What::Pes {
             header,
             unended: false,
@@ -267,9 +282,18 @@ pub(crate) fn end_moved<'a, A: Allocator + Clone>(
     if header.len != 0 {
         return end_unit(alloc, place, false, open_unit, found);
     }
-    let begun = (unit.packet, header);
+    let begun = (unit.packet, unit.access);
     let size = unit.bytes.len();
-    note_whole(alloc, place, begun, size, &[], &mut unit.bytes, found)?;
+    note_whole(
+        alloc,
+        place,
+        begun,
+        header,
+        size,
+        &[],
+        &mut unit.bytes,
+        found,
+    )?;
     unit.least = 0;
     unit.header = None;
     unit.front.clear();
@@ -298,9 +322,18 @@ fn append_last<'a, A: Allocator + Clone>(
     if let Some(header) = unit.header {
         let end = 6 + header.len as usize;
         if header.len != 0 && end <= unit.front.len() + unit.bytes.len() + payload.len() {
-            let begun = (unit.packet, header);
+            let begun = (unit.packet, unit.access);
             let size = end.saturating_sub(unit.front.len());
-            note_whole(alloc, place, begun, size, payload, &mut unit.bytes, found)?;
+            note_whole(
+                alloc,
+                place,
+                begun,
+                header,
+                size,
+                payload,
+                &mut unit.bytes,
+                found,
+            )?;
             unit.least = 0;
             unit.header = None;
             unit.front.clear();
@@ -313,10 +346,20 @@ fn append_last<'a, A: Allocator + Clone>(
     unit.least = 0;
     let packet = unit.packet;
     let kind = unit.kind;
-    append_bytes(alloc, place, packet, kind, payload, &mut unit.bytes, found)
+    let access = unit.access;
+    append_bytes(
+        alloc,
+        place,
+        packet,
+        kind,
+        access,
+        payload,
+        &mut unit.bytes,
+        found,
+    )
 }
 
-/// Returns a payload that goes on with the open unit, where it stands; where that decides the unit, it is open no more.
+/// Appends a payload to the open unit, and closes the unit if that decides it.
 #[tactic(auto, unfolding(crate::specs::Findings::found_appended, crate::specs::Findings::found_if, crate::specs::Findings::undecided, crate::specs::Findings::unless_decided, crate::specs::Machine::next_open), using(crate::proofs::LeastSizes::still_open))]
 pub(crate) fn append_payload<'a, A: Allocator + Clone>(
     alloc: &A,

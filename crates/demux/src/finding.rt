@@ -12,8 +12,13 @@ use ts_packet::PacketError;
 pub enum Kind {
     /// a section, of this table_id
     Table(u8),
-    /// a PES packet; whether a header that was read has a PTS
-    Pes(bool),
+    /// a PES packet
+    Pes {
+        /// whether a header that was read has a PTS
+        stamped: bool,
+        /// whether the packet of its first byte has the random_access_indicator (ISO/IEC 13818-1, 2.4.3.5)
+        access: bool,
+    },
 }
 
 /// The bytes of a finding: a slice of the packet that was given where they lie in it whole, else joined.

@@ -8,12 +8,12 @@ use ts_packet::is_same_without_pcr;
 
 /// The last packet of a PID.
 #[derive(Drop)]
-pub(crate) struct Last {
-    pub duplicate: bool,
-    pub has_payload: bool,
-    pub counter: u8,
-    pub has_pcr: bool,
-    pub bytes: [u8; 188],
+pub struct Last {
+    pub(crate) duplicate: bool,
+    pub(crate) has_payload: bool,
+    pub(crate) counter: u8,
+    pub(crate) has_pcr: bool,
+    pub(crate) bytes: [u8; 188],
 }
 
 impl Model for Last {

@@ -28,7 +28,9 @@ pub use demultiplexer::{Demux, whole};
 pub use error::DemuxError;
 pub use finding::{Finding, Kind, Part, What};
 pub use going_on::pid_in;
+pub use last::Last;
 pub use laws::{
     each_pid_alone, each_pid_so_far, nothing_is_lost, packet_by_packet, packets_decide,
     pieces_join, taken_as_pushed,
 };
+pub use marks::{Mark, keep, mark_of};

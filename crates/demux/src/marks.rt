@@ -9,7 +9,7 @@ use ts_packet::{Adaptation, Packet, has_pcr};
 
 /// What a packet is to the one before it.
 #[derive(Clone, Copy)]
-pub(crate) enum Mark {
+pub enum Mark {
     /// the same once more
     Duplicate,
     Follows,
@@ -67,12 +67,7 @@ fn follows(last: &Last, index: u64, packet: &Packet<'_>, bytes: &[u8; 188]) -> M
 
 /// Returns the mark of a packet after the last one, if there is one.
 #[tactic(auto, unfolding(crate::specs::Marks::is_repeat, crate::specs::Marks::break_at))]
-pub(crate) fn mark_of(
-    last: &Option<Last>,
-    index: u64,
-    packet: &Packet<'_>,
-    bytes: &[u8; 188],
-) -> Mark
+pub fn mark_of(last: &Option<Last>, index: u64, packet: &Packet<'_>, bytes: &[u8; 188]) -> Mark
     ensures duplicate { mark_duplicate result ≡ marks.is_repeat last.now (entry_with index bytes.now packet.now) }
     ensures broken { mark_broken result ≡ marks.break_at last.now (entry_with index bytes.now packet.now) }
 {
@@ -105,13 +100,7 @@ fn seen(mark: Mark, index: u64, packet: &Packet<'_>, bytes: &[u8; 188]) -> Last
 
 /// Keeps a packet in the place of the last one; its bytes are written over that one's.
 #[tactic(auto, unfolding(crate::specs::Marks::seen))]
-pub(crate) fn keep(
-    last: &mut Option<Last>,
-    mark: Mark,
-    index: u64,
-    packet: &Packet<'_>,
-    bytes: &[u8; 188],
-)
+pub fn keep(last: &mut Option<Last>, mark: Mark, index: u64, packet: &Packet<'_>, bytes: &[u8; 188])
     ensures { last.new ≡ Some (marks.seen (record {
       entry = entry_with index bytes.now packet.now;
       duplicate = mark_duplicate mark;

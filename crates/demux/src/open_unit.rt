@@ -22,6 +22,8 @@ pub(crate) struct OpenUnit<A: Allocator> {
     // the packet of its first byte
     pub packet: u64,
     pub kind: UnitKind,
+    // of a PES packet: whether that packet has the random_access_indicator
+    pub access: bool,
     // of a PES packet, once it is read and stands apart
     pub header: Option<PesHeader>,
     // its bytes, none until then
@@ -38,7 +40,12 @@ impl<A: Allocator> Model for OpenUnit<A> {
 
     ghost Value = { units.OpenUnit };
 
-    ghost view = { λ u. record { packet = u.packet; kind = u.kind; bytes = u.front.items ++ u.bytes.items } };
+    ghost view = { λ u. record {
+      packet = u.packet;
+      kind = u.kind;
+      access = u.access;
+      bytes = u.front.items ++ u.bytes.items;
+    } };
 
     ghost invariant = { λ u. units.IsOpen u.header u.kind u.front.items (u.front.items ++ u.bytes.items) u.least };
 }

@@ -68,9 +68,9 @@ fn start_unit<'p, 'a: 'p, A: Allocator + Clone>(
             cut_short(alloc, place, open_unit, found)?;
             Ok(None)
         }
-        PayloadRole::PesStart(payload) => {
+        PayloadRole::PesStart(access, payload) => {
             end_unit(alloc, place, false, open_unit, found)?;
-            begin_pes(alloc, place, payload, found)
+            begin_pes(alloc, place, access, payload, found)
         }
         PayloadRole::SectionStart(before, payload) => {
             end_before_pointer(alloc, place, before, open_unit, found)?;
@@ -110,20 +110,21 @@ fn start_with_open<'p, 'a: 'p, A: Allocator + Clone>(
 fn start_pes<'p, 'a: 'p, A: Allocator + Clone>(
     alloc: &A,
     place: Place,
+    access: bool,
     payload: PayloadBytes<'p, 'a>,
     open_unit: &mut Option<OpenUnit<A>>,
     found: &mut Vec<Finding<'a, A>, A>,
 ) -> Result<(), AllocError>
     requires { is_borrowed payload ≡ place.borrowed }
     ensures found { OnOk result (Finds place found.old.items found.new.items
-        (findings.by_role place.packet (roles.PesStart (payload_list payload.entry)) open_unit.old)) }
+        (findings.by_role place.packet (roles.PesStart access (payload_list payload.entry)) open_unit.old)) }
     ensures next { OnOk result (open_unit.new ≡ machine.next_open place.packet
-        (roles.PesStart (payload_list payload.entry)) open_unit.old) }
+        (roles.PesStart access (payload_list payload.entry)) open_unit.old) }
     ensures err { OnErr result (open_unit.new ≡ open_unit.old) }
     ensures none { OnErr result (KeepsFindings found.old.items found.new.items) }
 {
     let mut begun = Vec::new(alloc.clone()?);
-    let next = begin_pes(alloc, place, payload, &mut begun)?;
+    let next = begin_pes(alloc, place, access, payload, &mut begun)?;
     found.reserve(begun.len() + 1)?;
     end_moved(alloc, place, open_unit, found)?;
     let Ok(()) = found.append(&mut begun) else {
@@ -191,7 +192,9 @@ fn on_next_counter<'p, 'a: 'p, A: Allocator + Clone>(
             alloc, place, payload, open_unit, found,
         ),
         PayloadRole::NoPayload => Ok(()),
-        PayloadRole::PesStart(payload) => start_pes(alloc, place, payload, open_unit, found),
+        PayloadRole::PesStart(access, payload) => start_pes(
+            alloc, place, access, payload, open_unit, found,
+        ),
         _ => start_with_open(alloc, place, role, open_unit, found),
     }
 }
@@ -271,7 +274,7 @@ impl<A: Allocator + Clone> PidState<A> {
         ensures none { OnErr result (KeepsFindings found.old.items found.new.items) }
     {
         let mark = mark_of(&self.last, place.packet, packet, bytes);
-        let role = role_of(&packet.header, payload);
+        let role = role_of(packet, payload);
         take_marked(alloc, place, mark, role, &mut self.open_unit, found)?;
         keep(&mut self.last, mark, place.packet, packet, bytes);
         Ok(())

@@ -1,10 +1,12 @@
 //! What a packet does with its payload (ISO/IEC 13818-1, 2.4.3.3, 2.4.3.6 and 2.4.4).
 ghost use Rattle.std.specs.Prelude.{◌≡◌, Bool, ◌==◌, option_map, if◌then◌else◌};
+ghost use Rattle.ts_packet.specs.Beginnings.{has_access, start_in};
+ghost use Rattle.ts_packet.specs.Views.{adaptation_view, packet_view};
 ghost use Rattle.demux.specs.Roles as roles;
 ghost use Rattle.demux.specs.Shown.{is_borrowed, payload_borrowed, payload_list, role_borrowed, role_view};
 
 use crate::payload_bytes::{PayloadBytes, after, bytes_of};
-use ts_packet::Header;
+use ts_packet::{Adaptation, Packet, Start};
 
 // packet_start_code_prefix.
 const START_CODE_PREFIX: [u8; 3] = [0x00, 0x00, 0x01];
@@ -14,8 +16,8 @@ const START_CODE_PREFIX: [u8; 3] = [0x00, 0x00, 0x01];
 pub(crate) enum PayloadRole<'p, 'a> {
     NoPayload,
     Scrambled,
-    /// the bytes of a PES packet from its first one on
-    PesStart(PayloadBytes<'p, 'a>),
+    /// a PES packet begins: whether the packet has the random_access_indicator, and the bytes from the first one on
+    PesStart(bool, PayloadBytes<'p, 'a>),
     /// the bytes before the place to which pointer_field points, and those from it on
     SectionStart(&'p [u8], PayloadBytes<'p, 'a>),
     /// pointer_field points past the end of the payload
@@ -53,8 +55,8 @@ fn role_by_pointer<'p, 'a: 'p>(payload: PayloadBytes<'p, 'a>) -> PayloadRole<'p,
 }
 
 #[tactic(auto, unfolding(crate::specs::Roles::role_by))]
-fn role_by<'p, 'a: 'p>(starts: bool, payload: Option<PayloadBytes<'p, 'a>>) -> PayloadRole<'p, 'a>
-    ensures role { role_view result ≡ roles.role_by starts (option_map payload_list payload.entry) }
+fn role_by<'p, 'a: 'p>(start: Start, payload: Option<PayloadBytes<'p, 'a>>) -> PayloadRole<'p, 'a>
+    ensures role { role_view result ≡ roles.role_by start (option_map payload_list payload.entry) }
     ensures borrowed { (borrowed : Bool) → payload_borrowed borrowed payload.entry ≡ borrowed →
         role_borrowed borrowed result ≡ borrowed }
 {
@@ -62,28 +64,43 @@ fn role_by<'p, 'a: 'p>(starts: bool, payload: Option<PayloadBytes<'p, 'a>>) -> P
         return PayloadRole::NoPayload;
     };
     let bytes = bytes_of(payload);
-    if !starts {
-        return PayloadRole::Continuation(bytes);
-    }
+    let access = match start {
+        Start::Continues => return PayloadRole::Continuation(bytes),
+        Start::Begins => false,
+        Start::Access => true,
+    };
     if may_begin_pes(bytes) {
-        return PayloadRole::PesStart(payload);
+        return PayloadRole::PesStart(access, payload);
     }
     role_by_pointer(payload)
 }
 
-/// Returns what a packet with this header does with this payload.
+// Whether an adaptation field has the random_access_indicator, if there is one.
+fn has_access(adaptation: &Option<Adaptation<'_>>) -> bool
+    ensures { result ≡ has_access (option_map adaptation_view adaptation.now) }
+{
+    match adaptation {
+        None => false,
+        Some(Adaptation::Empty) => false,
+        Some(Adaptation::Flagged(parts)) => parts.random_access_indicator,
+    }
+}
+
+/// Returns what a packet does with this payload.
 pub(crate) fn role_of<'p, 'a: 'p>(
-    header: &Header,
+    packet: &Packet<'_>,
     payload: Option<PayloadBytes<'p, 'a>>,
 ) -> PayloadRole<'p, 'a>
     ensures borrowed { (borrowed : Bool) → payload_borrowed borrowed payload.entry ≡ borrowed →
         role_borrowed borrowed result ≡ borrowed }
-    ensures role { role_view result ≡ (if header.now.transport_scrambling_control == 0
-        then roles.role_by header.now.payload_unit_start_indicator (option_map payload_list payload.entry)
+    ensures role { role_view result ≡ (if packet.now.header.transport_scrambling_control == 0
+        then roles.role_by (start_in (packet_view packet.now)) (option_map payload_list payload.entry)
         else roles.ScrambledPayload) }
 {
-    if header.transport_scrambling_control != 0 {
+    if packet.header.transport_scrambling_control != 0 {
         return PayloadRole::Scrambled;
     }
-    role_by(header.payload_unit_start_indicator, payload)
+    let access = has_access(&packet.adaptation);
+    let start = Start::of_unit(packet.header.payload_unit_start_indicator, access);
+    role_by(start, payload)
 }

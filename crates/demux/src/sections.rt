@@ -82,6 +82,7 @@ pub(crate) fn sections<'p, 'a: 'p, A: Allocator + Clone>(
                 return Ok(Some(OpenUnit {
                     packet: place.packet,
                     kind: UnitKind::Section,
+                    access: false,
                     header: None,
                     front: ArrayVec::new(),
                     bytes,
@@ -89,7 +90,7 @@ pub(crate) fn sections<'p, 'a: 'p, A: Allocator + Clone>(
                 }));
             }
             Some(verdict) => {
-                note_decided_here(alloc, place, UnitKind::Section, rest, verdict, found)?;
+                note_decided_here(alloc, place, UnitKind::Section, false, rest, verdict, found)?;
                 rest = after(rest, taken_by(bytes, verdict));
             }
         }

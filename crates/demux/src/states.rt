@@ -215,7 +215,7 @@ impl<A: Allocator + Copy> States<A> {
         }
     }
 
-    /// Returns what the end of the stream decides of the PIDs, in their order.
+    /// Appends what the end of the stream decides of each PID, in the order of the PIDs.
     pub fn end<'a>(&self, packet: u64, found: &mut Vec<Finding<'a, A>, A>) -> Result<(), AllocError>
         ensures found { OnOk result (AddsFindings found.old.items found.new.items (ended_found packet self.now)) }
         ensures joined { OnOk result (KeepsJoined found.old.items found.new.items) }

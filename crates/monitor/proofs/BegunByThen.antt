@@ -89,9 +89,9 @@ role_by : (index : ℕ) (r : Role) (held : Option OpenUnit) → part_by index he
 unfolding by_role
 role_by index NoPayload held h = tt
 role_by index ScrambledPayload held h = (tt, cut_by index held h)
-role_by index (PesStart payload) held h =
-    join index (ended false held) (decided_within (record { packet = index; kind = unit_kinds.Pes; bytes = payload })) (ended_by index false held h)
-    (within_by index (record { packet = index; kind = unit_kinds.Pes; bytes = payload }) (decided unit_kinds.Pes payload) (itself index))
+role_by index (PesStart access payload) held h =
+    join index (ended false held) (decided_within (record { packet = index; kind = unit_kinds.Pes; access = access; bytes = payload })) (ended_by index false held h)
+    (within_by index (record { packet = index; kind = unit_kinds.Pes; access = access; bytes = payload }) (decided unit_kinds.Pes payload) (itself index))
 role_by index (SectionStart before bytes) held h = join index (last_bytes before held) (sections_in index 0 bytes) (last_by index before held h) (sections_by index 0 bytes)
 role_by index PointerPastEnd held h = (tt, cut_by index held h)
 role_by index (Continuation payload) held h = goes_by index payload held h
@@ -124,7 +124,7 @@ next_by : (index : ℕ) (r : Role) (held : Option OpenUnit) → part_by index he
 unfolding next_open undecided
 next_by index NoPayload held h = h
 next_by index ScrambledPayload held h = tt
-next_by index (PesStart payload) held h = open_by index (record { packet = index; kind = unit_kinds.Pes; bytes = payload }) (decided unit_kinds.Pes payload) (itself index)
+next_by index (PesStart access payload) held h = open_by index (record { packet = index; kind = unit_kinds.Pes; access = access; bytes = payload }) (decided unit_kinds.Pes payload) (itself index)
 next_by index (SectionStart before bytes) held h = section_by index (last_in 0 bytes)
 next_by index PointerPastEnd held h = tt
 next_by index (Continuation payload) None h = tt

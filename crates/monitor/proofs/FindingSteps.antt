@@ -29,7 +29,7 @@ counts_on finding_counts (Some pid) what = finding_counts
 unfoldable pub table_begun : TableState → ℕ → Option (ℕ × Kind) → TableState
 table_begun s pid None = s
 table_begun s pid (Some (packet, Table table_id)) = watched s pid table_id packet
-table_begun s pid (Some (packet, Pes stamped)) = s
+table_begun s pid (Some (packet, Pes stamped access)) = s
 
 unfoldable pub table_on : TableState → Option ℕ → Option (ℕ × Kind) → TableState
 table_on s None begun = s
@@ -38,8 +38,8 @@ table_on s (Some pid) begun = table_begun s pid begun
 unfoldable pub pts_begun : RecurrenceState → ℕ → Option (ℕ × Kind) → RecurrenceState
 pts_begun s pid None = s
 pts_begun s pid (Some (packet, Table table_id)) = s
-pts_begun s pid (Some (packet, Pes true)) = marked s pid packet
-pts_begun s pid (Some (packet, Pes false)) = s
+pts_begun s pid (Some (packet, Pes true access)) = marked s pid packet
+pts_begun s pid (Some (packet, Pes false access)) = s
 
 unfoldable pub pts_on : RecurrenceState → Option ℕ → Option (ℕ × Kind) → RecurrenceState
 pts_on s None begun = s
@@ -48,7 +48,7 @@ pts_on s (Some pid) begun = pts_begun s pid begun
 unfoldable pub map_begun : ProgramMapState → ℕ → ℕ → Option (ℕ × Kind) → ProgramMapState
 map_begun s pid found None = s
 map_begun s pid found (Some (packet, Table table_id)) = cond (table_id == 0x02) (map_begins s pid found packet) s
-map_begun s pid found (Some (packet, Pes stamped)) = s
+map_begun s pid found (Some (packet, Pes stamped access)) = s
 
 unfoldable pub map_named : ProgramMapState → ℕ → ℕ → WhatView → ProgramMapState
 map_named s pid packet (IsSection bytes) = cond (pid == 0) (named_by s bytes packet) s
@@ -83,8 +83,8 @@ begun_is : (s : FindingState) (pid found : ℕ) (begun : Option (ℕ × Kind)) �
 unfolding begun_by begun_noted table_begun map_begun pts_begun
 begun_is s pid found None = refl
 begun_is s pid found (Some (packet, Table table_id)) = refl
-begun_is s pid found (Some (packet, Pes true)) = refl
-begun_is s pid found (Some (packet, Pes false)) = refl
+begun_is s pid found (Some (packet, Pes true access)) = refl
+begun_is s pid found (Some (packet, Pes false access)) = refl
 
 nothing_more : (s : FindingState) → s ≡ record s { faults = s.faults ++ [] }
 nothing_more s = ap (λ (xs : List StreamFault). record s { faults = xs }) (sym (append-nil s.faults))

@@ -187,7 +187,7 @@ begins pid q found s None h = by (q == pid)
     by : (t : Bool) → Kept pid s s (after_begin (lookup (nat_eq pid) s.named) (cond t None None)) (late_after s.limit_times_rate (lookup (nat_eq pid) s.named) (cond t None None))
     by true = no_begin pid s
     by false = no_begin pid s
-begins pid q found s (Some (x, Pes stamped)) h = by (q == pid)
+begins pid q found s (Some (x, Pes stamped access)) h = by (q == pid)
   where
     by : (t : Bool) → Kept pid s s (after_begin (lookup (nat_eq pid) s.named) (cond t None None)) (late_after s.limit_times_rate (lookup (nat_eq pid) s.named) (cond t None None))
     by true = no_begin pid s

@@ -121,7 +121,7 @@ begin_le pid packet x (Some q) None h e = by (q == pid) e
     by : (t : Bool) → cond t None None ≡ Some x → x ≤ packet
     by true k = absurd (none_some x k)
     by false k = absurd (none_some x k)
-begin_le pid packet x (Some q) (Some (y, Pes stamped)) h e = by (q == pid) e
+begin_le pid packet x (Some q) (Some (y, Pes stamped access)) h e = by (q == pid) e
   where
     by : (t : Bool) → cond t None None ≡ Some x → x ≤ packet
     by true k = absurd (none_some x k)

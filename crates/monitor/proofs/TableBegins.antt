@@ -69,7 +69,7 @@ table_step s pid None rest = by (pid == s.pid)
     by : (t : Bool) → s ≡ record s { marks = marked_all s.marks (on_pid s.pid (cond t [] [])) }
     by true = refl
     by false = refl
-table_step s pid (Some (packet, Pes stamped)) rest = by (pid == s.pid)
+table_step s pid (Some (packet, Pes stamped access)) rest = by (pid == s.pid)
   where
     by : (t : Bool) → s ≡ record s { marks = marked_all s.marks (on_pid s.pid (cond t [] [])) }
     by true = refl
@@ -145,8 +145,8 @@ unfolding pts_on pts_begun pts_begin marked_all
 pts_next s None begun = refl
 pts_next s (Some pid) None = refl
 pts_next s (Some pid) (Some (packet, Table table_id)) = refl
-pts_next s (Some pid) (Some (packet, Pes true)) = refl
-pts_next s (Some pid) (Some (packet, Pes false)) = refl
+pts_next s (Some pid) (Some (packet, Pes true access)) = refl
+pts_next s (Some pid) (Some (packet, Pes false access)) = refl
 
 pub pts_is : (s : RecurrenceState) (found : List FindingView) → pts_of_all s found ≡ marked_all s (pts_pairs found)
 unfolding pts_of_all marked_all

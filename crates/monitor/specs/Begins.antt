@@ -16,14 +16,14 @@ found_on pid bytes = if pid == 8191 then [] else findings_to_end (length bytes /
 unfoldable pub table_begin : ℕ → Option (ℕ × Kind) → Option ℕ
 table_begin table_id None = None
 table_begin table_id (Some (packet, Table other)) = if other == table_id then Some packet else None
-table_begin table_id (Some (packet, Pes stamped)) = None
+table_begin table_id (Some (packet, Pes stamped access)) = None
 
 -- the packet at which a PES packet begins whose header has a PTS
 unfoldable pub pts_begin : Option (ℕ × Kind) → Option ℕ
 pts_begin None = None
 pts_begin (Some (packet, Table table_id)) = None
-pts_begin (Some (packet, Pes true)) = Some packet
-pts_begin (Some (packet, Pes false)) = None
+pts_begin (Some (packet, Pes true access)) = Some packet
+pts_begin (Some (packet, Pes false access)) = None
 
 abbrev pub table_begins : ℕ → List PidFinding → List ℕ
 table_begins table_id found = filter_map (λ at. table_begin table_id at.found.begun) found

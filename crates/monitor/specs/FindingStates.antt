@@ -49,8 +49,8 @@ section_noted s pid found packet table_id = record s {
 
 unfoldable pub begun_noted : FindingState → ℕ → ℕ → ℕ → Kind → FindingState
 begun_noted s pid found packet (Table table_id) = section_noted s pid found packet table_id
-begun_noted s pid found packet (Pes true) = record s { pts = marked s.pts pid packet }
-begun_noted s pid found packet (Pes false) = s
+begun_noted s pid found packet (Pes true access) = record s { pts = marked s.pts pid packet }
+begun_noted s pid found packet (Pes false access) = s
 
 abbrev pub failed : FindingState → ℕ → Rule → ℕ → FindingState
 failed s packet rule pid = record s { faults = s.faults ++ (record { packet = packet; rule = rule; pid = Some pid }) ∷ [] }

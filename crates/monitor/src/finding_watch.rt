@@ -106,8 +106,8 @@ impl<A: Allocator + Copy> FindingWatch<A> {
     {
         match kind {
             Kind::Table(table_id) => self.begin_section(pid, found, packet, table_id),
-            Kind::Pes(true) => self.pts.mark(pid, packet),
-            Kind::Pes(false) => Ok(()),
+            Kind::Pes { stamped: true, .. } => self.pts.mark(pid, packet),
+            Kind::Pes { stamped: false, .. } => Ok(()),
         }
     }
 

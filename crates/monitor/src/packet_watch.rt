@@ -63,7 +63,7 @@ impl<A: Allocator + Copy> PacketWatch<A> {
         self.packet_counts.entries()
     }
 
-    /// Returns a rule fails at a packet.
+    /// Appends a fault: the packet breaks the rule.
     pub fn fail(&mut self, packet: u64, rule: Rule) -> Result<(), AllocError>
         ensures { OnOk result (self.new ≡ record self.old {
           faults = self.old.faults ++
@@ -108,7 +108,7 @@ impl<A: Allocator + Copy> PacketWatch<A> {
         count_packet(&mut self.packet_counts, pid, false)
     }
 
-    /// Returns a packet of the stream, as it was read.
+    /// Takes a packet of the stream, as it was read.
     #[tactic(auto, unfolding(crate::specs::PacketStates::packet_watched_by))]
     pub fn take(
         &mut self,

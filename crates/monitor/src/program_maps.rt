@@ -118,7 +118,7 @@ impl<A: Allocator + Copy> ProgramMapWatch<A> {
         Ok(())
     }
 
-    /// Returns a section ended on PID 0, at a packet.
+    /// Takes a section that ended on PID 0 with a packet.
     #[tactic(auto, unfolding(crate::specs::ProgramMaps::named_by))]
     pub fn read(&mut self, section: &[u8], packet: u64) -> Result<(), AllocError>
         ensures { OnOk result (self.new ≡ named_by self.old section.now packet) }
@@ -126,7 +126,7 @@ impl<A: Allocator + Copy> ProgramMapWatch<A> {
         self.name_programs(programs_in_section(section), packet)
     }
 
-    /// Returns a program map section that was found at a packet began on a PID.
+    /// Takes the beginning of a program map section on a PID, which was found at a packet.
     #[tactic(auto, unfolding(crate::specs::ProgramMaps::map_begins_at, crate::specs::ProgramMaps::late_map))]
     pub fn begin(&mut self, pid: u16, found: u64, packet: u64) -> Result<(), AllocError>
         ensures { OnOk result (self.new ≡ map_begins self.old pid found packet) }

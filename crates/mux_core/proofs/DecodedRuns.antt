@@ -10,7 +10,7 @@ use Rattle.std.proofs.lemmas.List.Folds.{flat_map-map}
 use Rattle.std.proofs.lemmas.List.Elements.{All-nil, All-cons, All-head, All-tail}
 use Rattle.std.proofs.lemmas.Option.{slice_get-map}
 use Rattle.pes_packet.specs.AccessUnits.{AccessUnit}
-use Rattle.pes_packet.specs.Payloads.{pieces}
+use Rattle.pes_packet.specs.Marks.{field_size}
 use Rattle.ts_packet.specs.Packets.{null_view}
 use Rattle.ts_packet.specs.Reading.{packet_at}
 use Rattle.ts_packet.specs.PidList.{Entry, entry_of, cut_packets, entries_of, is_of_pid, pid_list, payload_of}
@@ -25,17 +25,18 @@ use Rattle.unit_timing.specs.Transport.{pes_left, slots_of}
 use Rattle.unit_timing.proofs.LateUnits.{late_law}
 use Rattle.clock27.specs.Arrival.{arrivals}
 use Rattle.clock27.specs.Departure.{departures}
-use Rattle.unit_queue.specs.OwnedStreams.{OwnedStream, pes_bytes}
-use Rattle.unit_queue.specs.Payloads.{marked, all_pieces}
+use Rattle.unit_queue.specs.OwnedStreams.{OwnedStream, pes_bytes, has_access}
+use Rattle.unit_queue.specs.Payloads.{all_pieces}
 use Rattle.unit_queue.proofs.Leftover.{text_some}
 use Rattle.tstd.specs.Carried.{packets_on, timed_pes_packets}
 use Rattle.mux_core.specs.Scheduled.{Scheduled}
 use Rattle.mux_core.specs.Histories.{owned_stream}
-use Rattle.mux_core.specs.Headline.{StreamKept, Headline, IsTransportPacket, IsNamed}
-use Rattle.mux_core.specs.Decoder.{Follow, pieces_on, put_together}
+use Rattle.mux_core.specs.Headline.{StreamKept, Headline, IsTransportPacket, IsNamed, IsAccessAtStart}
+use Rattle.mux_core.specs.Decoder.{Follow, pieces_on, put_together, cut_thing}
 use Rattle.mux_core.specs.DecodedRuns.{IsDue, Arrives, StreamDecoded, DecodedLaw}
 use Rattle.mux_core.proofs.KnownRanges.{stream_range}
-use Rattle.mux_core.proofs.PutUnits.{bytes_in, cut_all, pes_whole}
+use Rattle.mux_core.proofs.RandomAccess.{access_on}
+use Rattle.mux_core.proofs.PutUnits.{Sent, SentBytes, bytes_in, cut_one, cut_all, sent_bytes, pes_whole}
 use Rattle.mux_core.proofs.UnitBytes.{unit_bytes, unit_left, left_few, piece_bytes}
 
 -- ---- counters
@@ -127,12 +128,23 @@ null_alone d (e ∷ es) r all =
 
 -- ---- units
 
-all_cut : (l : OwnedStream) (us : List AccessUnit) → all_pieces l us ≡ cut_all (map (pes_bytes l) us)
-all_cut l us = sym (flat_map-map (marked true) pieces (map (pes_bytes l) us) ∙ flat_map-map (λ (p : List ℕ). marked true (pieces p)) (pes_bytes l) us)
+-- a unit's PES packet, and whether a decoder may begin with it
+abbrev sent_as : OwnedStream → AccessUnit → Sent
+sent_as l u = (has_access u, pes_bytes l u)
 
-some_bytes : (l : OwnedStream) (us : List AccessUnit) → All (λ p. 1 ≤ length p) (map (pes_bytes l) us)
-some_bytes l [] = All-nil (λ (p : List ℕ). 1 ≤ length p)
-some_bytes l (u ∷ us) = All-cons (λ (p : List ℕ). 1 ≤ length p) (pes_bytes l u) (map (pes_bytes l) us) (omega (arith, text_some l u)) (some_bytes l us)
+all_cut : (l : OwnedStream) (us : List AccessUnit) → all_pieces l us ≡ cut_all (map (sent_as l) us)
+all_cut l us = sym (flat_map-map cut_thing cut_one (map (sent_as l) us) ∙ flat_map-map (λ (p : Sent). cut_thing (cut_one p)) (sent_as l) us)
+
+some_bytes : (l : OwnedStream) (us : List AccessUnit) → All SentBytes (map (sent_as l) us)
+some_bytes l [] = All-nil SentBytes
+some_bytes l (u ∷ us) = All-cons SentBytes (sent_as l u) (map (sent_as l) us) (omega (arith, text_some l u)) (some_bytes l us)
+
+-- the PES packets alone
+bytes_sent : (l : OwnedStream) (us : List AccessUnit) (k : ℕ) → sent_bytes (take k (map (sent_as l) us)) ≡ take k (map (pes_bytes l) us)
+bytes_sent l [] zero = refl
+bytes_sent l [] (suc k) = refl
+bytes_sent l (u ∷ us) zero = refl
+bytes_sent l (u ∷ us) (suc k) = ap (λ (ps : List (List ℕ)). pes_bytes l u ∷ ps) (bytes_sent l us k)
 
 with_next : (pes : List (List ℕ)) (p : List ℕ) (i : ℕ) → slice_get pes i ≡ Some p → length (concat (take (suc i) pes)) ≡ length (concat (take i pes)) + length p
 with_next [] p i is = absurd (let no : ⊥ = cc in no)
@@ -157,7 +169,7 @@ came d k s units slots bytes i u kept is due =
     let left : List ℕ = pes_left d.description.rate s.rx 0 (packets_on s.pid bytes) in
     let all : AllLeft d.description.rate s.rx slots (timed_pes_packets s.stream_id d.description.base0 units) (pes_left d.description.rate s.rx 0 (packets_on s.pid bytes)) =
     late_law.all_left rate s.rx slots 0 (timed_pes_packets s.stream_id d.description.base0 units) left kept.arrived in
-    let mine = unit_left (λ (x : AccessUnit). x.dts) (pes_bytes l) rate s.rx slots units u i left all is due in
+    let mine = unit_left (λ (x : AccessUnit). x.dts) (pes_bytes l) (λ (x : AccessUnit). field_size x.marks.random_access) rate s.rx slots units u i left all is due in
     let some = text_some l u in
     let enough : length (concat (take i (map (pes_bytes (owned_stream d k s)) units))) + length (pes_bytes (owned_stream d k s) u)
     ≤ length (pes_left d.description.rate s.rx 0 (packets_on s.pid bytes)) =
@@ -166,14 +178,18 @@ came d k s units slots bytes i u kept is due =
     record { sent = omega (arith, enough, few); left = enough; in_time = mine.1 }
 
 pub stream_decoded : (d : Scheduled) (k : ℕ) (s : DescribedStream) (units : List AccessUnit) (slots : ℕ) (bytes : List ℕ) → IsInRange d.description →
-    slice_get d.description.streams k ≡ Some s → StreamKept d k s units slots bytes → StreamDecoded d k s units slots bytes
-stream_decoded d k s units slots bytes r there kept = record {
+    slice_get d.description.streams k ≡ Some s → All (λ e. IsAccessAtStart e.packet) (entries_of bytes) → StreamKept d k s units slots bytes →
+    StreamDecoded d k s units slots bytes
+stream_decoded d k s units slots bytes r there known kept = record {
   follow = count_on (pid_list s.pid bytes) kept.counters;
+  access = access_on s.pid bytes (all_pieces l units) known kept.pieces;
   whole = λ i u is due.
       let c = came d k s units slots bytes i u kept is due in
       let size = with_next pes (pes_bytes l u) i (named i u is) in
-      pes_whole pes (pes_bytes l u) (length (pid_list s.pid bytes)) i (pieces_on s.pid bytes) (some_bytes l units) (named i u is)
-      (kept.pieces ∙ ap (take (length (pid_list s.pid bytes))) (all_cut l units)) (omega (arith, size, c.sent, piece_bytes (pid_list s.pid bytes)));
+      let same = ap (λ (ps : List (List ℕ)). length (concat ps)) (bytes_sent l units (suc i)) in
+      pes_whole (map (sent_as l) units) (sent_as l u) (length (pid_list s.pid bytes)) i (pieces_on s.pid bytes) (some_bytes l units)
+      (slice_get-map (sent_as l) units i ∙ ap (option_map (sent_as l)) is)
+      (kept.pieces ∙ ap (take (length (pid_list s.pid bytes))) (all_cut l units)) (omega (arith, same, size, c.sent, piece_bytes (pid_list s.pid bytes)));
   arrive = λ i u is due.
       let c = came d k s units slots bytes i u kept is due in
       record { there = unit_bytes pes (pes_bytes l u) _ i kept.carried (named i u is) c.sent; left = c.left; in_time = c.in_time };
@@ -202,6 +218,6 @@ decoded d units slots bytes r h =
       unmarked = all_clear d.description (entries_of bytes) h.pids;
       silent = λ pid other none. none_listed d.description pid (entries_of bytes) other none h.pids;
       nulls = null_alone d.description (entries_of bytes) r h.pids;
-      streams = λ k s is. stream_decoded d k s (units k) slots bytes r is (h.streams k s is);
+      streams = λ k s is. stream_decoded d k s (units k) slots bytes r is h.access (h.streams k s is);
       tables = λ t lt. count_on (pid_list _ bytes) (h.tables t lt).sections.counters;
     }

@@ -8,6 +8,7 @@ pub mod ContentPids
 pub mod TablesRead
 pub mod Programs
 pub mod Sizes
+pub mod RandomAccess
 pub mod StreamsAlone
 pub mod StreamsKept
 pub mod Whole

@@ -5,65 +5,77 @@ use Rattle.std.proofs.Math.Seq.{take-append-add}
 use Rattle.std.proofs.lemmas.List.{length-append}
 use Rattle.std.proofs.lemmas.List.Concat.{flat_map-cons}
 use Rattle.std.proofs.lemmas.List.Elements.{All-head, All-tail}
+use Rattle.ts_packet.specs.declared.start.Start.{Start}
+use Rattle.ts_packet.specs.declared.start.Start.TheVariants.{Continues}
+use Rattle.ts_packet.specs.Beginnings.{start_by}
 use Rattle.slot_contents.specs.Contents.{Piece}
 use Rattle.unit_queue.specs.Payloads.{marked}
-use Rattle.mux_core.specs.Decoder.{until_next, put_together, PutLaw}
+use Rattle.mux_core.specs.Decoder.{until_next, put_together, cut_thing, PutLaw}
 
-abbrev pub all_marked : List (List (List ℕ)) → List Piece
-all_marked cs = flat_map (marked true) cs
+abbrev pub all_marked : List (Bool × List (List ℕ)) → List Piece
+all_marked cs = flat_map cut_thing cs
 
-abbrev pub IsSome : List (List ℕ) → Type 0
-IsSome c = 1 ≤ length c
+abbrev pub IsSome : Bool × List (List ℕ) → Type 0
+IsSome c = 1 ≤ length c.1
 
-pub marked_length : (b : Bool) (c : List (List ℕ)) → length (marked b c) ≡ length c
+pub marked_length : (start : Start) (c : List (List ℕ)) → length (marked start c) ≡ length c
 unfolding marked
-marked_length b [] = refl
-marked_length b (x ∷ xs) = ap suc (marked_length false xs)
+marked_length start [] = refl
+marked_length start (x ∷ xs) = ap suc (marked_length Continues xs)
 
 -- nothing is left of the one before where the next begins
-anew : (cs : List (List (List ℕ))) (k : ℕ) → All IsSome cs → until_next (take k (all_marked cs)) ≡ []
+anew : (cs : List (Bool × List (List ℕ))) (k : ℕ) → All IsSome cs → until_next (take k (all_marked cs)) ≡ []
 unfolding until_next marked
 anew [] zero some = refl
 anew [] (suc k) some = refl
 anew (c ∷ cs) zero some = refl
-anew ([] ∷ cs) (suc k) some = absurd (let no = All-head IsSome [] cs some in omega (arith, no))
-anew ((b ∷ bs) ∷ cs) (suc k) some = refl
+anew ((access, []) ∷ cs) (suc k) some = absurd (let no = All-head IsSome (access, []) cs some in omega (arith, no))
+anew ((true, b ∷ bs) ∷ cs) (suc k) some = refl
+anew ((false, b ∷ bs) ∷ cs) (suc k) some = refl
 
 -- the rest of one thing, and what comes after it
-until_rest : (bs : List (List ℕ)) (rest : List Piece) → until_next rest ≡ [] → until_next (marked false bs ++ rest) ≡ concat bs
+until_rest : (bs : List (List ℕ)) (rest : List Piece) → until_next rest ≡ [] → until_next (marked Continues bs ++ rest) ≡ concat bs
 unfolding until_next marked
 until_rest [] rest none = none
 until_rest (b ∷ bs) rest none = ap (λ (x : List ℕ). b ++ x) (until_rest bs rest none)
 
-put_rest : (bs : List (List ℕ)) (rest : List Piece) → put_together (marked false bs ++ rest) ≡ put_together rest
+put_rest : (bs : List (List ℕ)) (rest : List Piece) → put_together (marked Continues bs ++ rest) ≡ put_together rest
 unfolding put_together marked
 put_rest [] rest = refl
 put_rest (b ∷ bs) rest = put_rest bs rest
 
-put_first : (c : List (List ℕ)) (rest : List Piece) → 1 ≤ length c → until_next rest ≡ [] → put_together (marked true c ++ rest) ≡ concat c ∷ put_together rest
+put_first : (access : Bool) (c : List (List ℕ)) (rest : List Piece) → 1 ≤ length c → until_next rest ≡ [] →
+    put_together (marked (start_by true access) c ++ rest) ≡ concat c ∷ put_together rest
 unfolding put_together marked
-put_first [] rest some none = absurd (omega (arith, some))
-put_first (b ∷ bs) rest some none =
+put_first access [] rest some none = absurd (omega (arith, some))
+put_first true (b ∷ bs) rest some none =
+    ap₂ (λ (x : List ℕ) (ys : List (List ℕ)). (b ++ x) ∷ ys) (until_rest bs rest none) (put_rest bs rest)
+put_first false (b ∷ bs) rest some none =
     ap₂ (λ (x : List ℕ) (ys : List (List ℕ)). (b ++ x) ∷ ys) (until_rest bs rest none) (put_rest bs rest)
 
 -- the first thing is whole: it, and what is put together of the rest
-put_more : (c : List (List ℕ)) (cs : List (List (List ℕ))) (m : ℕ) → All IsSome (c ∷ cs) → length c ≤ m →
-    put_together (take m (all_marked (c ∷ cs))) ≡ concat c ∷ put_together (take (m - length c) (all_marked cs))
+put_more : (c : Bool × List (List ℕ)) (cs : List (Bool × List (List ℕ))) (m : ℕ) → All IsSome (c ∷ cs) → length c.1 ≤ m →
+    put_together (take m (all_marked (c ∷ cs))) ≡ concat c.1 ∷ put_together (take (m - length c.1) (all_marked cs))
 put_more c cs m some enough =
-    let size : m ≡ length (marked true c) + (m - length c) = omega (arith, enough, marked_length true c) in
-    let cut : take m (all_marked (c ∷ cs)) ≡ marked true c ++ take (m - length c) (all_marked cs) =
-    ap (take m) (flat_map-cons (marked true) c cs) ∙ ap (λ (n : ℕ). take n (marked true c ++ all_marked cs)) size ∙ take-append-add (marked true c) (all_marked cs) (m - length c) in
-    ap put_together cut ∙ put_first c (take (m - length c) (all_marked cs)) (All-head IsSome c cs some) (anew cs (m - length c) (All-tail IsSome c cs some))
+    let start = start_by true c.0 in
+    let size : m ≡ length (marked (start_by true c.0) c.1) + (m - length c.1) = omega (arith, enough, marked_length start c.1) in
+    let cut : take m (all_marked (c ∷ cs)) ≡ marked (start_by true c.0) c.1 ++ take (m - length c.1) (all_marked cs) =
+    ap (take m) (flat_map-cons cut_thing c cs) ∙ ap (λ (n : ℕ). take n (marked (start_by true c.0) c.1 ++ all_marked cs)) size
+    ∙ take-append-add (marked (start_by true c.0) c.1) (all_marked cs) (m - length c.1) in
+    ap put_together cut
+    ∙ put_first c.0 c.1 (take (m - length c.1) (all_marked cs)) (All-head IsSome c cs some) (anew cs (m - length c.1) (All-tail IsSome c cs some))
 
 pub put_law : PutLaw
 put_law [] c m i some is enough = absurd (let no : ⊥ = cc in no)
 put_law (x ∷ cs) c m zero some is enough =
     let same : x ≡ c = cc in
-    let size = ap length (flat_map-cons (marked true) x []) ∙ length-append (marked true x) [] in
-    let few : length x ≤ m = omega (arith, size, marked_length true x, enough) in
-    ap (λ (xs : List (List ℕ)). slice_get xs 0) (put_more x cs m some few) ∙ ap (λ (y : List (List ℕ)). Some (concat y)) same
+    let start = start_by true x.0 in
+    let size = ap length (flat_map-cons cut_thing x []) ∙ length-append (marked start x.1) [] in
+    let few : length x.1 ≤ m = omega (arith, size, marked_length start x.1, enough) in
+    ap (λ (xs : List (List ℕ)). slice_get xs 0) (put_more x cs m some few) ∙ ap (λ (y : Bool × List (List ℕ)). Some (concat y.1)) same
 put_law (x ∷ cs) c m (suc i) some is enough =
-    let size = ap length (flat_map-cons (marked true) x (take (suc i) cs)) ∙ length-append (marked true x) (all_marked (take (suc i) cs)) in
-    let few : length x ≤ m = omega (arith, size, marked_length true x, enough) in
-    let rest : length (all_marked (take (suc i) cs)) ≤ m - length x = omega (arith, size, marked_length true x, enough) in
-    ap (λ (xs : List (List ℕ)). slice_get xs (suc i)) (put_more x cs m some few) ∙ put_law cs c (m - length x) i (All-tail IsSome x cs some) is rest
+    let start = start_by true x.0 in
+    let size = ap length (flat_map-cons cut_thing x (take (suc i) cs)) ∙ length-append (marked start x.1) (all_marked (take (suc i) cs)) in
+    let few : length x.1 ≤ m = omega (arith, size, marked_length start x.1, enough) in
+    let rest : length (all_marked (take (suc i) cs)) ≤ m - length x.1 = omega (arith, size, marked_length start x.1, enough) in
+    ap (λ (xs : List (List ℕ)). slice_get xs (suc i)) (put_more x cs m some few) ∙ put_law cs c (m - length x.1) i (All-tail IsSome x cs some) is rest

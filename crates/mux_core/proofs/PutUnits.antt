@@ -3,15 +3,19 @@ use Rattle.std.proofs.Common.{◌≡◌, ◌≤◌, ◌<◌, ℕ, zero, suc, ◌
 use Rattle.std.specs.List.{concat, flat_map}
 use Rattle.std.proofs.lemmas.Bool.{cases_lt}
 use Rattle.std.proofs.lemmas.Grind.{flat_map-append}
-use Rattle.std.proofs.lemmas.List.{length-append, take-append-le, take-append-drop, take-map}
+use Rattle.std.proofs.lemmas.List.{length-append, length-take, take-append-le, take-append-drop, take-map}
 use Rattle.std.proofs.lemmas.List.Concat.{flat_map-cons}
-use Rattle.std.proofs.lemmas.List.Elements.{All-nil, All-cons, All-head, All-tail, All-append}
+use Rattle.std.proofs.lemmas.List.Elements.{All-nil, All-cons, All-head, All-tail, All-append, All-take}
 use Rattle.std.proofs.lemmas.Option.{slice_get-map}
-use Rattle.pes_packet.specs.Payloads.{pieces}
+use Rattle.pes_packet.specs.Payloads.{pieces, unit_pieces}
 use Rattle.pes_packet.proofs.Payloads.{payloads_join}
+use Rattle.pes_packet.proofs.UnitPieces.{unit_pieces_join}
+use Rattle.ts_packet.specs.declared.start.Start.{Start}
+use Rattle.ts_packet.specs.declared.start.Start.TheVariants.{Continues}
+use Rattle.ts_packet.specs.Beginnings.{start_by}
 use Rattle.slot_contents.specs.Contents.{Piece}
 use Rattle.unit_queue.specs.Payloads.{marked}
-use Rattle.mux_core.specs.Decoder.{put_together}
+use Rattle.mux_core.specs.Decoder.{put_together, cut_thing}
 use Rattle.mux_core.proofs.PutTogether.{IsSome, all_marked, put_law}
 
 -- the bytes of payloads
@@ -43,60 +47,86 @@ enough front rest m some le = elim (cases_lt m (length front)) [
       absurd (omega (arith, same, le, fewer front m some lt))
 ]
 
-marked_bytes : (b : Bool) (c : List (List ℕ)) → bytes_in (marked b c) ≡ length (concat c)
+marked_bytes : (start : Start) (c : List (List ℕ)) → bytes_in (marked start c) ≡ length (concat c)
 unfolding bytes_in marked
-marked_bytes b [] = refl
-marked_bytes b (x ∷ xs) = omega (arith, marked_bytes false xs, length-append x (concat xs))
+marked_bytes start [] = refl
+marked_bytes start (x ∷ xs) = omega (arith, marked_bytes Continues xs, length-append x (concat xs))
 
 abbrev SomeBytes : List ℕ → Type 0
 SomeBytes x = 1 ≤ length x
 
-marked_some : (b : Bool) (c : List (List ℕ)) → All SomeBytes c → All HasBytes (marked b c)
+marked_some : (start : Start) (c : List (List ℕ)) → All SomeBytes c → All HasBytes (marked start c)
 unfolding marked
-marked_some b [] some = All-nil HasBytes
-marked_some b (x ∷ xs) some =
-    All-cons HasBytes (record { start = b; bytes = x }) (marked false xs) (All-head SomeBytes x xs some) (marked_some false xs (All-tail SomeBytes x xs some))
+marked_some start [] some = All-nil HasBytes
+marked_some start (x ∷ xs) some =
+    All-cons HasBytes (record { start = start; bytes = x }) (marked Continues xs) (All-head SomeBytes x xs some) (marked_some Continues xs (All-tail SomeBytes x xs some))
 
--- ---- of PES packets
+-- ---- of PES packets, each with whether a decoder may begin with it
 
-abbrev pub cut_all : List (List ℕ) → List Piece
-cut_all pes = all_marked (map pieces pes)
+abbrev pub Sent : Type 0
+Sent = Bool × List ℕ
 
-cut_bytes : (pes : List (List ℕ)) → bytes_in (cut_all pes) ≡ length (concat pes)
+abbrev pub SentBytes : Sent → Type 0
+SentBytes p = 1 ≤ length p.1
+
+abbrev pub cut_one : Sent → Bool × List (List ℕ)
+cut_one p = (p.0, unit_pieces p.0 p.1)
+
+abbrev pub cut_all : List Sent → List Piece
+cut_all pes = all_marked (map cut_one pes)
+
+abbrev pub sent_bytes : List Sent → List (List ℕ)
+sent_bytes pes = map (λ p. p.1) pes
+
+-- none of its payloads is empty
+unit_some : (access : Bool) (pes : List ℕ) → 1 ≤ length pes → All SomeBytes (unit_pieces access pes)
+unfolding unit_pieces
+unit_some true pes some =
+    All-cons SomeBytes (take 182 pes) (pieces (drop 182 pes)) (omega (arith, some, length-take 182 pes)) (payloads_join (drop 182 pes)).some
+unit_some false pes some = (payloads_join pes).some
+
+cut_bytes : (pes : List Sent) → bytes_in (cut_all pes) ≡ length (concat (sent_bytes pes))
 cut_bytes [] = unfold bytes_in in refl
 cut_bytes (p ∷ pes) =
-    let first : bytes_in (marked true (pieces p)) ≡ length p = marked_bytes true (pieces p) ∙ ap length (payloads_join p).joined in
-    let parts = ap bytes_in (flat_map-cons (marked true) (pieces p) (map pieces pes)) ∙ bytes_append (marked true (pieces p)) (cut_all pes) in
-    omega (arith, parts, first, cut_bytes pes, length-append p (concat pes))
+    let start = start_by true p.0 in
+    let first : bytes_in (marked (start_by true p.0) (unit_pieces p.0 p.1)) ≡ length p.1 =
+    marked_bytes start (unit_pieces p.0 p.1) ∙ ap length (unit_pieces_join p.0 p.1).joined in
+    let parts = ap bytes_in (flat_map-cons cut_thing (cut_one p) (map cut_one pes)) ∙ bytes_append (marked start (unit_pieces p.0 p.1)) (cut_all pes) in
+    omega (arith, parts, first, cut_bytes pes, length-append p.1 (concat (sent_bytes pes)))
 
-cut_some : (pes : List (List ℕ)) → All HasBytes (cut_all pes)
-cut_some [] = All-nil HasBytes
-cut_some (p ∷ pes) =
-    subst (All HasBytes) (sym (flat_map-cons (marked true) (pieces p) (map pieces pes)))
-    (All-append HasBytes (marked true (pieces p)) (cut_all pes) (marked_some true (pieces p) (payloads_join p).some) (cut_some pes))
+cut_some : (pes : List Sent) → All SentBytes pes → All HasBytes (cut_all pes)
+cut_some [] some = All-nil HasBytes
+cut_some (p ∷ pes) some =
+    let start = start_by true p.0 in
+    subst (All HasBytes) (sym (flat_map-cons cut_thing (cut_one p) (map cut_one pes)))
+    (All-append HasBytes (marked start (unit_pieces p.0 p.1)) (cut_all pes)
+    (marked_some start (unit_pieces p.0 p.1) (unit_some p.0 p.1 (All-head SentBytes p pes some))) (cut_some pes (All-tail SentBytes p pes some)))
 
-some_pieces : (pes : List (List ℕ)) → All SomeBytes pes → All IsSome (map pieces pes)
+some_pieces : (pes : List Sent) → All SentBytes pes → All IsSome (map cut_one pes)
 some_pieces [] some = All-nil IsSome
 some_pieces (p ∷ pes) some =
-    let least = All-head SomeBytes p pes some in
-    let count = (payloads_join p).count in
-    All-cons IsSome (pieces p) (map pieces pes) (omega (arith, count, least)) (some_pieces pes (All-tail SomeBytes p pes some))
+    let least = All-head SentBytes p pes some in
+    let count = (unit_pieces_join p.0 p.1).count in
+    All-cons IsSome (cut_one p) (map cut_one pes) (omega (arith, count, least)) (some_pieces pes (All-tail SentBytes p pes some))
+
+all_take : (pes : List Sent) (k : ℕ) → All SentBytes pes → All SentBytes (take k pes)
+all_take pes k some = All-take SentBytes k pes some
 
 -- payloads that are the first of those that PES packets are cut into, as far as the end of one: it is whole
-pub pes_whole : (pes : List (List ℕ)) (p : List ℕ) (m i : ℕ) (ps : List Piece) → All SomeBytes pes → slice_get pes i ≡ Some p → ps ≡ take m (cut_all pes) →
-    length (concat (take (suc i) pes)) ≤ bytes_in ps → slice_get (put_together ps) i ≡ Some p
+pub pes_whole : (pes : List Sent) (p : Sent) (m i : ℕ) (ps : List Piece) → All SentBytes pes → slice_get pes i ≡ Some p → ps ≡ take m (cut_all pes) →
+    length (concat (sent_bytes (take (suc i) pes))) ≤ bytes_in ps → slice_get (put_together ps) i ≡ Some p.1
 pes_whole pes p m i ps some is cut le =
-    let front : List (List ℕ) = take (suc i) pes in
-    let rest : List (List (List ℕ)) = drop (suc i) (map pieces pes) in
-    let there : slice_get (map pieces pes) i ≡ Some (pieces p) = slice_get-map pieces pes i ∙ ap (λ o. option_map pieces o) is in
-    let heads : take (suc i) (map pieces pes) ≡ map pieces front = take-map pieces (suc i) pes in
+    let front : List Sent = take (suc i) pes in
+    let rest : List (Bool × List (List ℕ)) = drop (suc i) (map cut_one pes) in
+    let there : slice_get (map cut_one pes) i ≡ Some (cut_one p) = slice_get-map cut_one pes i ∙ ap (λ o. option_map cut_one o) is in
+    let heads : take (suc i) (map cut_one pes) ≡ map cut_one front = take-map cut_one (suc i) pes in
     let parts : cut_all pes ≡ cut_all front ++ all_marked rest =
-    ap all_marked (sym (take-append-drop (suc i) (map pieces pes))) ∙ flat_map-append (marked true) (take (suc i) (map pieces pes)) rest
-    ∙ ap (λ (cs : List (List (List ℕ))). all_marked cs ++ all_marked rest) heads in
-    let size : bytes_in (cut_all front) ≡ length (concat front) = cut_bytes front in
+    ap all_marked (sym (take-append-drop (suc i) (map cut_one pes))) ∙ flat_map-append cut_thing (take (suc i) (map cut_one pes)) rest
+    ∙ ap (λ (cs : List (Bool × List (List ℕ))). all_marked cs ++ all_marked rest) heads in
+    let size : bytes_in (cut_all front) ≡ length (concat (sent_bytes front)) = cut_bytes front in
     let bytes : bytes_in ps ≡ bytes_in (take m (cut_all front ++ all_marked rest)) = ap bytes_in cut ∙ ap (λ (x : List Piece). bytes_in (take m x)) parts in
-    let few : length (cut_all front) ≤ m = enough (cut_all front) (all_marked rest) m (cut_some front) (omega (arith, size, bytes, le)) in
-    let within : length (all_marked (take (suc i) (map pieces pes))) ≤ m =
-    subst (λ (cs : List (List (List ℕ))). length (all_marked cs) ≤ m) (sym heads) few in
-    ap (λ (x : List Piece). slice_get (put_together x) i) cut ∙ put_law (map pieces pes) (pieces p) m i (some_pieces pes some) there within
-    ∙ ap Some (payloads_join p).joined
+    let few : length (cut_all front) ≤ m = enough (cut_all front) (all_marked rest) m (cut_some front (all_take pes (suc i) some)) (omega (arith, size, bytes, le)) in
+    let within : length (all_marked (take (suc i) (map cut_one pes))) ≤ m =
+    subst (λ (cs : List (Bool × List (List ℕ))). length (all_marked cs) ≤ m) (sym heads) few in
+    ap (λ (x : List Piece). slice_get (put_together x) i) cut ∙ put_law (map cut_one pes) (cut_one p) m i (some_pieces pes some) there within
+    ∙ ap Some (unit_pieces_join p.0 p.1).joined

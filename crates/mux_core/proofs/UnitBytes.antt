@@ -50,22 +50,22 @@ unit_bytes pes p payloads i carried is le =
 -- ---- departures
 
 -- when the bytes of one unit leave
-pub unit_left : {X : Type 0} (dts : X → ℕ) (pes : X → List ℕ) (rate r n : ℕ) (us : List X) (u : X) (i : ℕ) (left : List ℕ) →
-    AllLeft rate r n (map (λ x. record { dts = dts x; size = length (pes x) }) us) left → slice_get us i ≡ Some u → dts u * rate ≤ n * 135360000 →
+pub unit_left : {X : Type 0} (dts : X → ℕ) (pes : X → List ℕ) (front : X → ℕ) (rate r n : ℕ) (us : List X) (u : X) (i : ℕ) (left : List ℕ) →
+    AllLeft rate r n (map (λ x. record { dts = dts x; size = length (pes x); front = front x }) us) left → slice_get us i ≡ Some u → dts u * rate ≤ n * 135360000 →
     (length (pes u) ≤ length (drop (length (concat (take i (map pes us)))) left))
     × All (λ d. d * 720000 ≤ dts u * rate * r) (take (length (pes u)) (drop (length (concat (take i (map pes us)))) left))
 unfolding AllLeft
-unit_left dts pes rate r n [] u i left all is due = absurd (let no : ⊥ = cc in no)
-unit_left {X} dts pes rate r n (x ∷ us) u zero left all is due =
+unit_left dts pes front rate r n [] u i left all is due = absurd (let no : ⊥ = cc in no)
+unit_left {X} dts pes front rate r n (x ∷ us) u zero left all is due =
     let same : x ≡ u = cc in
     subst (λ (y : X). (length (pes y) ≤ length left) × All (λ d. d * 720000 ≤ dts y * rate * r) (take (length (pes y)) left)) same
     (all.0 (subst (λ (y : X). dts y * rate ≤ n * 135360000) (sym same) due))
-unit_left {X} dts pes rate r n (x ∷ us) u (suc i) left all is due =
+unit_left {X} dts pes front rate r n (x ∷ us) u (suc i) left all is due =
     let before : length (pes x ++ concat (take i (map pes us))) ≡ length (pes x) + length (concat (take i (map pes us))) = length-append (pes x) (concat (take i (map pes us))) in
     let there : drop (length (pes x ++ concat (take i (map pes us)))) left ≡ drop (length (concat (take i (map pes us)))) (drop (length (pes x)) left) =
     ap (λ (k : ℕ). drop k left) before ∙ sym (drop-drop (length (concat (take i (map pes us)))) (length (pes x)) left) in
     subst (λ (l : List ℕ). (length (pes u) ≤ length l) × All (λ d. d * 720000 ≤ dts u * rate * r) (take (length (pes u)) l)) (sym there)
-    (unit_left dts pes rate r n us u i (drop (length (pes x)) left) all.1 is due)
+    (unit_left dts pes front rate r n us u i (drop (length (pes x)) left) all.1 is due)
 
 -- no more bytes leave than came
 pub left_few : (es : List Entry) (ds : List ℕ) →

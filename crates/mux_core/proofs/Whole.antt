@@ -12,6 +12,7 @@ use Rattle.mux_core.proofs.ContentPids.{StreamsFit, content_fits}
 use Rattle.mux_core.proofs.TablesRead.{table_kept}
 use Rattle.mux_core.proofs.Programs.{program_kept}
 use Rattle.mux_core.proofs.Sizes.{all_read, pids_known}
+use Rattle.mux_core.proofs.RandomAccess.{access_known}
 use Rattle.mux_core.proofs.StreamsAlone.{stream_alone}
 use Rattle.mux_core.proofs.StreamsKept.{stream_kept}
 
@@ -29,6 +30,7 @@ headline d units slots r promised kept =
       size = run_length (content_at d units) 0 slots fits;
       packets = all_read (content_at d units) slots fits;
       pids = pids_known d units slots fits;
+      access = access_known (content_at d units) slots fits;
       streams = λ k s is. stream_kept d k s (units k) (content_at d units) slots is (stream_alone d units k s r fits is) (kept.kept k s is) promised;
       programs = λ i p is. program_kept d units slots i p r promised fits is;
       tables = λ t lt. table_kept d units slots t r promised fits lt;

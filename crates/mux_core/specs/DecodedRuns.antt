@@ -1,11 +1,12 @@
 -- What a decoder by ISO/IEC 13818-1 gets from finished bytes that keep what they promise, whoever wrote them: each unit whole and in time, no
 -- counter that breaks, and nothing that it was not told of.
-use Rattle.std.specs.Prelude.{◌≡◌, ℕ, ◌+◌, ◌*◌, ◌<◌, ◌≤◌, ◌==◌, false, List, [], length, take, drop, slice_get, Some, All}
+use Rattle.std.specs.Prelude.{◌≡◌, ℕ, ◌+◌, ◌*◌, ◌<◌, ◌≤◌, ◌==◌, false, List, [], length, map, take, drop, slice_get, Some, All}
 use Rattle.std.specs.List.{concat}
 use Rattle.clock27.specs.Units.{slot_units_at_1bps, byte_units_at_1bps}
 use Rattle.pes_packet.specs.AccessUnits.{AccessUnit}
 use Rattle.pes_packet.specs.Units.{pes_packets_of}
 use Rattle.ts_packet.specs.Packets.{null_view}
+use Rattle.ts_packet.specs.Beginnings.{is_access, has_access}
 use Rattle.ts_packet.specs.PidList.{Entry, entries_of, pid_list, payloads_on}
 use Rattle.description.specs.Described.{Described, DescribedStream}
 use Rattle.description.specs.Ranges.{IsInRange}
@@ -14,7 +15,7 @@ use Rattle.slot_plan.specs.declared.slot.Slot.{Slot}
 use Rattle.slot_plan.specs.SlotPids.{slot_pid}
 use Rattle.unit_timing.specs.Transport.{pes_left}
 use Rattle.unit_queue.specs.OwnedStreams.{pes_bytes}
-use Rattle.unit_queue.specs.Payloads.{all_senders}
+use Rattle.unit_queue.specs.Payloads.{all_pieces, all_senders}
 use Rattle.tstd.specs.Carried.{packets_on}
 use Rattle.mux_core.specs.Scheduled.{Scheduled}
 use Rattle.mux_core.specs.Histories.{owned_stream}
@@ -37,6 +38,9 @@ pub record Arrives (d : Described) (s : DescribedStream) (dts before : ℕ) (pes
 pub record StreamDecoded (d : Scheduled) (k : ℕ) (s : DescribedStream) (units : List AccessUnit) (slots : ℕ) (bytes : List ℕ) : Type 0 where
   -- no counter breaks
   pub follow : Follow (pid_list s.pid bytes)
+  -- its packets have the random_access_indicator exactly where a unit begins that has this mark
+  pub access : map (λ e. has_access e.packet.adaptation) (pid_list s.pid bytes)
+      ≡ take (length (pid_list s.pid bytes)) (map (λ p. is_access p.start) (all_pieces (owned_stream d k s) units))
   -- each unit that is due in the run is put together whole, in its place among the stream's units
   pub whole : (i : ℕ) (u : AccessUnit) → slice_get units i ≡ Some u → IsDue d.description slots u →
       slice_get (put_together (pieces_on s.pid bytes)) i ≡ Some (pes_bytes (owned_stream d k s) u)

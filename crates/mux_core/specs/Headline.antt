@@ -5,6 +5,7 @@ use Rattle.clock27.specs.Recurrence.{Recur}
 use Rattle.clock27.specs.Reference.{pcr_at}
 use Rattle.pes_packet.specs.AccessUnits.{AccessUnit}
 use Rattle.ts_packet.specs.Views.{PacketView}
+use Rattle.ts_packet.specs.Beginnings.{is_access, has_access, start_in}
 use Rattle.ts_packet.specs.Syntax.{IsPacket}
 use Rattle.ts_packet.specs.Packets.{pcr_view, null_view}
 use Rattle.ts_packet.specs.PidList.{Entry, cut_packets, entries_of, pid_list}
@@ -49,7 +50,8 @@ pub record VideoKept (d : Scheduled) (s : DescribedStream) (b : MultiplexingBuff
 pub record StreamKept (d : Scheduled) (k : ℕ) (s : DescribedStream) (units : List AccessUnit) (slots : ℕ) (bytes : List ℕ) : Type 0 where
   -- the payloads on its PID, joined, are a beginning of its PES packets, joined
   pub carried : carries s.pid s.stream_id d.description.base0 units bytes ≡ true
-  -- each is of one unit, and has the start indicator exactly where a unit begins
+  -- each is of one unit. Its packet has the payload_unit_start_indicator exactly if it is the first of the unit, and that packet has the
+  -- random_access_indicator exactly if the unit has that mark
   pub pieces : map (λ e. piece_in (payload_at e)) (pid_list s.pid bytes) ≡ take (length (pid_list s.pid bytes)) (all_pieces (owned_stream d k s) units)
   -- packet number j has the continuity_counter j modulo 16
   pub counters : (j : ℕ) (e : Entry) → slice_get (pid_list s.pid bytes) j ≡ Some e → e.packet.header.continuity_counter ≡ j % 16
@@ -98,6 +100,10 @@ IsTransportPacket bytes = (packet : PacketView) × IsPacket bytes packet
 abbrev pub IsNamed : Described → PacketView → Type 0
 IsNamed d packet = ((slot : Slot) × (slot_pid d slot ≡ Some packet.header.pid)) × (packet.header.transport_error_indicator ≡ false)
 
+-- a packet has the random_access_indicator only with the payload_unit_start_indicator (ISO/IEC 13818-1, 2.4.3.5)
+abbrev pub IsAccessAtStart : PacketView → Type 0
+IsAccessAtStart packet = has_access packet.adaptation ≡ is_access (start_in packet)
+
 -- of the whole
 pub record Headline (d : Scheduled) (units : ℕ → List AccessUnit) (slots : ℕ) (bytes : List ℕ) : Type 0 where
   -- 188 bytes a slot
@@ -106,6 +112,8 @@ pub record Headline (d : Scheduled) (units : ℕ → List AccessUnit) (slots : �
   pub packets : All IsTransportPacket (cut_packets bytes)
   -- each packet is the null packet, or is on a PID of the description and not marked as wrong
   pub pids : All (λ e. (e.packet ≡ null_view) ⊎ IsNamed d.description e.packet) (entries_of bytes)
+  -- no packet in which nothing begins has the random_access_indicator
+  pub access : All (λ e. IsAccessAtStart e.packet) (entries_of bytes)
   pub streams : (k : ℕ) (s : DescribedStream) → slice_get d.description.streams k ≡ Some s → StreamKept d k s (units k) slots bytes
   pub programs : (i : ℕ) (p : DescribedProgram) → slice_get d.description.programs i ≡ Some p → ProgramKept d p slots bytes
   pub tables : (t : ℕ) → t < table_count d.description → TableKept d t slots bytes

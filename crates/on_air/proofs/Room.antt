@@ -31,7 +31,7 @@ few l interval from last (u ∷ us) spaced all le =
 -- the departures of what is sent of a unit and of those after it
 joined : (own : ℕ → Bool) (rate lead r n free prev : ℕ) (unit : PesPacket) (units : List PesPacket) →
     pes_left rate r prev (packets_in_slots own rate lead free (unit ∷ units) (own_slots own 0 n))
-    ≡ pes_left rate r prev (cut unit.size (take (packets_of_unit unit) (drop (first_own_slot own rate lead free unit) (own_slots own 0 n))))
+    ≡ pes_left rate r prev (cut unit.front unit.size (take (packets_of_unit unit) (drop (first_own_slot own rate lead free unit) (own_slots own 0 n))))
     ++ pes_left rate r (last_left rate prev (arrivals r (take (packets_of_unit unit) (drop (first_own_slot own rate lead free unit) (own_slots own 0 n)))))
     (packets_in_slots own rate lead (first_own_slot own rate lead free unit + packets_of_unit unit) units (own_slots own 0 n))
 unfolding packets_in_slots
@@ -40,7 +40,7 @@ joined own rate lead r n free prev unit units =
     let b = first_own_slot own rate lead free unit in
     let p = packets_of_unit unit in
     let xs = take p (drop b slots) in
-    pes_left-append rate r prev (cut unit.size xs) (packets_in_slots own rate lead (b + p) units slots) ∙ rw (slots_of-cut unit.size xs) refl
+    pes_left-append rate r prev (cut unit.front unit.size xs) (packets_in_slots own rate lead (b + p) units slots) ∙ rw (slots_of-cut unit.front unit.size xs) refl
 
 -- a unit that is not sent whole is not due
 unfinished : (own : ℕ → Bool) (rate lead r n free prev : ℕ) (unit : PesPacket) (units : List PesPacket) → 1 ≤ unit.size →
@@ -55,9 +55,9 @@ unfinished own rate lead r n free prev unit units some below there =
     let run = length-run own n in
     let nothing : pes_left rate r next (packets_in_slots own rate lead (b + p) units slots) ≡ [] =
     rw (sent_nothing own rate lead (b + p) units slots (omega (arith, run, below))) (unfold of_payloads in refl) in
-    let many : length (pes_left rate r prev (cut unit.size xs)) ≡ min unit.size (184 * min p (length slots - b)) =
-    rw (length-left-cut rate r unit.size prev xs, length-take p (drop b slots), length-drop b slots) refl in
-    let whole = rw (joined own rate lead r n free prev unit units, nothing, length-append (pes_left rate r prev (cut unit.size xs)) []) at there in
+    let many : length (pes_left rate r prev (cut unit.front unit.size xs)) ≡ min unit.size (184 * min p (length slots - b) - unit.front) =
+    rw (length-left-cut rate r unit.front unit.size prev xs, length-take p (drop b slots), length-drop b slots) refl in
+    let whole = rw (joined own rate lead r n free prev unit units, nothing, length-append (pes_left rate r prev (cut unit.front unit.size xs)) []) at there in
     omega (arith, whole, many, run, below, some)
 
 -- the units left before the next slot, where the slots before it begin no earlier than `lead` before the last due unit
@@ -95,6 +95,6 @@ waiting_few l r n lead last interval some begins (u ∷ us) free number prev fro
           (rw begin
           (rw (
             joined own rate l.parameters.lead r n free prev unit units,
-            after_unit own rate l.parameters.lead r n (first_own_slot own rate l.parameters.lead free unit) (packets_of_unit unit) unit.size prev _ units (omega arith),
+            after_unit own rate l.parameters.lead r n (first_own_slot own rate l.parameters.lead free unit) (packets_of_unit unit) unit.front unit.size prev _ units (omega arith),
           ) at left.1)))
     ]

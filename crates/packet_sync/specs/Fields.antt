@@ -2,21 +2,45 @@
 use Rattle.std.specs.Prelude.{ℕ, ◌+◌, ◌*◌, ◌/◌, ◌%◌, ◌==◌, ◌&&◌, ◌||◌, not, nat_lt, nat_le, Bool, true, false, if◌then◌else◌, List, [], length, slice_index, slice_range}
 use Rattle.pes_packet.specs.StreamIds.{has_flags}
 use Rattle.packet_sync.specs.declared.field.Field.{Field}
-use Rattle.packet_sync.specs.declared.field.Field.TheVariants.{RandomAccess, AdaptationData, Alignment, Flags, Scrambling, LongHeader, PrivateData, OtherHeaderData, UnreadHeader}
+use Rattle.packet_sync.specs.declared.field.Field.TheVariants.{TransportPriority, Discontinuity, RandomAccess, StreamPriority, OriginalClock, SpliceCountdown, AdaptationPrivateData, AdaptationExtension, Alignment, Flags, Scrambling, LongHeader, PrivateData, OtherHeaderData, UnreadHeader}
 
--- 1. The adaptation field of a packet
+-- 1. The header and the adaptation field of a packet
 
--- its flag byte; 0 where there is none, or an empty one
+-- transport_priority (ISO/IEC 13818-1, 2.4.3.3)
+abbrev pub has_priority : List ℕ → Bool
+has_priority packet = slice_index packet 1 / 32 % 2 == 1
+
+-- the flag byte of the adaptation field; 0 where there is none, or an empty one
 unfoldable pub adaptation_flags : List ℕ → ℕ
 adaptation_flags packet = if slice_index packet 3 / 32 % 2 == 1 && not (slice_index packet 4 == 0) then slice_index packet 5 else 0
+
+-- discontinuity_indicator
+abbrev pub is_discontinuity : ℕ → Bool
+is_discontinuity flags = flags / 128 % 2 == 1
 
 -- random_access_indicator
 abbrev pub is_random_access : ℕ → Bool
 is_random_access flags = flags / 64 % 2 == 1
 
--- splicing_point_flag, transport_private_data_flag, adaptation_field_extension_flag
-abbrev pub has_adaptation_data : ℕ → Bool
-has_adaptation_data flags = not (flags % 8 == 0)
+-- elementary_stream_priority_indicator
+abbrev pub has_stream_priority : ℕ → Bool
+has_stream_priority flags = flags / 32 % 2 == 1
+
+-- OPCR_flag
+abbrev pub has_original_clock : ℕ → Bool
+has_original_clock flags = flags / 8 % 2 == 1
+
+-- splicing_point_flag
+abbrev pub has_splice_countdown : ℕ → Bool
+has_splice_countdown flags = flags / 4 % 2 == 1
+
+-- transport_private_data_flag
+abbrev pub has_adaptation_private_data : ℕ → Bool
+has_adaptation_private_data flags = flags / 2 % 2 == 1
+
+-- adaptation_field_extension_flag
+abbrev pub has_adaptation_extension : ℕ → Bool
+has_adaptation_extension flags = flags % 2 == 1
 
 -- 2. The payload in which a PES packet begins
 
@@ -44,6 +68,10 @@ is_flagged p = slice_index p 0 == 0 && slice_index p 1 == 0 && slice_index p 2 =
 -- PTS_DTS_flags announce no PTS: the PES packet goes on with a unit, and marks are those of its first one
 abbrev pub goes_on : List ℕ → Bool
 goes_on p = nat_lt (slice_index p 7) 128
+
+-- a PES header of which the PTS_DTS_flags announce a PTS is at the front of a payload: a unit begins with it
+unfoldable pub begins_unit : List ℕ → Bool
+begins_unit p = nat_lt 8 (length p) && (is_flagged p && not (goes_on p))
 
 -- data_alignment_indicator
 abbrev pub is_aligned : List ℕ → Bool
@@ -97,12 +125,22 @@ is_loss _ = false
 
 -- the number of a field
 unfoldable pub number_of : Field → ℕ
-number_of RandomAccess = 0
-number_of AdaptationData = 1
-number_of Alignment = 2
-number_of Flags = 3
-number_of Scrambling = 4
-number_of LongHeader = 5
-number_of PrivateData = 6
-number_of OtherHeaderData = 7
-number_of UnreadHeader = 8
+number_of TransportPriority = 0
+number_of Discontinuity = 1
+number_of RandomAccess = 2
+number_of StreamPriority = 3
+number_of OriginalClock = 4
+number_of SpliceCountdown = 5
+number_of AdaptationPrivateData = 6
+number_of AdaptationExtension = 7
+number_of Alignment = 8
+number_of Flags = 9
+number_of Scrambling = 10
+number_of LongHeader = 11
+number_of PrivateData = 12
+number_of OtherHeaderData = 13
+number_of UnreadHeader = 14
+
+-- it stands in the header or the adaptation field of a packet, and not in a PES header
+abbrev pub is_of_packet : Field → Bool
+is_of_packet field = nat_lt (number_of field) 8

@@ -2,9 +2,9 @@
 use Rattle.std.specs.Prelude.{ℕ, zero, suc, ◌+◌, ◌*◌, ◌%◌, ◌==◌, ◌&&◌, not, nat_lt, Bool, true, if◌then◌else◌, List, [], ◌∷◌, ◌++◌, length, slice_index, slice_range, Option, None, Some}
 use Rattle.std.specs.List.{list_any}
 use Rattle.packet_sync.specs.Slips.{slip_size}
-use Rattle.packet_sync.specs.Fields.{adaptation_flags, extension_flags, goes_on, has_adaptation_data, has_other_data, has_other_flags, has_private_data, is_aligned, is_cut, is_flagged, is_long, is_random_access, is_scrambled, number_of, start_payload}
+use Rattle.packet_sync.specs.Fields.{adaptation_flags, begins_unit, extension_flags, goes_on, has_adaptation_extension, has_adaptation_private_data, has_original_clock, has_other_data, has_other_flags, has_priority, has_private_data, has_splice_countdown, has_stream_priority, is_aligned, is_cut, is_discontinuity, is_flagged, is_long, is_random_access, is_scrambled, number_of, start_payload}
 use Rattle.packet_sync.specs.declared.field.Field.{Field}
-use Rattle.packet_sync.specs.declared.field.Field.TheVariants.{RandomAccess, AdaptationData, Alignment, Flags, Scrambling, LongHeader, PrivateData, OtherHeaderData, UnreadHeader}
+use Rattle.packet_sync.specs.declared.field.Field.TheVariants.{TransportPriority, Discontinuity, RandomAccess, StreamPriority, OriginalClock, SpliceCountdown, AdaptationPrivateData, AdaptationExtension, Alignment, Flags, Scrambling, LongHeader, PrivateData, OtherHeaderData, UnreadHeader}
 use Rattle.packet_sync.specs.declared.left_out.FieldLeftOut.{FieldLeftOut}
 
 -- 1. One packet
@@ -20,10 +20,21 @@ is_noted found pid field = list_any (λ f. f.pid == pid && number_of f.field == 
 unfoldable pub with_field : ℕ → Field → Bool → List FieldLeftOut → List FieldLeftOut
 with_field pid field stands found = if stands && not (is_noted found pid field) then found ++ record { pid = pid; field = field } ∷ [] else found
 
--- with those of an adaptation field
-unfoldable pub with_adaptation : ℕ → ℕ → List FieldLeftOut → List FieldLeftOut
-with_adaptation pid flags found =
-    with_field pid AdaptationData (has_adaptation_data flags) (with_field pid RandomAccess (is_random_access flags) found)
+-- with the indicators and the clock reference of an adaptation field; the random_access_indicator of a unit's first packet is carried
+unfoldable pub with_indicators : ℕ → ℕ → Bool → List FieldLeftOut → List FieldLeftOut
+with_indicators pid flags begins found =
+    with_field pid OriginalClock (has_original_clock flags)
+    (with_field pid StreamPriority (has_stream_priority flags) (with_field pid RandomAccess (is_random_access flags && not begins) (with_field pid Discontinuity (is_discontinuity flags) found)))
+
+-- with the data of an adaptation field
+unfoldable pub with_adaptation_data : ℕ → ℕ → List FieldLeftOut → List FieldLeftOut
+with_adaptation_data pid flags found =
+    with_field pid AdaptationExtension (has_adaptation_extension flags)
+    (with_field pid AdaptationPrivateData (has_adaptation_private_data flags) (with_field pid SpliceCountdown (has_splice_countdown flags) found))
+
+-- with both
+abbrev pub with_adaptation : ℕ → ℕ → Bool → List FieldLeftOut → List FieldLeftOut
+with_adaptation pid flags begins found = with_adaptation_data pid flags (with_indicators pid flags begins found)
 
 -- with those of the first flag byte of a PES header; the flags of the first PES packet of a unit are carried
 unfoldable pub with_flags : ℕ → List ℕ → List FieldLeftOut → List FieldLeftOut
@@ -46,7 +57,9 @@ with_header pid p found =
 
 -- with those of a packet
 unfoldable pub with_packet : List ℕ → List FieldLeftOut → List FieldLeftOut
-with_packet packet found = with_header (pid_of packet) (start_payload packet) (with_adaptation (pid_of packet) (adaptation_flags packet) found)
+with_packet packet found =
+    with_header (pid_of packet) (start_payload packet)
+    (with_adaptation (pid_of packet) (adaptation_flags packet) (begins_unit (start_payload packet)) (with_field (pid_of packet) TransportPriority (has_priority packet) found))
 
 -- 2. All packets
 

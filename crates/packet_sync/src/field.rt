@@ -9,10 +9,22 @@ use pes_packet::has_flags;
 /// A field that is not written again.
 #[derive(Clone, Copy)]
 pub enum Field {
-    /// random_access_indicator of an adaptation field.
+    /// transport_priority of a packet.
+    TransportPriority,
+    /// discontinuity_indicator of an adaptation field.
+    Discontinuity,
+    /// random_access_indicator of an adaptation field in a packet with which no unit begins.
     RandomAccess,
-    /// splice_countdown, transport_private_data or the extension of an adaptation field.
-    AdaptationData,
+    /// elementary_stream_priority_indicator of an adaptation field.
+    StreamPriority,
+    /// original_program_clock_reference of an adaptation field.
+    OriginalClock,
+    /// splice_countdown of an adaptation field.
+    SpliceCountdown,
+    /// transport_private_data of an adaptation field.
+    AdaptationPrivateData,
+    /// The extension of an adaptation field.
+    AdaptationExtension,
     /// data_alignment_indicator of a PES header.
     Alignment,
     /// PES_priority, copyright or original_or_copy.
@@ -37,16 +49,29 @@ impl Field {
         ensures { result ≡ spec.number_of self }
     {
         match self {
-            Field::RandomAccess => 0,
-            Field::AdaptationData => 1,
-            Field::Alignment => 2,
-            Field::Flags => 3,
-            Field::Scrambling => 4,
-            Field::LongHeader => 5,
-            Field::PrivateData => 6,
-            Field::OtherHeaderData => 7,
-            Field::UnreadHeader => 8,
+            Field::TransportPriority => 0,
+            Field::Discontinuity => 1,
+            Field::RandomAccess => 2,
+            Field::StreamPriority => 3,
+            Field::OriginalClock => 4,
+            Field::SpliceCountdown => 5,
+            Field::AdaptationPrivateData => 6,
+            Field::AdaptationExtension => 7,
+            Field::Alignment => 8,
+            Field::Flags => 9,
+            Field::Scrambling => 10,
+            Field::LongHeader => 11,
+            Field::PrivateData => 12,
+            Field::OtherHeaderData => 13,
+            Field::UnreadHeader => 14,
         }
+    }
+
+    /// Returns whether the field is in the header or the adaptation field of a packet, and not in a PES header.
+    pub fn is_of_packet(self) -> bool
+        ensures { result ≡ spec.is_of_packet self }
+    {
+        self.number() < 8
     }
 
     /// Returns whether a viewer may lose something without it.
@@ -118,6 +143,14 @@ pub(crate) fn is_flagged(payload: &[u8]) -> bool
     ensures { result ≡ spec.is_flagged payload.now }
 {
     payload[0] == 0 && payload[1] == 0 && payload[2] == 1 && has_flags(payload[3])
+}
+
+/// Returns whether a PES header with a PTS is at the front of a payload: a unit begins with it.
+#[tactic(auto, unfolding(crate::specs::Fields::begins_unit))]
+pub(crate) fn begins_unit(payload: &[u8]) -> bool
+    ensures { result ≡ spec.begins_unit payload.now }
+{
+    payload.len() > 8 && (is_flagged(payload) && payload[7] >= 128)
 }
 
 // Where the flags of PES_extension stand, by the second flag byte.

@@ -4,7 +4,9 @@ ghost use Rattle.std.specs.Prelude.{◌≡◌, ◌≤◌, ◌*◌, OnOk, length}
 ghost use Rattle.packet_sync.specs.Fields as fields;
 ghost use Rattle.packet_sync.specs.FieldsLeftOut as spec;
 
-use crate::field::{Field, adaptation_flags, extension_flags, is_flagged, start_payload};
+use crate::field::{
+    Field, adaptation_flags, begins_unit, extension_flags, is_flagged, start_payload,
+};
 use crate::sync_bytes::PACKET_SIZE;
 use std::alloc::{AllocError, Allocator};
 
@@ -47,17 +49,52 @@ fn note<A: Allocator>(
     Ok(())
 }
 
-// Appends what stands in an adaptation field.
-#[tactic(auto, unfolding(crate::specs::FieldsLeftOut::with_adaptation))]
-fn note_adaptation<A: Allocator>(
+// Appends the indicators and the clock reference of an adaptation field, in a packet with which a unit begins or not.
+#[tactic(auto, unfolding(crate::specs::FieldsLeftOut::with_indicators))]
+fn note_indicators<A: Allocator>(
+    pid: u16,
+    flags: u8,
+    begins: bool,
+    found: &mut Vec<FieldLeftOut, A>,
+) -> Result<(), AllocError>
+    ensures { OnOk result (found.new.items ≡ spec.with_indicators pid flags begins found.old.items) }
+{
+    note(pid, Field::Discontinuity, flags / 128 % 2 == 1, found)?;
+    note(
+        pid,
+        Field::RandomAccess,
+        flags / 64 % 2 == 1 && !begins,
+        found,
+    )?;
+    note(pid, Field::StreamPriority, flags / 32 % 2 == 1, found)?;
+    note(pid, Field::OriginalClock, flags / 8 % 2 == 1, found)
+}
+
+// Appends the data of an adaptation field.
+#[tactic(auto, unfolding(crate::specs::FieldsLeftOut::with_adaptation_data))]
+fn note_adaptation_data<A: Allocator>(
     pid: u16,
     flags: u8,
     found: &mut Vec<FieldLeftOut, A>,
 ) -> Result<(), AllocError>
-    ensures { OnOk result (found.new.items ≡ spec.with_adaptation pid flags found.old.items) }
+    ensures { OnOk result (found.new.items ≡ spec.with_adaptation_data pid flags found.old.items) }
 {
-    note(pid, Field::RandomAccess, flags / 64 % 2 == 1, found)?;
-    note(pid, Field::AdaptationData, flags % 8 != 0, found)
+    note(pid, Field::SpliceCountdown, flags / 4 % 2 == 1, found)?;
+    note(pid, Field::AdaptationPrivateData, flags / 2 % 2 == 1, found)?;
+    note(pid, Field::AdaptationExtension, flags % 2 == 1, found)
+}
+
+// Appends what stands in an adaptation field.
+fn note_adaptation<A: Allocator>(
+    pid: u16,
+    flags: u8,
+    begins: bool,
+    found: &mut Vec<FieldLeftOut, A>,
+) -> Result<(), AllocError>
+    ensures { OnOk result (found.new.items ≡ spec.with_adaptation pid flags begins found.old.items) }
+{
+    note_indicators(pid, flags, begins, found)?;
+    note_adaptation_data(pid, flags, found)
 }
 
 // Appends what the first flag byte of a PES header says.
@@ -154,8 +191,15 @@ fn note_packet<A: Allocator>(
     ensures { OnOk result (found.new.items ≡ spec.with_packet packet.now found.old.items) }
 {
     let pid = pid_of(packet);
-    note_adaptation(pid, adaptation_flags(packet), found)?;
-    note_header(pid, start_payload(packet), found)
+    note(
+        pid,
+        Field::TransportPriority,
+        packet[1] / 32 % 2 == 1,
+        found,
+    )?;
+    let payload = start_payload(packet);
+    note_adaptation(pid, adaptation_flags(packet), begins_unit(payload), found)?;
+    note_header(pid, payload, found)
 }
 
 /// Appends what stands in the first `count` packets of bytes that stand in step, each field once of a PID.

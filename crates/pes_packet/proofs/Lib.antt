@@ -3,3 +3,4 @@ pub mod HeaderFields
 pub mod Written
 pub mod LongerRead
 pub mod Payloads
+pub mod UnitPieces

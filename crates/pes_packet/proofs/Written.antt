@@ -276,6 +276,11 @@ count_fits true false size h = omega (arith, packet_length_all (3 + 5 + size) (o
 count_fits false true size h = omega (arith, packet_length_all (3 + 36 + size) (omega arith))
 count_fits false false size h = omega (arith, packet_length_all (3 + 10 + size) (omega arith))
 
+-- without what the field takes
+less_field : (long access : Bool) (size : ℕ) → size + (cond long 26 0 + cond access 2 0) ≤ 65_522 → size + cond long 26 0 ≤ 65_522
+less_field long true size h = omega (arith, h)
+less_field long false size h = omega (arith, h)
+
 length_written : (b : Bool) (x y : PesHeader) → (cond b x y).len ≡ cond b x.len y.len
 length_written true x y = refl
 length_written false x y = refl
@@ -298,7 +303,7 @@ header_counts id size marks pts dts h =
       data_length = data_length marks 10;
     } in
     ap (λ (n : ℕ). 6 + n) (length_written (on_wire pts == on_wire dts) pts_alone with_dts)
-    ∙ count_fits (on_wire pts == on_wire dts) marks.long size h
+    ∙ count_fits (on_wire pts == on_wire dts) marks.long size (less_field marks.long marks.random_access size h)
     ∙ ap (λ (n : ℕ). n + size) (sym (header_sizes id size marks pts dts))
 
 pub without_marks : WithoutMarks
@@ -310,7 +315,7 @@ long_again true n e = refl
 long_again false n e = e
 
 either_marks : (b : Bool) (marks : Marks) (id l m : ℕ) (s t : Stamps)
-    → header_marks (cond b
+    → header_marks marks.random_access (cond b
     (record { id = id; len = l; stamps = s; flags = marks.flags; data_length = data_length marks 5 })
     (record { id = id; len = m; stamps = t; flags = marks.flags; data_length = data_length marks 10 }))
     ≡ marks

@@ -1,13 +1,13 @@
 -- What the laws of this crate say.
-use Rattle.std.specs.Prelude.{◌≡◌, ◌≢◌, ℕ, ◌+◌, ◌*◌, ◌<◌, ◌≤◌, ◌==◌, if◌then◌else◌, Ok, Err, Some, List, [], ◌∷◌, ◌++◌, length, take, drop, slice_get, All, IsTrue}
+use Rattle.std.specs.Prelude.{◌≡◌, ◌≢◌, ℕ, ◌+◌, ◌*◌, ◌<◌, ◌≤◌, ◌==◌, if◌then◌else◌, Ok, Err, Some, List, [], ◌∷◌, ◌++◌, length, take, drop, slice_get, All, Bool, IsTrue}
 use Rattle.std.specs.List.{concat}
 use Rattle.pes_packet.specs.StreamIds.{fits_packet}
 use Rattle.pes_packet.specs.Reading.{header_at}
 use Rattle.pes_packet.specs.HeaderMarks.{header_marks}
-use Rattle.pes_packet.specs.Marks.{data_length, marks_size, no_marks}
+use Rattle.pes_packet.specs.Marks.{data_length, field_size, marks_size, no_marks}
 use Rattle.pes_packet.specs.Encoding.{packet_length, on_wire, pes_start_bytes, stamp_bytes, pes_header_bytes, header_size}
 use Rattle.pes_packet.specs.Syntax.{IsPesHeader}
-use Rattle.pes_packet.specs.Payloads.{pieces, piece_count}
+use Rattle.pes_packet.specs.Payloads.{pieces, piece_count, part_of, unit_pieces}
 use Rattle.pes_packet.specs.declared.refusal.PesError.TheVariants.{Short}
 use Rattle.pes_packet.specs.declared.time_stamps.Stamps.TheVariants.{Pts, PtsDts}
 use Rattle.pes_packet.specs.declared.reading.PesHeader.{PesHeader}
@@ -47,7 +47,7 @@ WrittenIsHeader =
 
 -- with the marks of its unit
 abbrev pub MarksAreRead : Type 0
-MarksAreRead = (id size : ℕ) (marks : Marks) (pts dts : ℕ) → header_marks (written_header id size marks pts dts) ≡ marks
+MarksAreRead = (id size : ℕ) (marks : Marks) (pts dts : ℕ) → header_marks marks.random_access (written_header id size marks pts dts) ≡ marks
 
 -- a written header has 45 bytes where it is long, else 14, or 19 with a DTS
 abbrev pub HeaderSizes : Type 0
@@ -82,3 +82,9 @@ pub record PayloadsJoin (bytes : List ℕ) : Type 0 where
   pub some : All (λ piece. 1 ≤ length piece) (pieces bytes)
   pub most : All (λ piece. length piece ≤ 184) (pieces bytes)
   pub joined : concat (pieces bytes) ≡ bytes
+
+-- the payloads of a unit: their number, their bytes, and that joined they are its PES packet
+pub record UnitPiecesJoin (access : Bool) (pes : List ℕ) : Type 0 where
+  pub count : length (unit_pieces access pes) ≡ piece_count (field_size access + length pes)
+  pub each : (q : ℕ) → q < piece_count (field_size access + length pes) → slice_get (unit_pieces access pes) q ≡ Some (part_of (field_size access) (184 * q) pes)
+  pub joined : concat (unit_pieces access pes) ≡ pes

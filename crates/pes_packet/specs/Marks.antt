@@ -1,5 +1,5 @@
 -- What the packets of a unit say of it beside its stamps (ISO/IEC 13818-1, 2.4.3.6 and 2.4.3.7).
-use Rattle.std.specs.Prelude.{ℕ, ◌+◌, ◌-◌, ◌*◌, false, if◌then◌else◌, List, [], replicate}
+use Rattle.std.specs.Prelude.{ℕ, ◌+◌, ◌-◌, ◌*◌, Bool, false, if◌then◌else◌, List, [], replicate}
 use Rattle.bit_fields.specs.Fields.{bit, flag}
 use Rattle.pes_packet.specs.declared.marks.PesFlags.{PesFlags}
 use Rattle.pes_packet.specs.declared.marks.Marks.{Marks}
@@ -10,7 +10,7 @@ no_flags = record { priority = false; aligned = false; copyright = false; origin
 
 -- nothing beside the stamps
 abbrev pub no_marks : Marks
-no_marks = record { flags = no_flags; long = false }
+no_marks = record { random_access = false; flags = no_flags; long = false }
 
 -- the flags in the lowest four bits of the first flag byte: PES_priority, data_alignment_indicator, copyright, original_or_copy
 abbrev pub flags_in : ℕ → PesFlags
@@ -28,6 +28,10 @@ data_length marks n = if marks.long then 36 else n
 abbrev pub stuffing : Marks → ℕ → List ℕ
 stuffing marks n = if marks.long then replicate (36 - n) 0xFF else []
 
--- the bytes that marks take beyond the 19 of the greatest header without them
+-- the bytes in front of a PES packet: of an adaptation field with the random_access_indicator, its length and its flags (2.4.3.4)
+abbrev pub field_size : Bool → ℕ
+field_size access = if access then 2 else 0
+
+-- the bytes that marks take beyond the 19 of the greatest header without them: of the header, and of the field
 abbrev pub marks_size : Marks → ℕ
-marks_size marks = if marks.long then 26 else 0
+marks_size marks = (if marks.long then 26 else 0) + field_size marks.random_access

@@ -1,8 +1,8 @@
 //! Laws of the definitions. Each function does nothing: its contract is the law.
 
-ghost use Rattle.std.specs.Prelude.{ℕ, List};
+ghost use Rattle.std.specs.Prelude.{ℕ, Bool, List};
 ghost use Rattle.pes_packet.specs.Laws.{WrittenIsRead, WrittenIsHeader, MarksAreRead, HeaderSizes, HeaderCounts, WithoutMarks};
-ghost use Rattle.pes_packet.specs.Laws.{LongerIsRead, PayloadsJoin};
+ghost use Rattle.pes_packet.specs.Laws.{LongerIsRead, PayloadsJoin, UnitPiecesJoin};
 
 /// States that a header that `write_header` writes is read again as the same value, whatever follows it.
 pub fn written_is_read()
@@ -43,4 +43,10 @@ pub fn longer_is_read()
 /// States that the payloads of a PES packet have 184 bytes each, the last 1 to 184, and joined they are the packet.
 pub fn payloads_join()
     ensures { (bytes : List ℕ) → PayloadsJoin bytes }
+{}
+
+/// States that the payloads of a unit have 184 bytes each, less the two in front of a unit with which a decoder may begin,
+/// and that joined they are its PES packet.
+pub fn unit_pieces_join()
+    ensures { (access : Bool) (pes : List ℕ) → UnitPiecesJoin access pes }
 {}

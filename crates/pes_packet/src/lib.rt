@@ -18,10 +18,10 @@ mod writing;
 
 pub use access_unit::Unit;
 pub use laws::{
-    header_counts, header_sizes, longer_is_read, marks_are_read, payloads_join, without_marks,
-    written_is_header, written_is_read,
+    header_counts, header_sizes, longer_is_read, marks_are_read, payloads_join, unit_pieces_join,
+    without_marks, written_is_header, written_is_read,
 };
-pub use marks::{Marks, PesFlags};
+pub use marks::{Marks, PesFlags, field_size};
 pub use reading::{PesHeader, read_header};
 pub use refusal::PesError;
 pub use stream_ids::{fits_packet, greatest_size, has_flags, is_unit_id};

@@ -2,7 +2,7 @@
 
 ghost use Rattle.std.specs.Prelude.{◌≡◌, ◌≤◌, ◌<◌, ◌+◌, ◌*◌, length};
 ghost use Rattle.bit_fields.specs.Fields.{bit};
-ghost use Rattle.pes_packet.specs.Marks.{flags_in, flag_bits, marks_size};
+ghost use Rattle.pes_packet.specs.Marks.{flags_in, flag_bits, field_size, marks_size};
 
 /// The four flags in the lowest bits of the first flag byte of a PES header.
 #[derive(Clone, Copy, Debug, PartialEq, Eq)]
@@ -53,6 +53,8 @@ impl PesFlags {
 /// What the packets of a unit say of it beside its stamps.
 #[derive(Clone, Copy, Debug, PartialEq, Eq)]
 pub struct Marks {
+    /// random_access_indicator: a decoder may begin with the unit (2.4.3.5).
+    pub random_access: bool,
     /// The flags of its PES header.
     pub flags: PesFlags,
     /// Whether its PES header has 45 bytes, stuffed after the stamps, as EN 300 472 and EN 301 775 want it.
@@ -62,6 +64,7 @@ pub struct Marks {
 impl Marks {
     /// Nothing beside the stamps.
     pub const NONE: Marks = Marks {
+        random_access: false,
         flags: PesFlags::NONE,
         long: false,
     };
@@ -69,10 +72,19 @@ impl Marks {
     /// Gives the number of bytes that the marks take beyond the 19 of the greatest header without them.
     pub fn size(self) -> usize
         ensures value { result ≡ marks_size self }
-        ensures most { result ≤ 26 }
+        ensures most { result ≤ 28 }
     {
-        if self.long { 26 } else { 0 }
+        let field = field_size(self.random_access);
+        if self.long { 26 + field } else { field }
     }
+}
+
+/// Gives the number of bytes in front of a PES packet: of an adaptation field with the random_access_indicator.
+pub fn field_size(random_access: bool) -> usize
+    ensures value { result ≡ field_size random_access }
+    ensures most { result ≤ 2 }
+{
+    if random_access { 2 } else { 0 }
 }
 
 // A flag as a field of one bit.

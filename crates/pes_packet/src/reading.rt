@@ -31,11 +31,13 @@ pub struct PesHeader {
 }
 
 impl PesHeader {
-    /// Gives the marks that the header says: its flags, and whether it has 45 bytes.
-    pub fn marks(&self) -> Marks
-        ensures { result ≡ header_marks self.now }
+    /// Gives the marks that the header says: its flags, and whether it has 45 bytes; the random_access_indicator is its
+    /// packet's.
+    pub fn marks(&self, random_access: bool) -> Marks
+        ensures { result ≡ header_marks random_access self.now }
     {
         Marks {
+            random_access,
             flags: self.flags,
             long: self.data_length == 36,
         }

@@ -1,12 +1,13 @@
 //! A plan that serves a description.
 
 ghost use Rattle.std.specs.Prelude.{◌≡◌, IfOk, IfErr, false};
-ghost use Rattle.plan_search.specs.PlainPlan.{plain_plan, serves};
+ghost use Rattle.plan_maker.specs.PlainPlan.{plain_plan, serves};
 ghost use Rattle.plan_maker.specs.Failures.{Fails};
 ghost use Rattle.plan_maker.specs.declared.making.MakeError.TheVariants.{NotFound};
 
+use crate::plain::plain_plan;
+use crate::search::period_plan;
 use plan_checker::{CheckedPlan, check};
-use plan_search::{period_plan, plain_plan};
 use slot_plan::{Description, Plan};
 use std::alloc::{AllocError, Allocator};
 use thiserror::Error;

@@ -1,11 +1,15 @@
 -- Payloads on a PID: their numbers, their counters, and what comes back of them.
-use Rattle.std.proofs.Common.{◌≡◌, ℕ, zero, suc, ◌+◌, ◌<◌, ◌==◌, Bool, false, cond, List, [], ◌∷◌, ◌++◌, length, map, Option, refl, ap, sym, subst, ◌∙◌, arith, inl, inr, eq-eqb}
+use Rattle.std.proofs.Common.{◌≡◌, ℕ, zero, suc, ◌+◌, ◌<◌, ◌==◌, Bool, false, cond, List, [], ◌∷◌, ◌++◌, length, map, Option, ◌%◌, refl, ap, ap₂, sym, subst, ◌∙◌, arith, inl, inr, eq-eqb}
 use Rattle.std.proofs.lemmas.Bool.{cases_Bool, eqb-true, false≢true}
 use Rattle.std.specs.List.{concat, flat_map}
 use Rattle.own_slots.specs.Slots.{own_before, own_slots}
 use Rattle.ts_packet.specs.PidList.{Entry, is_of_pid, payload_of}
 use Rattle.slot_contents.specs.Contents.{Content, PayloadContent, PcrContent, NullContent, packet_of, view_of, entry_at, entries_in, Payload, payload_in, payloads_in, NumberedBy, Numbered, PayloadCount, HasNumber, payload_entry, payload_entries, Piece, put}
 use Rattle.slot_contents.specs.RunLaws.{PayloadCountLaw, RunPayloadEntriesLaw, PayloadEntriesAgainLaw, RunJoinedLaw, RunByNumberLaw}
+use Rattle.ts_packet.specs.declared.start.Start.{Start}
+use Rattle.ts_packet.specs.Beginnings.{start_in}
+use Rattle.ts_packet.specs.Packets.{payload_view}
+use Rattle.ts_packet.proofs.PlainWritten.{start_again}
 use Rattle.slot_contents.proofs.Runs.{run_pid_list}
 
 -- slot by slot: the count before slot s is the number with which it goes on
@@ -59,10 +63,16 @@ carried_on pid content s (suc n) number told is =
 pub run_payload_entries : RunPayloadEntriesLaw
 run_payload_entries pid n content fits told is = run_pid_list pid n content fits ∙ carried_on pid content 0 n 0 told is
 
+-- what begins with a payload is seen in its packet
+pub payload_again : (index : ℕ) (start : Start) (pid counter : ℕ) (bytes : List ℕ) →
+    ◌≡◌ {A = Payload} (record { index = index; start = start_in (payload_view pid start counter bytes); bytes = bytes }) (record { index = index; start = start; bytes = bytes })
+payload_again index start pid counter bytes = rw (start_again pid start counter bytes) refl
+
 pub payload_entries_again : PayloadEntriesAgainLaw
 unfolding payload_entries view_of
 payload_entries_again pid number [] = refl
-payload_entries_again pid number (p ∷ ps) = ap (λ (l : List Payload). p ∷ l) (payload_entries_again pid (number + 1) ps)
+payload_entries_again pid number (p ∷ ps) =
+    ap₂ (λ (q : Payload) (l : List Payload). q ∷ l) (payload_again p.index p.start pid (number % 16) p.bytes) (payload_entries_again pid (number + 1) ps)
 
 carried_bytes : (pid number : ℕ) (ps : List Payload) → map (λ entry. payload_of entry.packet) (payload_entries pid number ps) ≡ map (λ p. p.bytes) ps
 unfolding payload_entries view_of

@@ -1,15 +1,17 @@
 -- What the slots of an output carry, and what of it is on one PID. Slot s is packet number s of the bytes.
-use Rattle.std.specs.Prelude.{◌≡◌, ℕ, zero, suc, ◌+◌, ◌%◌, ◌^◌, ◌<◌, ◌≤◌, ◌==◌, Bool, true, false, cond, List, [], ◌∷◌, ◌++◌, length, Option, Some, None, ⊤}
+use Rattle.std.specs.Prelude.{◌≡◌, ℕ, zero, suc, ◌+◌, ◌%◌, ◌^◌, ◌<◌, ◌≤◌, ◌==◌, true, false, cond, List, [], ◌∷◌, ◌++◌, length, Option, Some, None, ⊤}
 use Rattle.clock27.specs.Reference.{Reference}
+use Rattle.ts_packet.specs.declared.start.Start.{Start}
 use Rattle.ts_packet.specs.Views.{PacketView}
+use Rattle.ts_packet.specs.Beginnings.{room_of, start_in}
 use Rattle.ts_packet.specs.Syntax.{ReferenceFits}
 use Rattle.ts_packet.specs.Packets.{payload_view, payload_packet, pcr_view, pcr_packet, null_view, null_packet}
 use Rattle.ts_packet.specs.PidList.{Entry, is_of_pid, payload_of}
 
--- what a slot carries: a payload (its PID, its number there from 0, whether something begins at its first byte, and its bytes), a program clock
+-- what a slot carries: a payload (its PID, its number there from 0, what begins at its first byte, and its bytes), a program clock
 -- reference on a PID, or nothing
 pub data Content : Type 0 where
-  PayloadContent : ℕ → ℕ → Bool → List ℕ → Content
+  PayloadContent : ℕ → ℕ → Start → List ℕ → Content
   PcrContent : ℕ → Reference → Content
   NullContent : Content
 
@@ -27,7 +29,7 @@ view_of NullContent = null_view
 
 -- it can be a packet
 abbrev pub ContentFits : Content → Type 0
-ContentFits (PayloadContent pid number start payload) = (pid < 2 ^ 13) × (0 < length payload) × (length payload ≤ 184)
+ContentFits (PayloadContent pid number start payload) = (pid < 2 ^ 13) × (0 < length payload) × (length payload ≤ room_of start)
 ContentFits (PcrContent pid pcr) = (pid < 2 ^ 13) × ReferenceFits pcr
 ContentFits NullContent = ⊤
 
@@ -45,10 +47,10 @@ unfoldable pub entries_in : ℕ → (ℕ → Content) → ℕ → ℕ → List E
 entries_in pid content s zero = []
 entries_in pid content s (suc n) = cond (is_of_pid pid (view_of (content s))) (entry_at s (content s) ∷ entries_in pid content (suc s) n) (entries_in pid content (suc s) n)
 
--- a payload in a packet: the packet's index, whether something begins at its first byte, and its bytes
+-- a payload in a packet: the packet's index, what begins at its first byte, and its bytes
 pub record Payload : Type 0 where
   pub index : ℕ
-  pub start : Bool
+  pub start : Start
   pub bytes : List ℕ
 
 -- the payload on this PID in slot s, if there is one
@@ -91,13 +93,13 @@ unfoldable pub payload_entries : ℕ → ℕ → List Payload → List Entry
 payload_entries pid number [] = []
 payload_entries pid number (p ∷ ps) = payload_entry pid number p ∷ payload_entries pid (number + 1) ps
 
--- a packet as a payload: its index, its start indicator and its payload's bytes
+-- a packet as a payload: its index, what begins with it and its payload's bytes
 abbrev pub payload_at : Entry → Payload
-payload_at entry = record { index = entry.index; start = entry.packet.header.payload_unit_start_indicator; bytes = payload_of entry.packet }
+payload_at entry = record { index = entry.index; start = start_in entry.packet; bytes = payload_of entry.packet }
 
--- a payload before it is put into a packet: whether something begins at its first byte, and its bytes
+-- a payload before it is put into a packet: what begins at its first byte, and its bytes
 pub record Piece : Type 0 where
-  pub start : Bool
+  pub start : Start
   pub bytes : List ℕ
 
 -- put into the packet of slot s, if there is one

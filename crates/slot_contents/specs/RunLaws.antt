@@ -42,7 +42,7 @@ abbrev pub RunPayloadEntriesLaw : Type 0
 RunPayloadEntriesLaw = (pid n : ℕ) (content : ℕ → Content) → Fits content → (pid == 8191) ≡ false → Numbered pid content 0 n 0 →
     pid_list pid (run_bytes content 0 n) ≡ payload_entries pid 0 (payloads_in pid content 0 n)
 
--- a payload comes back from its packet, with the packet's index and its start indicator
+-- a payload comes back from its packet, with the packet's index and what begins with it
 abbrev pub PayloadEntriesAgainLaw : Type 0
 PayloadEntriesAgainLaw = (pid number : ℕ) (payloads : List Payload) → map payload_at (payload_entries pid number payloads) ≡ payloads
 

@@ -38,7 +38,7 @@ pub fn run_payload_entries()
     ensures { RunPayloadEntriesLaw }
 {}
 
-/// States that a payload comes back from its packet, with the packet's index and its start indicator.
+/// States that a payload comes back from its packet, with the packet's index and what begins with it.
 pub fn payload_entries_again()
     ensures { PayloadEntriesAgainLaw }
 {}

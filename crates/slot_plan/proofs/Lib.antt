@@ -1,3 +1,4 @@
+pub mod WordReaders
 pub mod HeldConditions
 pub mod BaseService
 pub mod NumberedLists

@@ -4,11 +4,11 @@ use Rattle.std.proofs.Common.{◌≡◌, refl, subst, ◌∙◌, append_assoc, a
 use Rattle.std.proofs.lemmas.Bool.Decides.{nat_tests}
 use Rattle.std.proofs.lemmas.Fmt.{decimal_by_steps}
 use Rattle.slot_plan.specs.declared.certificate.MultiplexingEntry.{MultiplexingEntry}
-use Rattle.text_words.specs.Words.{number_limit, field, more_digits, number_before, field_at}
+use Rattle.slot_plan.specs.Words.{number_limit, field, more_digits, number_before, field_at}
 use Rattle.slot_plan.specs.Planned.{is_small_multiplexing}
 use Rattle.slot_plan.specs.Text.{peak_words}
 use Rattle.slot_plan.specs.Readers.{multiplexing_at, peaks_beside, peaks_at}
-use Rattle.text_words.proofs.Readers.{Exact, some_same, word-complete, field-exact, then-some, then-read}
+use Rattle.slot_plan.proofs.WordReaders.{Exact, some_same, word-complete, field-exact, then-some, then-read}
 
 pub joined : (xs a b r s : List ℕ) → xs ≡ a ++ r → r ≡ b ++ s → xs ≡ (a ++ b) ++ s
 joined xs a b r s e f = rw (e, f, append_assoc) refl

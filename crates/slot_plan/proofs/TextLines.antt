@@ -7,12 +7,12 @@ use Rattle.slot_plan.specs.declared.slot.Slot.{Slot}
 use Rattle.slot_plan.specs.declared.slot.Slot.TheVariants.{Stream, Pcr, Table, Null}
 use Rattle.slot_plan.specs.declared.certificate.StreamEntry.{StreamEntry}
 use Rattle.slot_plan.specs.declared.certificate.ProgramEntry.{ProgramEntry}
-use Rattle.text_words.specs.Words.{number_limit, field, number_before, after_word}
+use Rattle.slot_plan.specs.Words.{number_limit, field, number_before, after_word}
 use Rattle.slot_plan.specs.Planned.{is_small_multiplexing, is_small_stream, is_small_program}
 use Rattle.slot_plan.specs.Plans.{IsByteSlot}
 use Rattle.slot_plan.specs.Text.{slot_text, peak_words, stream_line, program_line}
 use Rattle.slot_plan.specs.Readers.{slot_of_letter, slot_at, stream_claims, program_claims, stream_at, program_at}
-use Rattle.text_words.proofs.Readers.{Exact, some_same, word-complete, word-sound, number-exact, field-exact, after-complete, after-sound, then-some, then-read}
+use Rattle.slot_plan.proofs.WordReaders.{Exact, some_same, word-complete, word-sound, number-exact, field-exact, after-complete, after-sound, then-some, then-read}
 use Rattle.slot_plan.proofs.PeakWords.{joined, peaks-exact}
 
 -- what comes after the number in the line of a stream entry, of a program entry

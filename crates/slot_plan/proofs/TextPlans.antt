@@ -11,10 +11,10 @@ use Rattle.slot_plan.specs.Numbered.{numbered}
 use Rattle.slot_plan.specs.Planned.{Planned, Certified, plan_error, is_small_stream, is_small_program, has_small_numbers}
 use Rattle.slot_plan.specs.Plans.{IsPlan}
 use Rattle.slot_plan.specs.PlanTexts.{BeginsWithPlan}
-use Rattle.text_words.specs.Words.{field, after_word, field_at}
+use Rattle.slot_plan.specs.Words.{field, after_word, field_at}
 use Rattle.slot_plan.specs.Text.{slot_word, stream_line, program_line, plan_text}
 use Rattle.slot_plan.specs.Readers.{slots_at, streams_at, programs_at, begins_with, certificate_at, period_at, plan_at, slot_lines, or_line, ◌>>>◌}
-use Rattle.text_words.proofs.Readers.{word-complete, word-sound, field-exact, then-read, some_same}
+use Rattle.slot_plan.proofs.WordReaders.{word-complete, word-sound, field-exact, then-read, some_same}
 use Rattle.slot_plan.proofs.PeakWords.{joined}
 use Rattle.slot_plan.proofs.TextLists.{slots-complete, slots-sound, streams-complete, SlotsRead, streams-sound, programs-complete, programs-sound, ok_same}
 

@@ -1,7 +1,7 @@
 -- A plan as contracts see it, and which slots and certificates make one.
 use Rattle.std.specs.Prelude.{ℕ, ◌&&◌, ◌||◌, Bool, true, List, length, nat_lt, if◌then◌else◌, Option, Some, None}
 use Rattle.std.specs.List.{list_all}
-use Rattle.text_words.specs.Words.{number_limit}
+use Rattle.slot_plan.specs.Words.{number_limit}
 use Rattle.slot_plan.specs.declared.slot.Slot.{Slot}
 use Rattle.slot_plan.specs.declared.certificate.StreamEntry.{StreamEntry}
 use Rattle.slot_plan.specs.declared.certificate.MultiplexingEntry.{MultiplexingEntry}

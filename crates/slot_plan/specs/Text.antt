@@ -1,7 +1,7 @@
 -- The text of a plan: each line ends with LF, one space is between words, numbers are decimal without leading zeros. A
 -- plan has one text.
 use Rattle.std.specs.Prelude.{ℕ, suc, ◌%◌, ◌==◌, ◌||◌, List, [], ◌∷◌, ◌++◌, length, codes, decimal, Option, Some, None, if◌then◌else◌}
-use Rattle.text_words.specs.Words.{field}
+use Rattle.slot_plan.specs.Words.{field}
 use Rattle.slot_plan.specs.declared.slot.Slot.{Slot}
 use Rattle.slot_plan.specs.declared.slot.Slot.TheVariants.{Stream, Pcr, Table, Null}
 use Rattle.slot_plan.specs.declared.certificate.StreamEntry.{StreamEntry}

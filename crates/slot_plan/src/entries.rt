@@ -6,7 +6,7 @@ ghost use Rattle.slot_plan.specs.Readers.{multiplexing_at, peaks_at};
 
 use crate::certificate::{MultiplexingEntry, ProgramEntry, StreamEntry};
 use crate::slot::Slot;
-use text_words::{after_number, after_word, field_at, number_before};
+use crate::words::{after_number, after_word, field_at, number_before};
 
 /// Returns a slot, and the text after the byte that ends it.
 pub fn slot_at(ending: u8, text: &[u8]) -> Option<(Slot, &[u8])>

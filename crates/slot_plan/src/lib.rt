@@ -7,6 +7,8 @@
 //! - [`Condition`]: what a plan has to keep; `specs/Conditions` and `specs/SwitchConditions` say it in numbers.
 //! - [`laws`]: the plan's text is its only one; the own slots over a run.
 //! - [`serving_plans`]: facts about a plan that serves a description.
+//! - `words`: words and decimal numbers without leading zeros, read at the front of a text in lines; `specs/Words` has
+//!   the readers and what they read, `proofs/WordReaders` that each accepts exactly that.
 #![tactic(auto)]
 
 mod certificate;
@@ -18,6 +20,7 @@ mod reader;
 pub mod serving_plans;
 mod slot;
 mod text;
+mod words;
 
 pub use certificate::{Certificate, MultiplexingEntry, ProgramEntry, StreamEntry};
 pub use condition::{Condition, Relation};
@@ -27,3 +30,4 @@ pub use description::{
 pub use plan::{Plan, PlanError};
 pub use reader::PlanTextError;
 pub use slot::{Item, Slot};
+pub use words::{NUMBER_LIMIT, after_number, after_word, field_at, number_before};

@@ -12,9 +12,9 @@ use crate::certificate::{Certificate, MAX_ENTRIES, MultiplexingEntry, ProgramEnt
 use crate::reader::{PlanTextError, plan_at};
 use crate::slot::{MAX_SLOTS, Slot};
 use crate::text::{write_head, write_programs, write_slots, write_streams};
+use crate::words::NUMBER_LIMIT;
 use std::alloc::{AllocError, Allocator, Global};
 use std::marker::Model;
-use text_words::NUMBER_LIMIT;
 use thiserror::Error;
 
 /// Why slots and certificate make no plan. The first that holds is given.

@@ -10,8 +10,8 @@ use crate::certificate::{Certificate, MAX_ENTRIES, ProgramEntry, StreamEntry};
 use crate::entries::{program_at, slot_at, stream_at};
 use crate::slot::{MAX_SLOTS, Slot};
 use crate::text::SLOTS_ON_A_LINE;
+use crate::words::{after_word, field_at};
 use std::alloc::Allocator;
-use text_words::{after_word, field_at};
 use thiserror::Error;
 
 /// Why a text is no plan's.

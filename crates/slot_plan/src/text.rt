@@ -2,7 +2,7 @@
 
 ghost use Rattle.std.specs.Prelude.{◌≡◌, ◌+◌, ◌<◌, ◌++◌, OnOk, string_bytes, length, codes};
 ghost use Rattle.slot_plan.specs.Text.{slot_word, stream_line, peak_words, program_line};
-ghost use Rattle.text_words.specs.Words.{field};
+ghost use Rattle.slot_plan.specs.Words.{field};
 ghost use Rattle.slot_plan.specs.Numbered.{numbered};
 
 use crate::certificate::{MultiplexingEntry, ProgramEntry, StreamEntry};

@@ -5,6 +5,7 @@ use Rattle.std.proofs.lemmas.List.{length-append, length-take, length-drop, leng
 use Rattle.std.specs.List.{flat_map}
 use Rattle.own_slots.specs.Slots.{own_slots}
 use Rattle.ts_packet.specs.PidList.{Entry, is_of_pid, pid_list}
+use Rattle.ts_packet.specs.Beginnings.{room_of, start_by}
 use Rattle.slot_contents.specs.Contents.{Content, ContentFits, PayloadContent, PcrContent, NullContent, view_of, run_bytes, Payload, payload_in, payloads_in, PayloadCount, HasNumber, payload_entry, payload_entries, payload_at, Piece, put}
 use Rattle.slot_contents.proofs.Counts.{payload_count_law, run_payload_entries, payload_entries_again}
 use Rattle.table_rounds.specs.Parts.{filled, part_of, part_content}
@@ -94,8 +95,13 @@ first_part table s j e =
     let bytes = bytes_at table s in
     let first : part_at table s ≡ part_of bytes 0 = ap (λ (p : SectionPlace). part_of bytes p.part) e in
     let some : nat_lt (184 * 0) (1 + length bytes) ≡ true = lt-ltb 0 (1 + length bytes) (omega arith) in
-    let there : part_of bytes 0 ≡ Some (record { start = true; bytes = take 184 (drop (184 * 0) (filled bytes)) }) = rw some refl in
-    (record { start = true; bytes = take 184 (drop (184 * 0) (filled bytes)) }, first ∙ there, refl)
+    let there : part_of bytes 0 ≡ Some (record { start = start_by true false; bytes = take 184 (drop (184 * 0) (filled bytes)) }) = rw some refl in
+    (record { start = start_by true false; bytes = take 184 (drop (184 * 0) (filled bytes)) }, first ∙ there, refl)
+
+-- without a start for a decoder a payload has 184 bytes
+plain_room : (b : Bool) → room_of (start_by b false) ≡ 184
+plain_room true = refl
+plain_room false = refl
 
 part_fits_of : (pid number : ℕ) (bytes : List ℕ) (q : ℕ) → pid < 2 ^ 13 → ContentFits (part_content pid number (part_of bytes q))
 unfolding part_of part_content
@@ -105,8 +111,8 @@ part_fits_of pid number bytes q below = elim (cases_lt (184 * q) (1 + length byt
       let all : length (filled bytes) ≡ 1 + (length bytes + 184) = ap suc (length-append bytes (replicate 184 0xFF) ∙ ap (λ (n : ℕ). length bytes + n) (length-replicate {A = ℕ} 184 0xFF)) ∙ omega arith in
       let size : length (take 184 (drop (184 * q) (filled bytes))) ≡ min 184 (length (filled bytes) - 184 * q) =
       length-take 184 (drop (184 * q) (filled bytes)) ∙ ap (min 184) (length-drop (184 * q) (filled bytes)) in
-      let there : part_content pid number (part_of bytes q) ≡ PayloadContent pid number (q == 0) (take 184 (drop (184 * q) (filled bytes))) = rw e refl in
-      subst ContentFits (sym there) (below, omega (arith, size, all, some), omega (arith, size))
+      let there : part_content pid number (part_of bytes q) ≡ PayloadContent pid number (start_by (q == 0) false) (take 184 (drop (184 * q) (filled bytes))) = rw e refl in
+      subst ContentFits (sym there) (below, omega (arith, size, all, some), omega (arith, size, plain_room (q == 0)))
   | inr none ↦
       let e : nat_lt (184 * q) (1 + length bytes) ≡ false = le-ltb (184 * q) (1 + length bytes) none in
       let there : part_content pid number (part_of bytes q) ≡ NullContent = rw e refl in

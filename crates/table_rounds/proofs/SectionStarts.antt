@@ -5,6 +5,8 @@ use Rattle.std.specs.List.{flat_map}
 use Rattle.own_slots.specs.Slots.{own_before, own_slots}
 use Rattle.own_slots.specs.Rounds.{starts}
 use Rattle.ts_packet.specs.PidList.{Entry, pid_list}
+use Rattle.ts_packet.specs.Views.{PacketView}
+use Rattle.ts_packet.specs.Beginnings.{is_start, has_access, start_by, start_in}
 use Rattle.slot_contents.specs.Contents.{run_bytes, Payload, payload_at, Piece, put}
 use Rattle.table_rounds.specs.Parts.{filled, part_of}
 use Rattle.table_rounds.specs.Tables.{Table, SectionPlace, round_places, place_in, place_at, moment_before, part_at}
@@ -62,6 +64,14 @@ of_map [] i x f = absurd (cc)
 of_map (e ∷ es) zero x f = let same : payload_at e ≡ x = cc in (e, refl, same)
 of_map (e ∷ es) (suc i) x f = of_map es i x f
 
+-- the start indicator of a packet is that of what begins with its payload
+pub start_indicated : (packet : PacketView) → is_start (start_in packet) ≡ packet.header.payload_unit_start_indicator
+start_indicated packet = by_both packet.header.payload_unit_start_indicator (has_access packet.adaptation) where
+  by_both : (b access : Bool) → is_start (start_by b access) ≡ b
+  by_both false access = refl
+  by_both true false = refl
+  by_both true true = refl
+
 pub begins : BeginsLaw
 unfolding part_of payload
 begins table n j s content alone lt within e =
@@ -69,10 +79,10 @@ begins table n j s content alone lt within e =
     let place = begins_at table j s lt own.1 in
     let bytes = table.bytes j (moment_before table (suc s)) in
     let some : nat_lt (184 * 0) (1 + length bytes) ≡ true = lt-ltb 0 (1 + length bytes) (omega arith) in
-    let first : part_of bytes 0 ≡ Some (record { start = true; bytes = take 184 (drop (184 * 0) (filled bytes)) }) = rw some refl in
-    let part : part_at table s ≡ Some (record { start = true; bytes = take 184 (drop (184 * 0) (filled bytes)) }) =
+    let first : part_of bytes 0 ≡ Some (record { start = start_by true false; bytes = take 184 (drop (184 * 0) (filled bytes)) }) = rw some refl in
+    let part : part_at table s ≡ Some (record { start = start_by true false; bytes = take 184 (drop (184 * 0) (filled bytes)) }) =
     ap (λ (p : SectionPlace). part_of (table.bytes p.section (moment_before table (suc s))) p.part) place ∙ first in
-    let at = found table 0 n s (record { start = true; bytes = take 184 (drop (184 * 0) (filled bytes)) }) (omega arith) (omega (arith, within)) own.0 part in
+    let at = found table 0 n s (record { start = start_by true false; bytes = take 184 (drop (184 * 0) (filled bytes)) }) (omega arith) (omega (arith, within)) own.0 part in
     let carried = table_carried table n content alone in
     let entry = of_map (pid_list table.pid (run_bytes content 0 n)) at.0 _ (ap (λ (l : List Payload). slice_get l at.0) carried.payloads ∙ at.1) in
     record {
@@ -80,6 +90,6 @@ begins table n j s content alone lt within e =
       entry = entry.0;
       listed = entry.1;
       slot = ap (λ (p : Payload). p.index) entry.2;
-      start = ap (λ (p : Payload). p.start) entry.2;
+      start = sym (start_indicated entry.0.packet) ∙ ap (λ (p : Payload). is_start p.start) entry.2;
       first = ap (λ (p : Payload). p.bytes) entry.2;
     }

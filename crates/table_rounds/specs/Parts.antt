@@ -1,5 +1,6 @@
 -- The parts of a section in transport packets (ISO/IEC 13818-1, 2.4.4.1): pointer_field 0 before it, 0xFF from its end to that of the packet.
-use Rattle.std.specs.Prelude.{ℕ, ◌+◌, ◌*◌, ◌/◌, ◌==◌, nat_lt, cond, List, ◌∷◌, ◌++◌, length, take, drop, replicate, Option, Some, None}
+use Rattle.std.specs.Prelude.{ℕ, ◌+◌, ◌*◌, ◌/◌, ◌==◌, nat_lt, cond, false, List, ◌∷◌, ◌++◌, length, take, drop, replicate, Option, Some, None}
+use Rattle.ts_packet.specs.Beginnings.{start_by}
 use Rattle.slot_contents.specs.Contents.{Content, PayloadContent, NullContent, Piece}
 
 -- the packets that a section of that length takes, in bytes
@@ -10,9 +11,9 @@ places_of l = (1 + l + 183) / 184
 abbrev pub filled : List ℕ → List ℕ
 filled section = 0 ∷ (section ++ replicate 184 0xFF)
 
--- part number q of a section: 184 bytes, none after the section's end
+-- part number q of a section: 184 bytes, none after the section's end; the section begins with part 0
 unfoldable pub part_of : List ℕ → ℕ → Option Piece
-part_of section q = cond (nat_lt (184 * q) (1 + length section)) (Some (record { start = q == 0; bytes = take 184 (drop (184 * q) (filled section)) })) None
+part_of section q = cond (nat_lt (184 * q) (1 + length section)) (Some (record { start = start_by (q == 0) false; bytes = take 184 (drop (184 * q) (filled section)) })) None
 
 -- a part in a slot, where it is the payload of this number on its PID
 unfoldable pub part_content : ℕ → ℕ → Option Piece → Content

@@ -3,6 +3,7 @@ use Rattle.std.specs.Prelude.{◌≡◌, ℕ, suc, ◌%◌, ◌^◌, ◌<◌, �
 use Rattle.std.specs.List.{flat_map}
 use Rattle.own_slots.specs.Slots.{own_slots}
 use Rattle.own_slots.specs.Rounds.{starts}
+use Rattle.ts_packet.specs.Beginnings.{is_start}
 use Rattle.ts_packet.specs.PidList.{Entry, is_of_pid, pid_list, payload_of}
 use Rattle.slot_contents.specs.Contents.{Content, ContentFits, view_of, run_bytes, Payload, payload_at, Piece, put}
 use Rattle.slot_contents.specs.RunLaws.{Fits}
@@ -33,7 +34,7 @@ TableCarriedLaw = (table : Table) (n : ℕ) (content : ℕ → Content) → Tabl
 
 -- the first part of a section is there, whatever its length: pointer_field, and the section's bytes
 abbrev pub FirstPartLaw : Type 0
-FirstPartLaw = (table : Table) (s j : ℕ) → place_at table s ≡ record { section = j; part = 0 } → (piece : Piece) × (part_at table s ≡ Some piece) × (piece.start ≡ true)
+FirstPartLaw = (table : Table) (s j : ℕ) → place_at table s ≡ record { section = j; part = 0 } → (piece : Piece) × (part_at table s ≡ Some piece) × (is_start piece.start ≡ true)
 
 -- what an own slot carries can be a packet
 abbrev pub PartFitsLaw : Type 0

@@ -1,11 +1,14 @@
 -- The adaptation field that fills a packet up.
-use Rattle.std.proofs.Common.{◌≡◌, ℕ, zero, suc, ◌+◌, ◌-◌, ◌<◌, List, [], ◌∷◌, ◌++◌, length, replicate, Some, refl, ap, ◌∙◌, arith}
+use Rattle.std.proofs.Common.{◌≡◌, ℕ, zero, suc, ◌+◌, ◌-◌, ◌<◌, ◌≤◌, List, [], ◌∷◌, ◌++◌, length, replicate, Some, refl, ap, ◌∙◌, arith}
 use Rattle.std.proofs.lemmas.List.{length-replicate}
 use Rattle.clock27.specs.Reference.{Reference}
 use Rattle.ts_packet.specs.Syntax.{control_of}
 use Rattle.ts_packet.specs.Views.{WithFlags}
 use Rattle.ts_packet.specs.Writing.{optional_bytes, adaptation_bytes, parts_bytes, flags_of, reference_bytes}
-use Rattle.ts_packet.specs.Packets.{plain_parts, stuffing_field}
+use Rattle.ts_packet.specs.declared.start.Start.{Start}
+use Rattle.ts_packet.specs.declared.start.Start.TheVariants.{Continues, Begins, Access}
+use Rattle.ts_packet.specs.Beginnings.{room_of}
+use Rattle.ts_packet.specs.Packets.{plain_parts, stuffing_field, field_of}
 
 -- no byte
 pub stuffing_none : (n : ℕ) → n ≡ 0 → optional_bytes adaptation_bytes (stuffing_field n) ≡ []
@@ -43,7 +46,38 @@ control_some zero payload h = absurd (omega arith)
 control_some (suc zero) payload h = refl
 control_some (suc (suc n)) payload h = refl
 
-pub ruleset filling = (stuffing_none, stuffing_one, stuffing_long, control_none, control_some)
+-- without a start for a decoder the field is the stuffing
+pub field_continues : (n : ℕ) → field_of Continues n ≡ stuffing_field n
+unfolding field_of
+field_continues n = refl
+
+pub field_begins : (n : ℕ) → field_of Begins n ≡ stuffing_field n
+unfolding field_of
+field_begins n = refl
+
+-- with one it is a length, the flags and stuffing
+pub access_bytes : (n : ℕ) → 1 < n → optional_bytes adaptation_bytes (field_of Access n) ≡ (n - 1) ∷ 64 ∷ replicate (n - 2) 0xFF
+unfolding field_of adaptation_bytes parts_bytes flags_of
+access_bytes n h =
+    let size : length (replicate {A = ℕ} (n - 2) 0xFF) ≡ n - 2 = length-replicate (n - 2) 0xFF in
+    let first : 1 + length (replicate {A = ℕ} (n - 2) 0xFF) ≡ n - 1 = omega arith in
+    ap (λ (m : ℕ). m ∷ 64 ∷ replicate (n - 2) 0xFF) first
+
+pub field_none : (start : Start) (n : ℕ) (payload : List ℕ) → 184 ≤ n + room_of start → n ≡ 0 → control_of (field_of start n) (Some payload) ≡ 1
+unfolding field_of
+field_none Continues n payload room e = control_none n payload e
+field_none Begins n payload room e = control_none n payload e
+field_none Access n payload room e = absurd (omega arith)
+
+pub field_some : (start : Start) (n : ℕ) (payload : List ℕ) → 0 < n → control_of (field_of start n) (Some payload) ≡ 3
+unfolding field_of
+field_some Continues n payload h = control_some n payload h
+field_some Begins n payload h = control_some n payload h
+field_some Access n payload h = refl
+
+pub ruleset filling = (stuffing_none, stuffing_one, stuffing_long, field_none, field_some)
+
+pub ruleset fields = (field_continues, field_begins, access_bytes)
 
 -- the adaptation field of a clock reference and stuffing
 pub pcr_field_bytes : (pcr : Reference) → optional_bytes adaptation_bytes (Some (WithFlags (plain_parts (Some pcr) 176))) ≡ 183 ∷ 16 ∷ (reference_bytes pcr ++ replicate 176 0xFF)

@@ -1,11 +1,13 @@
 -- What the laws of this crate say.
-use Rattle.std.specs.Prelude.{◌≡◌, ℕ, ◌^◌, ◌<◌, ◌≤◌, List, ◌∷◌, ◌++◌, length, map, All, Bool, Ok}
+use Rattle.std.specs.Prelude.{◌≡◌, ℕ, ◌^◌, ◌<◌, ◌≤◌, List, [], ◌∷◌, ◌++◌, length, map, All, false, Ok, ⊤}
 use Rattle.clock27.specs.Reference.{Reference}
+use Rattle.ts_packet.specs.declared.start.Start.{Start}
 use Rattle.ts_packet.specs.Views.{PacketView}
+use Rattle.ts_packet.specs.Beginnings.{is_access, room_of, start_in}
 use Rattle.ts_packet.specs.Syntax.{IsPacket, ReferenceFits}
 use Rattle.ts_packet.specs.Reading.{packet_at}
 use Rattle.ts_packet.specs.Writing.{packet_bytes, PacketFits}
-use Rattle.ts_packet.specs.Packets.{payload_view, payload_packet, pcr_view, pcr_packet, null_view, null_packet, packets, payload_views}
+use Rattle.ts_packet.specs.Packets.{stuffing_field, field_of, payload_view, payload_packet, pcr_view, pcr_packet, null_view, null_packet, packets, payload_views}
 use Rattle.ts_packet.specs.PidList.{cut_packets, pid_list}
 
 -- the bytes of a packet say one thing, and it is read
@@ -22,8 +24,16 @@ abbrev pub PacketsAgain : Type 0
 PacketsAgain = (packet : PacketView) → PacketFits packet → ReadAgain (packet_bytes packet) packet
 
 abbrev pub PayloadsAgain : Type 0
-PayloadsAgain = (pid : ℕ) (start : Bool) (counter : ℕ) (payload : List ℕ) → pid < 2 ^ 13 → counter < 2 ^ 4 → 0 < length payload → length payload ≤ 184
+PayloadsAgain = (pid : ℕ) (start : Start) (counter : ℕ) (payload : List ℕ) → pid < 2 ^ 13 → counter < 2 ^ 4 → 0 < length payload → length payload ≤ room_of start
     → ReadAgain (payload_packet pid start counter payload) (payload_view pid start counter payload)
+
+-- what begins with a payload is read again from its packet
+abbrev pub StartAgain : Type 0
+StartAgain = (pid : ℕ) (start : Start) (counter : ℕ) (payload : List ℕ) → start_in (payload_view pid start counter payload) ≡ start
+
+-- a payload with which no decoder may begin has the stuffing alone before it
+abbrev pub WithoutAccess : Type 0
+WithoutAccess = (start : Start) (n : ℕ) → is_access start ≡ false → field_of start n ≡ stuffing_field n
 
 abbrev pub PcrsAgain : Type 0
 PcrsAgain = (pid : ℕ) (pcr : Reference) → pid < 2 ^ 13 → ReferenceFits pcr → ReadAgain (pcr_packet pid pcr) (pcr_view pid pcr)
@@ -35,10 +45,15 @@ NullAgain = ReadAgain null_packet null_view
 abbrev pub IsPiece : List ℕ → Type 0
 IsPiece piece = (0 < length piece) × (length piece ≤ 184)
 
--- the packets of pieces on one PID are that PID's list: the pieces in order, the start indicator on the first alone, and counters that go up by
+-- the first of pieces leaves room for what begins there
+abbrev pub FirstFits : Start → List (List ℕ) → Type 0
+FirstFits start [] = ⊤
+FirstFits start (piece ∷ pieces) = length piece ≤ room_of start
+
+-- the packets of pieces on one PID are that PID's list: the pieces in order, what begins on the first alone, and counters that go up by
 -- one modulo 16
 abbrev pub PiecesListed : Type 0
-PiecesListed = (pid : ℕ) (start : Bool) (number : ℕ) (pieces : List (List ℕ)) → pid < 2 ^ 13 → All IsPiece pieces
+PiecesListed = (pid : ℕ) (start : Start) (number : ℕ) (pieces : List (List ℕ)) → pid < 2 ^ 13 → All IsPiece pieces → FirstFits start pieces
     → map (λ entry. entry.packet) (pid_list pid (packets pid start number pieces)) ≡ payload_views pid start number pieces
 
 -- a whole packet in front is cut off

@@ -3,6 +3,7 @@ pub mod Syntax
 pub mod Reading
 pub mod Codes
 pub mod Writing
+pub mod Beginnings
 pub mod Packets
 pub mod PidList
 pub mod Laws

@@ -1,8 +1,11 @@
 -- The packets that a multiplexer writes.
-use Rattle.std.specs.Prelude.{ℕ, zero, suc, ◌+◌, ◌-◌, ◌%◌, List, [], ◌∷◌, ◌++◌, length, replicate, Bool, false, Option, Some, None}
+use Rattle.std.specs.Prelude.{ℕ, zero, suc, ◌+◌, ◌-◌, ◌%◌, List, [], ◌∷◌, ◌++◌, length, replicate, Bool, true, false, Option, Some, None}
 use Rattle.clock27.specs.Reference.{Reference}
 use Rattle.ts_packet.specs.declared.header.Header.{Header}
 use Rattle.ts_packet.specs.Views.{FieldView, AdaptationView, NoFlags, WithFlags, PacketView}
+use Rattle.ts_packet.specs.declared.start.Start.{Start}
+use Rattle.ts_packet.specs.declared.start.Start.TheVariants.{Continues, Begins, Access}
+use Rattle.ts_packet.specs.Beginnings.{is_start}
 use Rattle.ts_packet.specs.Writing.{packet_bytes}
 
 -- a header in the clear, of a packet without known faults
@@ -36,15 +39,26 @@ stuffing_field zero = None
 stuffing_field (suc zero) = Some NoFlags
 stuffing_field (suc (suc n)) = Some (WithFlags (plain_parts None n))
 
--- a packet of one payload of at most 184 bytes, after an adaptation field of stuffing where it is shorter
-abbrev pub payload_view : ℕ → Bool → ℕ → List ℕ → PacketView
+-- one of n bytes with the random_access_indicator, two bytes or more
+abbrev pub access_field : ℕ → AdaptationView
+access_field n = WithFlags (record (plain_parts None (n - 2)) { random_access_indicator = true })
+
+-- the adaptation field of n bytes before a payload, by what begins there
+unfoldable pub field_of : Start → ℕ → Option AdaptationView
+field_of Continues n = stuffing_field n
+field_of Begins n = stuffing_field n
+field_of Access n = Some (access_field n)
+
+-- a packet of one payload of at most 184 bytes, after an adaptation field of stuffing where it is shorter; of at most 182
+-- bytes where a decoder may begin with it, since the field then has flags that say so
+abbrev pub payload_view : ℕ → Start → ℕ → List ℕ → PacketView
 payload_view pid start counter payload = record {
-  header = plain_header pid start counter;
-  adaptation = stuffing_field (184 - length payload);
+  header = plain_header pid (is_start start) counter;
+  adaptation = field_of start (184 - length payload);
   payload = Some payload;
 }
 
-unfoldable pub payload_packet : ℕ → Bool → ℕ → List ℕ → List ℕ
+unfoldable pub payload_packet : ℕ → Start → ℕ → List ℕ → List ℕ
 payload_packet pid start counter payload = packet_bytes (payload_view pid start counter payload)
 
 -- a packet of a PID that carries program clock references alone: no payload, and counter 15 in each
@@ -69,13 +83,13 @@ null_view = record {
 unfoldable pub null_packet : List ℕ
 null_packet = packet_bytes null_view
 
--- the packets of pieces on one PID, one after the other: the first has this start indicator and this number, from which each counts on;
+-- the packets of pieces on one PID, one after the other: the first begins so and has this number, from which each counts on;
 -- the counter is the number modulo 16
-unfoldable pub packets : ℕ → Bool → ℕ → List (List ℕ) → List ℕ
+unfoldable pub packets : ℕ → Start → ℕ → List (List ℕ) → List ℕ
 packets pid start number [] = []
-packets pid start number (piece ∷ pieces) = payload_packet pid start (number % 16) piece ++ packets pid false (number + 1) pieces
+packets pid start number (piece ∷ pieces) = payload_packet pid start (number % 16) piece ++ packets pid Continues (number + 1) pieces
 
 -- what these packets say
-unfoldable pub payload_views : ℕ → Bool → ℕ → List (List ℕ) → List PacketView
+unfoldable pub payload_views : ℕ → Start → ℕ → List (List ℕ) → List PacketView
 payload_views pid start number [] = []
-payload_views pid start number (piece ∷ pieces) = payload_view pid start (number % 16) piece ∷ payload_views pid false (number + 1) pieces
+payload_views pid start number (piece ∷ pieces) = payload_view pid start (number % 16) piece ∷ payload_views pid Continues (number + 1) pieces

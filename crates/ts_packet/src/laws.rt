@@ -1,7 +1,7 @@
 //! Laws of the definitions. Each function does nothing: its contract is the law.
 ghost use Rattle.ts_packet.specs.PcrBytes.{PcrStands};
 ghost use Rattle.ts_packet.specs.Laws.{ReadOnce, PacketsAgain, PayloadsAgain, PcrsAgain, NullAgain};
-ghost use Rattle.ts_packet.specs.Laws.{FirstCut, PiecesListed};
+ghost use Rattle.ts_packet.specs.Laws.{StartAgain, WithoutAccess, FirstCut, PiecesListed};
 
 /// States that the bytes of a packet say one thing, and it is read.
 pub fn read_once()
@@ -13,14 +13,22 @@ pub fn packets_again()
     ensures { PacketsAgain }
 {}
 
-/// States that the packet of a payload is read again as that payload, with a plain header and the adaptation field
-/// of stuffing.
+/// States that the packet of a payload is read again as that payload, with a plain header and the adaptation field before it.
 pub fn payloads_again()
     ensures { PayloadsAgain }
 {}
 
-/// States that the packet of a program clock reference is read again as that reference, without a payload and with
-/// counter 15.
+/// States that what begins with a payload is read again from its packet.
+pub fn start_again()
+    ensures { StartAgain }
+{}
+
+/// States that a payload with which no decoder may begin has the stuffing alone before it.
+pub fn without_access()
+    ensures { WithoutAccess }
+{}
+
+/// States that the packet of a program clock reference is read again as that reference, without a payload and with counter 15.
 pub fn pcrs_again()
     ensures { PcrsAgain }
 {}

@@ -5,9 +5,9 @@
 //! multiplexer writes three kinds of packet: `write_payload`, `write_pcr` and `null_packet`. No call takes memory.
 //! The readers and writers of `counted_io` are exported here as well.
 //!
-//! The definitions are in `specs/`: `Syntax` has the standard's tables of fields as a relation, `Reading` the
-//! function on lists that names the refusals, `Writing` and `Packets` the written bytes, `PidList` the packets of one PID
-//! in a byte stream, and `PcrBytes` which bytes of a packet are its program clock reference. The functions of `laws`
+//! The definitions stand in `specs/`: `Syntax` has the standard's tables of fields as a relation, `Reading` the
+//! function on lists that names the refusals, `Writing` and `Packets` what is written, `PidList` the packets of one PID
+//! in a byte stream, `Beginnings` what begins with a payload, and `PcrBytes` which bytes of a packet are its program clock reference. The functions of `laws`
 //! say how these are related.
 #![tactic(auto)]
 
@@ -15,6 +15,7 @@
 mod adaptation;
 mod header;
 mod packet;
+mod start;
 
 // Reading, from the first byte on.
 mod field_reading;
@@ -43,3 +44,4 @@ pub use plain_packets::{
     MAX_PAYLOAD, NULL_PID, null_packet, write_null_packet_into, write_payload, write_payload_into,
     write_pcr, write_pcr_into, write_split_payload_into,
 };
+pub use start::Start;

@@ -1,13 +1,15 @@
 //! The packets that a multiplexer writes: of one payload, of one program clock reference, and null. Each can be written
 //! into the 188 bytes of a caller's buffer, so that no byte of it is copied again.
-ghost use Rattle.std.specs.Prelude.{◌≡◌, ◌+◌, ◌-◌, ◌≤◌, ◌<◌, ◌^◌, ◌++◌, ℕ, List, Some, length};
+ghost use Rattle.std.specs.Prelude.{◌≡◌, ◌+◌, ◌-◌, ◌≤◌, ◌<◌, ◌^◌, ◌++◌, ◌∷◌, ℕ, List, Some, length, replicate};
 ghost use Rattle.ts_packet.specs.Syntax.{control_of};
-ghost use Rattle.ts_packet.specs.Packets.{plain_header, stuffing_field, payload_packet, pcr_packet, null_packet};
+ghost use Rattle.ts_packet.specs.Beginnings.{is_start, room_of};
+ghost use Rattle.ts_packet.specs.Packets.{plain_header, stuffing_field, field_of, payload_packet, pcr_packet, null_packet};
 ghost use Rattle.ts_packet.specs.Writing.{header_bytes, optional_bytes, adaptation_bytes};
 
 use crate::adaptation::ClockReference;
 use crate::fixed_fields::{header_bytes, reference_bytes};
 use crate::header::Header;
+use crate::start::Start;
 use clock27::Pcr;
 
 /// The PID of null packets (ISO/IEC 13818-1, table 2-3).
@@ -34,11 +36,25 @@ fn plain_header(pid: u16, start: bool, counter: u8) -> Header
 
 // adaptation_field_control of a packet with a payload after an adaptation field of `size` bytes in all.
 #[tactic(auto, using(crate::proofs::Filling::filling))]
-fn adaptation_field_control(size: usize) -> u8
-    ensures value { (payload : List ℕ) → result ≡ control_of (stuffing_field size) (Some payload) }
+fn adaptation_field_control(start: Start, size: usize) -> u8
+    requires { 184 ≤ size + room_of start }
+    ensures value { (payload : List ℕ) → result ≡ control_of (field_of start size) (Some payload) }
     ensures below { result < 4 }
 {
     if size == 0 { 1 } else { 3 }
+}
+
+// Writes an adaptation field of a length, these flags and stuffing into all of these bytes.
+fn write_flags_and_stuffing(field: &mut [u8], flags: u8)
+    requires lower { 1 < length field.old }
+    requires upper { length field.old < 184 }
+    ensures bytes { field.new ≡ (length field.old - 1) ∷ flags ∷ replicate (length field.old - 2) 0xFF }
+    ensures len { length field.new ≡ length field.old }
+{
+    let size = field.len();
+    let (front, stuffing) = field.split_at_mut(2);
+    front.copy_from_slice(&[(size - 1) as u8, flags]);
+    stuffing.copy_from_slice(&STUFFING[..size - 2]);
 }
 
 // Writes an adaptation field of stuffing into all of these bytes, or nothing where there are none.
@@ -51,51 +67,77 @@ fn write_stuffing_field(field: &mut [u8])
     match field.len() {
         0 => (),
         1 => field.copy_from_slice(&[0]),
-        size => {
-            let (front, stuffing) = field.split_at_mut(2);
-            front.copy_from_slice(&[(size - 1) as u8, 0]);
-            stuffing.copy_from_slice(&STUFFING[..size - 2]);
-        }
+        _ => write_flags_and_stuffing(field, 0),
     }
 }
 
-// Writes what stands before a payload: the header, and an adaptation field of stuffing.
-fn write_header_and_stuffing(front: &mut [u8], pid: u16, start: bool, counter: u8)
-    requires pid { pid < 2 ^ 13 }
-    requires counter { counter < 2 ^ 4 }
-    requires header { 4 ≤ length front.old }
-    requires some { length front.old < 188 }
-    ensures bytes { (payload : List ℕ) → front.new
-        ≡ header_bytes (plain_header pid start counter)
-        (control_of (stuffing_field (length front.old - 4)) (Some payload))
-        ++ optional_bytes adaptation_bytes (stuffing_field (length front.old - 4)) }
-    ensures len { length front.new ≡ length front.old }
+// Writes the adaptation field before a payload into all of these bytes, or nothing where there are none.
+#[tactic(auto, using(crate::proofs::Filling::fields))]
+fn write_field(start: Start, field: &mut [u8])
+    requires room { 184 ≤ length field.old + room_of start }
+    requires some { length field.old < 184 }
+    ensures bytes { field.new ≡ optional_bytes adaptation_bytes (field_of start (length field.old)) }
+    ensures len { length field.new ≡ length field.old }
 {
-    let control = adaptation_field_control(front.len() - 4);
-    let bytes = header_bytes(plain_header(pid, start, counter), control);
-    let (header, field) = front.split_at_mut(4);
-    header.copy_from_slice(&bytes);
-    write_stuffing_field(field);
+    match start {
+        Start::Continues => write_stuffing_field(field),
+        Start::Begins => write_stuffing_field(field),
+        Start::Access => write_flags_and_stuffing(field, 0x40),
+    }
 }
 
-/// Writes the packet of one payload of 1 to 184 bytes into `packet`. If the payload is shorter than 184 bytes, an
-/// adaptation field of stuffing precedes it.
+// Writes what stands before a payload: the header, and an adaptation field.
+fn write_header_and_field(front: &mut [u8], pid: u16, start: Start, counter: u8)
+    requires pid { pid < 2 ^ 13 }
+    requires counter { counter < 2 ^ 4 }
+    requires room { 188 ≤ length front.old + room_of start }
+    requires some { length front.old < 188 }
+    ensures bytes { (payload : List ℕ) → front.new
+        ≡ header_bytes (plain_header pid (is_start start) counter)
+        (control_of (field_of start (length front.old - 4)) (Some payload))
+        ++ optional_bytes adaptation_bytes (field_of start (length front.old - 4)) }
+    ensures len { length front.new ≡ length front.old }
+{
+    room_is(start);
+    let control = adaptation_field_control(start, front.len() - 4);
+    let bytes = header_bytes(plain_header(pid, start.is_start(), counter), control);
+    let (header, field) = front.split_at_mut(4);
+    header.copy_from_slice(&bytes);
+    write_field(start, field);
+}
+
+// The greatest payload has 182 or 184 bytes.
+fn room_is(start: Start)
+    ensures least { 182 ≤ room_of start }
+    ensures most { room_of start ≤ 184 }
+{
+    match start {
+        Start::Continues => (),
+        Start::Begins => (),
+        Start::Access => (),
+    }
+}
+
+/// Writes the packet of one payload of 1 to 184 bytes into `packet`. Where the payload is shorter than 184 bytes an
+/// adaptation field of stuffing stands before it. With [`Start::Access`] the payload has at most 182 bytes, and the
+/// flags of the field say so.
 #[tactic(auto, unfolding(crate::specs::Packets::payload_packet, crate::specs::Writing::packet_bytes))]
 pub fn write_payload_into(
     packet: &mut [u8; 188],
     pid: u16,
-    start: bool,
+    start: Start,
     counter: u8,
     payload: &[u8],
 )
     requires pid { pid < 2 ^ 13 }
     requires counter { counter < 2 ^ 4 }
     requires some { 0 < length payload.now }
-    requires most { length payload.now ≤ 184 }
+    requires most { length payload.now ≤ room_of start }
     ensures { packet.new ≡ payload_packet pid start counter payload.now }
 {
+    room_is(start);
     let (front, room) = packet.split_at_mut(188 - payload.len());
-    write_header_and_stuffing(front, pid, start, counter);
+    write_header_and_field(front, pid, start, counter);
     room.copy_from_slice(payload);
 }
 
@@ -104,7 +146,7 @@ pub fn write_payload_into(
 pub fn write_split_payload_into(
     packet: &mut [u8; 188],
     pid: u16,
-    start: bool,
+    start: Start,
     counter: u8,
     first: &[u8],
     rest: &[u8],
@@ -112,23 +154,24 @@ pub fn write_split_payload_into(
     requires pid { pid < 2 ^ 13 }
     requires counter { counter < 2 ^ 4 }
     requires some { 0 < length first.now }
-    requires most { length first.now + length rest.now ≤ 184 }
+    requires most { length first.now + length rest.now ≤ room_of start }
     ensures { packet.new ≡ payload_packet pid start counter (first.now ++ rest.now) }
 {
+    room_is(start);
     let size = first.len() + rest.len();
     let (front, room) = packet.split_at_mut(188 - size);
-    write_header_and_stuffing(front, pid, start, counter);
+    write_header_and_field(front, pid, start, counter);
     let (before, after) = room.split_at_mut(first.len());
     before.copy_from_slice(first);
     after.copy_from_slice(rest);
 }
 
 /// Returns the packet of one payload of 1 to 184 bytes.
-pub fn write_payload(pid: u16, start: bool, counter: u8, payload: &[u8]) -> [u8; 188]
+pub fn write_payload(pid: u16, start: Start, counter: u8, payload: &[u8]) -> [u8; 188]
     requires pid { pid < 2 ^ 13 }
     requires counter { counter < 2 ^ 4 }
     requires some { 0 < length payload.now }
-    requires most { length payload.now ≤ 184 }
+    requires most { length payload.now ≤ room_of start }
     ensures { result ≡ payload_packet pid start counter payload.now }
 {
     let mut packet = [0; 188];

@@ -8,8 +8,9 @@ use Rattle.std.proofs.lemmas.List.Sums.{sum_by-cons}
 use Rattle.pes_packet.specs.AccessUnits.{AccessUnit}
 use Rattle.pes_packet.specs.declared.marks.Marks.{Marks}
 use Rattle.pes_packet.specs.Encoding.{on_wire, pes_header_bytes, pes_packet_bytes}
-use Rattle.decoder_buffers.specs.DepartureWalk.{given}
+use Rattle.tstd.specs.DepartureWalk.{given}
 use Rattle.pes_packet.specs.Units.{units_of, pes_packets_of}
+use Rattle.pes_packet.specs.Marks.{field_size}
 use Rattle.tstd.specs.Carried.{timed_pes_packets}
 
 -- a stamp on the wire stays as it is
@@ -53,7 +54,7 @@ beginning_few (b ∷ expected) (x ∷ part) e =
 pub sizes_joined : (id base0 : ℕ) (units : List AccessUnit) → length (concat (pes_packets_of id base0 units)) ≡ sum_by (λ t. t.size) (timed_pes_packets id base0 units)
 sizes_joined id base0 [] = refl
 sizes_joined id base0 (u ∷ units) =
-    rw (sum_by-cons (λ t. t.size) (record { dts = u.dts; size = length (pes_packet_bytes id base0 u) }) (timed_pes_packets id base0 units))
+    rw (sum_by-cons (λ t. t.size) (record { dts = u.dts; size = length (pes_packet_bytes id base0 u); front = field_size u.marks.random_access }) (timed_pes_packets id base0 units))
     (omega (arith, length-append (pes_packet_bytes id base0 u) (concat (pes_packets_of id base0 units)), sizes_joined id base0 units))
 
 -- no text is left: the payloads have to end

@@ -1,3 +1,13 @@
+pub mod RisingTimes
+pub mod QueueStates
+pub mod ByteRows
+pub mod DepartureWalks
+pub mod BufferCounts
+pub mod Residence
+pub mod PassedBytes
+pub mod PayloadWalks
+pub mod EntryPeaks
+pub mod UnitBytes
 pub mod CarriedBytes
 pub mod Peaks
 pub mod StreamPackets

@@ -9,20 +9,20 @@ use Rattle.clock27.specs.Peak.{IsPeak, Climbs}
 use Rattle.clock27.proofs.Fullness.{fullness_le}
 use Rattle.clock27.proofs.Peak.{peak_law, arrivals_climb, departures_climb}
 use Rattle.clock27.proofs.Departures.{length-departures}
-use Rattle.decoder_buffers.specs.declared.queue.Queue.{Queue}
+use Rattle.tstd.specs.declared.queue.Queue.{Queue}
 use Rattle.tstd.specs.declared.fullness.SystemFullness.{SystemFullness}
 use Rattle.tstd.specs.Measured.{IsSystemFullness}
-use Rattle.decoder_buffers.specs.Queues.{all_arrived, greatest_residence, bytes_within}
+use Rattle.tstd.specs.Queues.{all_arrived, greatest_residence, bytes_within}
 use Rattle.description.specs.Described.{DescribedStream}
 use Rattle.description.specs.Ranges.{IsStream, IsMultiplexingBuffer}
 use Rattle.std.proofs.lemmas.List.Elements.{All-head}
 use Rattle.unit_timing.specs.declared.multiplexing_buffer.MultiplexingBuffer.{MultiplexingBuffer}
 use Rattle.unit_timing.specs.Schedule.{Packet}
 use Rattle.unit_timing.specs.VideoBuffers.{multiplexing_entered, multiplexing_fullness}
-use Rattle.decoder_buffers.specs.MultiplexingQueue.{residence_in, peak_in}
-use Rattle.decoder_buffers.proofs.RisingTimes.{climbs_low, left_climbs}
-use Rattle.decoder_buffers.proofs.Residence.{most_residence, longest_arrived}
-use Rattle.decoder_buffers.proofs.ByteRows.{length-row}
+use Rattle.tstd.specs.MultiplexingQueue.{residence_in, peak_in}
+use Rattle.tstd.proofs.RisingTimes.{climbs_low, left_climbs}
+use Rattle.tstd.proofs.Residence.{most_residence, longest_arrived}
+use Rattle.tstd.proofs.ByteRows.{length-row}
 
 pub residence_peak : (step longest_residence : ℕ) (ts : List ℕ) → 0 < step → Climbs 0 ts → longest_residence ≡ greatest_residence step 0 ts →
     IsPeak (λ x. fullness x ts (departures step 0 ts)) (bytes_within step longest_residence)

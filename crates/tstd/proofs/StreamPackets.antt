@@ -13,15 +13,15 @@ use Rattle.unit_timing.specs.MainBuffer.{mb_fullness}
 use Rattle.unit_timing.specs.Schedule.{Packet}
 use Rattle.unit_timing.specs.PesPacket.{PesPacket}
 use Rattle.unit_timing.specs.Transport.{slots_of, of_payloads}
-use Rattle.decoder_buffers.specs.declared.payload_bytes.PayloadBytes.{PayloadBytes}
-use Rattle.decoder_buffers.specs.declared.main_buffer.MainBuffer.{MainBuffer}
-use Rattle.unit_arrival.specs.Entry.{peak_of}
-use Rattle.decoder_buffers.specs.BufferState.{fullness_at}
-use Rattle.decoder_buffers.specs.PidPackets.{size_in, listed, packets_from}
+use Rattle.tstd.specs.declared.payload_bytes.PayloadBytes.{PayloadBytes}
+use Rattle.tstd.specs.declared.main_buffer.MainBuffer.{MainBuffer}
+use Rattle.tstd.specs.Entry.{peak_of}
+use Rattle.tstd.specs.BufferState.{fullness_at}
+use Rattle.tstd.specs.PidPackets.{size_in, listed, packets_from}
 use Rattle.tstd.specs.PacketLists.{payload_in, payloads_from, is_of_tables, tables_from}
-use Rattle.decoder_buffers.specs.DepartureWalk.{given}
-use Rattle.decoder_buffers.specs.PayloadBytes.{bytes_ahead, drain_of}
-use Rattle.decoder_buffers.proofs.RisingTimes.{climbs_low, greatest_ext}
+use Rattle.tstd.specs.DepartureWalk.{given}
+use Rattle.tstd.specs.PayloadBytes.{bytes_ahead, drain_of}
+use Rattle.tstd.proofs.RisingTimes.{climbs_low, greatest_ext}
 
 listed_climb : (index : ℕ) (o : Option ℕ) (packets : List Packet) → Climbs (suc index) (slots_of packets) → Climbs index (slots_of (listed index o packets))
 unfolding Climbs

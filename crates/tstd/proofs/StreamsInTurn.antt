@@ -17,7 +17,7 @@ use Rattle.tstd.specs.declared.fullness.LateUnit.{LateUnit}
 use Rattle.pes_packet.specs.Units.{units_of, pes_packets_of}
 use Rattle.tstd.specs.Carried.{timed_pes_packets, packets_on, table_packets, carries}
 use Rattle.tstd.specs.StreamFit.{fits_of}
-use Rattle.decoder_buffers.specs.PidPackets.{packets_from}
+use Rattle.tstd.specs.PidPackets.{packets_from}
 use Rattle.tstd.specs.PacketLists.{payloads_from, tables_from}
 use Rattle.tstd.specs.Measured.{IsStreamFullness, IsSystemFullness, late_in, late_or, late_from}
 use Rattle.tstd.specs.Refusals.{is_declared, all_carried}

@@ -9,11 +9,11 @@ use Rattle.clock27.specs.Departure.{departures, last_left}
 use Rattle.clock27.specs.Peak.{Climbs}
 use Rattle.clock27.proofs.Departures.{departures-append}
 use Rattle.ts_packet.specs.Reading.{packet_at}
-use Rattle.decoder_buffers.specs.declared.queue.Queue.{Queue}
+use Rattle.tstd.specs.declared.queue.Queue.{Queue}
 use Rattle.tstd.specs.PacketLists.{is_of_tables, tables_from}
-use Rattle.decoder_buffers.specs.Queues.{arrived, all_arrived}
-use Rattle.decoder_buffers.proofs.RisingTimes.{climbs_low}
-use Rattle.decoder_buffers.proofs.QueueStates.{passed-step, passed-last}
+use Rattle.tstd.specs.Queues.{arrived, all_arrived}
+use Rattle.tstd.proofs.RisingTimes.{climbs_low}
+use Rattle.tstd.proofs.QueueStates.{passed-step, passed-last}
 
 -- one byte more of those up to `end` passes both
 pub pass_step : (q p : Queue) (byte end : ℕ) → byte < end →

@@ -9,13 +9,18 @@ use Rattle.pes_packet.specs.AccessUnits.{AccessUnit}
 use Rattle.pes_packet.specs.Encoding.{pes_packet_bytes}
 use Rattle.unit_timing.specs.Arrived.{is_due, has_left, first_late}
 use Rattle.unit_timing.specs.PesPacket.{PesPacket}
+use Rattle.unit_timing.specs.MainBuffer.{mb_fullness}
+use Rattle.tstd.specs.declared.payload_bytes.PayloadBytes.{PayloadBytes}
+use Rattle.tstd.specs.declared.main_buffer.MainBuffer.{MainBuffer}
+use Rattle.tstd.specs.Entry.{peak_of}
+use Rattle.pes_packet.specs.Marks.{field_size}
 use Rattle.pes_packet.specs.Units.{units_of}
 use Rattle.tstd.specs.Carried.{timed_pes_packets}
 
 -- an entry of the stream, with its stamp and the size of its PES packet
 pub texts_own : (id base0 stream i due size : ℕ) (units : List (ℕ × AccessUnit)) (u : ℕ × AccessUnit) → i < length units → u ≡ get_or units i u → (u.0 == stream) ≡ true →
     due ≡ u.1.dts → size ≡ length (pes_packet_bytes id base0 u.1) →
-    timed_pes_packets id base0 (units_of stream (drop i units)) ≡ record { dts = due; size = size } ∷ timed_pes_packets id base0 (units_of stream (drop (i + 1) units))
+    timed_pes_packets id base0 (units_of stream (drop i units)) ≡ record { dts = due; size = size; front = field_size u.1.marks.random_access } ∷ timed_pes_packets id base0 (units_of stream (drop (i + 1) units))
 texts_own id base0 stream i due size units u below at own stamp is = rw (drop-cons units i u below, add-one i, sym at, own, stamp, is) refl
 
 -- of another
@@ -42,13 +47,19 @@ pub size_next : (pes_packet : PesPacket) (pes_packets : List PesPacket) → sum_
 size_next pes_packet pes_packets = sum_by-cons (λ t. t.size) pes_packet pes_packets
 
 -- a text, and those after it
-pub late_more : (rate rx slots number size due : ℕ) (late : Option ℕ) (is : Bool) (pes_packets : List PesPacket) (left left' : List ℕ) (rate' rx' : ℕ) → rate' ≡ rate → rx' ≡ rx →
-    is ≡ (is_due rate' slots (record { dts = due; size = size }) && not (has_left rate' rx' (record { dts = due; size = size }) left)) → left' ≡ drop size left →
+pub late_more : (rate rx slots number size front due : ℕ) (late : Option ℕ) (is : Bool) (pes_packets : List PesPacket) (left left' : List ℕ) (rate' rx' : ℕ) → rate' ≡ rate → rx' ≡ rx →
+    is ≡ (is_due rate' slots (record { dts = due; size = size; front = 0 }) && not (has_left rate' rx' (record { dts = due; size = size; front = 0 }) left)) → left' ≡ drop size left →
     option_or (option_or late (if is then Some number else None)) (first_late rate rx slots (number + 1) pes_packets left')
-    ≡ option_or late (first_late rate rx slots number (record { dts = due; size = size } ∷ pes_packets) left)
+    ≡ option_or late (first_late rate rx slots number (record { dts = due; size = size; front = front } ∷ pes_packets) left)
 unfolding first_late
-late_more rate rx slots number size due late is pes_packets left left' rate' rx' same_rate same_rx decided rest =
+late_more rate rx slots number size front due late is pes_packets left left' rate' rx' same_rate same_rx decided rest =
     rw (late_next late is number (first_late rate rx slots (number + 1) pes_packets left'), decided, rest, same_rate, same_rx, add-one number) refl
+
+-- the main buffer holds the bytes of a PES packet alone, whatever is in front of them
+pub peak_front : {A : Type 0} (walk : PayloadBytes) (buffer : MainBuffer A) (due size front : ℕ) (pes_packets : List PesPacket) →
+    peak_of walk buffer (record { dts = due; size = size; front = 0 } ∷ pes_packets) ≡ peak_of walk buffer (record { dts = due; size = size; front = front } ∷ pes_packets)
+unfolding mb_fullness
+peak_front walk buffer due size front pes_packets = refl
 
 pub fewer_left : (size total : ℕ) (left : List ℕ) → length left ≤ size + total → length (drop size left) ≤ total
 fewer_left size total left le = omega (arith, length-drop size left, le)

@@ -3,14 +3,15 @@ use Rattle.std.specs.Prelude.{ℕ, ◌||◌, nat_eq, Bool, List, map, filter, le
 use Rattle.std.specs.List.{concat, starts_with}
 use Rattle.pes_packet.specs.AccessUnits.{AccessUnit}
 use Rattle.pes_packet.specs.Encoding.{pes_packet_bytes}
+use Rattle.pes_packet.specs.Marks.{field_size}
 use Rattle.pes_packet.specs.Units.{pes_packets_of}
 use Rattle.ts_packet.specs.PidList.{entries_of, is_of_pid, pid_list, payload_of, payloads_on}
 use Rattle.unit_timing.specs.Schedule.{Packet}
 use Rattle.unit_timing.specs.PesPacket.{PesPacket}
 
--- the PES packets of units as timing sees them: the size in bytes, and the decoding time stamp
+-- the PES packets of units as timing sees them: the decoding time stamp, the size in bytes, and the bytes in front of them
 abbrev pub timed_pes_packets : ℕ → ℕ → List AccessUnit → List PesPacket
-timed_pes_packets id base0 units = map (λ u. record { dts = u.dts; size = length (pes_packet_bytes id base0 u) }) units
+timed_pes_packets id base0 units = map (λ u. record { dts = u.dts; size = length (pes_packet_bytes id base0 u); front = field_size u.marks.random_access }) units
 
 -- the packets of a PID as timing sees them: each with its index and the size of its payload in bytes
 abbrev pub packets_on : ℕ → List ℕ → List Packet

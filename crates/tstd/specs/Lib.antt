@@ -1,3 +1,12 @@
+pub mod PidPackets
+pub mod Queues
+pub mod DepartureWalk
+pub mod BufferedUnits
+pub mod BufferState
+pub mod MultiplexingQueue
+pub mod PayloadBytes
+pub mod Removal
+pub mod Entry
 pub mod Carried
 pub mod Measured
 pub mod Refusals

@@ -3,7 +3,7 @@ ghost use Rattle.std.specs.Prelude.{◌≡◌, ◌+◌, ◌++◌, ◌&&◌, [], 
 ghost use Rattle.std.specs.Bool.{OnTrue, OnFalse};
 ghost use Rattle.std.specs.List.{starts_with};
 ghost use Rattle.tstd.specs.PayloadWalk.{bytes_ahead};
-ghost use Rattle.decoder_buffers.specs.DepartureWalk.{given};
+ghost use Rattle.tstd.specs.DepartureWalk.{given};
 
 use crate::packets::payload_on;
 

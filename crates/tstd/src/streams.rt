@@ -3,12 +3,13 @@ ghost use Rattle.std.specs.Prelude.{◌≡◌, ◌*◌, ◌<◌, ◌≤◌, ◌^
 ghost use Rattle.description.specs.Ranges.{IsStream, IsMultiplexingBuffer};
 ghost use Rattle.pes_packet.specs.Units.{units_of};
 ghost use Rattle.tstd.specs.Carried.{timed_pes_packets};
-ghost use Rattle.decoder_buffers.specs.PidPackets.{packets_from};
+ghost use Rattle.tstd.specs.PidPackets.{packets_from};
 ghost use Rattle.tstd.specs.Measured.{IsStreamFullness, IsTwoBuffers, IsVideoFullness, late_of, late_in, late_in_video};
 
 use crate::fullness::{StreamFullness, VideoFullness};
+use crate::main_buffer::MainBuffer;
+use crate::payload_bytes::PayloadBytes;
 use crate::units::measure_units;
-use decoder_buffers::{MainBuffer, PayloadBytes};
 use description::StreamDescription;
 use pes_packet::Unit;
 use std::alloc::{AllocError, Allocator};

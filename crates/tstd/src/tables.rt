@@ -4,11 +4,11 @@ ghost use Rattle.clock27.specs.Arrival.{bytes_from};
 ghost use Rattle.clock27.specs.Departure.{departures};
 ghost use Rattle.tstd.specs.PacketLists.{tables_from};
 ghost use Rattle.tstd.specs.Measured.{IsSystemFullness};
-ghost use Rattle.decoder_buffers.specs.Queues.{all_arrived};
+ghost use Rattle.tstd.specs.Queues.{all_arrived};
 
 use crate::fullness::SystemFullness;
 use crate::packets::is_of_tables;
-use decoder_buffers::Queue;
+use crate::queue::Queue;
 
 // The bytes of a packet, from byte `from` of the output on, arrive and go from one buffer into the other.
 fn pass_packet(transport: &mut Queue, system: &mut Queue, from: u64)

@@ -6,14 +6,15 @@ ghost use Rattle.pes_packet.specs.Encoding.{pes_packet_bytes};
 ghost use Rattle.unit_timing.specs.Arrived.{first_late};
 ghost use Rattle.pes_packet.specs.Units.{units_of};
 ghost use Rattle.tstd.specs.Carried.{timed_pes_packets};
-ghost use Rattle.unit_arrival.specs.Entry.{peak_of};
-ghost use Rattle.decoder_buffers.specs.BufferState.{IsSound};
-ghost use Rattle.decoder_buffers.specs.PayloadBytes.{bytes_ahead, residences, drain_of};
+ghost use Rattle.tstd.specs.Entry.{peak_of};
+ghost use Rattle.tstd.specs.BufferState.{IsSound};
+ghost use Rattle.tstd.specs.PayloadBytes.{bytes_ahead, residences, drain_of};
 
-use decoder_buffers::{MainBuffer, PayloadBytes};
+use crate::main_buffer::MainBuffer;
+use crate::payload_bytes::PayloadBytes;
+use crate::units_in_buffer::measure_unit;
 use pes_packet::{Unit, packet_size};
 use std::alloc::{AllocError, Allocator};
-use unit_arrival::measure_unit;
 
 /// Returns whether a unit is a unit of this stream.
 pub fn is_of<B: Allocator>(entry: &(u8, Unit<B>), stream: u8) -> bool

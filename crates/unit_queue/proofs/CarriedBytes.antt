@@ -10,14 +10,18 @@ use Rattle.std.proofs.lemmas.List.Concat.{flat_map-cons, concat_is}
 use Rattle.std.proofs.lemmas.List.Folds.{concat-append}
 use Rattle.own_slots.specs.Slots.{own_before, own_slots}
 use Rattle.pes_packet.specs.AccessUnits.{AccessUnit}
-use Rattle.pes_packet.specs.Payloads.{pieces}
-use Rattle.pes_packet.proofs.Payloads.{payloads_join}
+use Rattle.pes_packet.specs.Marks.{field_size}
+use Rattle.pes_packet.specs.Payloads.{unit_pieces}
+use Rattle.pes_packet.proofs.UnitPieces.{unit_pieces_join}
+use Rattle.ts_packet.specs.declared.start.Start.{Start}
+use Rattle.ts_packet.specs.declared.start.Start.TheVariants.{Continues}
+use Rattle.ts_packet.specs.Beginnings.{start_by}
 use Rattle.unit_timing.specs.Schedule.{Packet, payload_size_at, packet_in, packets_by_slot, first_slot as first_own_slot}
 use Rattle.unit_timing.proofs.ScheduleLemmas.{slotwise_law}
 use Rattle.ts_packet.specs.PidList.{Entry, pid_list, payload_of}
 use Rattle.slot_contents.specs.Contents.{run_bytes, Payload, payload_at, Piece, put}
 use Rattle.slot_contents.proofs.Counts.{payload_entries_again}
-use Rattle.unit_queue.specs.OwnedStreams.{OwnedStream, pes_bytes, timed, packet_count, first_slot}
+use Rattle.unit_queue.specs.OwnedStreams.{OwnedStream, pes_bytes, has_access, timed, packet_count, first_slot}
 use Rattle.unit_queue.specs.Places.{UnitPlace, place_at, piece_bytes}
 use Rattle.unit_queue.specs.Payloads.{marked, pes_pieces, all_pieces, piece_in, piece_of, stream_payloads}
 use Rattle.unit_queue.specs.Laws.{CarriedLaw}
@@ -37,10 +41,10 @@ begins_by_elements (x ∷ xs) (y ∷ ys) same =
 abbrev bytes_of : Piece → List ℕ
 bytes_of p = p.bytes
 
-marked_bytes : (start : Bool) (xs : List (List ℕ)) → map bytes_of (marked start xs) ≡ xs
+marked_bytes : (start : Start) (xs : List (List ℕ)) → map bytes_of (marked start xs) ≡ xs
 unfolding marked
 marked_bytes start [] = refl
-marked_bytes start (x ∷ xs) = ap (λ l. x ∷ l) (marked_bytes false xs)
+marked_bytes start (x ∷ xs) = ap (λ l. x ∷ l) (marked_bytes Continues xs)
 
 concat_cons : (x : List ℕ) (xs : List (List ℕ)) → concat (x ∷ xs) ≡ x ++ concat xs
 concat_cons x xs = concat-append (x ∷ []) xs ∙ ap (λ l. l ++ concat xs) (concat_is (x ∷ []) ∙ flat_map-cons (λ (y : List ℕ). y) x [] ∙ append-nil x)
@@ -50,10 +54,10 @@ all_bytes l [] = refl
 all_bytes l (u ∷ us) =
     let pes = pes_bytes l u in
     ap (λ (ps : List Piece). concat (map bytes_of ps)) (pieces_cons l u us)
-    ∙ ap (λ (xs : List (List ℕ)). concat xs) (map-append bytes_of (pes_pieces pes) (all_pieces l us))
-    ∙ concat-append (map bytes_of (pes_pieces pes)) (map bytes_of (all_pieces l us))
-    ∙ ap (λ (xs : List (List ℕ)). concat xs ++ concat (map bytes_of (all_pieces l us))) (marked_bytes true (pieces pes))
-    ∙ ap (λ (xs : List ℕ). xs ++ concat (map bytes_of (all_pieces l us))) (payloads_join pes).joined
+    ∙ ap (λ (xs : List (List ℕ)). concat xs) (map-append bytes_of (pes_pieces (has_access u) pes) (all_pieces l us))
+    ∙ concat-append (map bytes_of (pes_pieces (has_access u) pes)) (map bytes_of (all_pieces l us))
+    ∙ ap (λ (xs : List (List ℕ)). concat xs ++ concat (map bytes_of (all_pieces l us))) (marked_bytes (start_by true (has_access u)) (unit_pieces (has_access u) pes))
+    ∙ ap (λ (xs : List ℕ). xs ++ concat (map bytes_of (all_pieces l us))) (unit_pieces_join (has_access u) pes).joined
     ∙ ap (λ (xs : List ℕ). pes ++ xs) (all_bytes l us)
     ∙ sym (concat_cons pes (map (pes_bytes l) us))
 
@@ -107,7 +111,13 @@ place_size l free number (u ∷ us) i =
       | inr from ↦ elim (cases_lt i (first + packet_count l u)) [
         | inl inside ↦
             let pes = pes_bytes l u in
-            rw (le-ltb i first from, lt-ltb i (first + packet_count l u) inside, length-take 184 (drop (184 * (i - first)) pes), length-drop (184 * (i - first)) pes) refl
+            let field = field_size (has_access u) in
+            rw (
+              le-ltb i first from,
+              lt-ltb i (first + packet_count l u) inside,
+              length-take (184 - (field - 184 * (i - first))) (drop (184 * (i - first) - field) pes),
+              length-drop (184 * (i - first) - field) pes,
+            ) refl
         | inr over ↦ rw (le-ltb i first from, le-ltb i (first + packet_count l u) over) (place_size l (first + packet_count l u) (number + packet_count l u) us i)
       ]
     ]

@@ -4,7 +4,7 @@ use Rattle.std.proofs.lemmas.Bool.{cases_Bool, cases_lt, lt-ltb, le-leb}
 use Rattle.std.proofs.lemmas.List.{length-append}
 use Rattle.pes_packet.specs.AccessUnits.{AccessUnit}
 use Rattle.pes_packet.specs.Encoding.{pes_packet_bytes, pes_header_bytes}
-use Rattle.pes_packet.specs.Marks.{marks_size}
+use Rattle.pes_packet.specs.Marks.{field_size, marks_size}
 use Rattle.pes_packet.specs.StreamIds.{is_video, greatest_size, fits_packet}
 use Rattle.unit_queue.specs.declared.parameters.StreamParameters.{StreamParameters}
 use Rattle.unit_queue.specs.declared.refusal.FeedError.{FeedError}
@@ -15,6 +15,7 @@ use Rattle.unit_timing.specs.PesPacket.{PesPacket}
 use Rattle.unit_queue.specs.Causes.{or_cause, is_bad_pts, own_cause, time_cause, packets_cause, room_cause}
 use Rattle.clock27.specs.Release.{release}
 use Rattle.unit_queue.specs.Queues.{ParametersInRange, IsUnit, Queued, Queue, queued}
+use Rattle.unit_queue.specs.OwnedStreams.{has_access}
 use Rattle.unit_queue.specs.QueueSteps.{late_at, timed_by, is_over_for, state_cause, joined, accepted}
 
 -- causes in turn
@@ -107,7 +108,7 @@ unit_fits r u rules unit most = search (rules, arith)
 pub fits_unit : (r : StreamParameters) (u : AccessUnit) → ParametersInRange r → IsUnit r u → IsTrue (fits_packet r.stream_id (length u.bytes))
 fits_unit r u rules unit = unit_fits r u rules unit (omega (arith, unit.most))
 
-pub size_few : (r : StreamParameters) (u : AccessUnit) (header : ℕ) → ParametersInRange r → IsUnit r u → header ≤ 45 → header + length u.bytes < 2 ^ 63
+pub size_few : (r : StreamParameters) (u : AccessUnit) (header : ℕ) → ParametersInRange r → IsUnit r u → header ≤ 45 → 2 + (header + length u.bytes) < 2 ^ 63
 size_few r u header rules unit few = omega (arith, few, unit.most, rules.size, greatest_most r.stream_id)
 
 pub not_le : (a b : ℕ) → nat_le a b ≡ false → b < a
@@ -116,12 +117,12 @@ not_le a b is = elim (cases_lt b a) [
   | inr le ↦ absurd (let t = le-leb a b le in let no : ⊥ = cc in no)
 ]
 
--- what is found of a unit is its DTS and size, and why it is refused
-pub timed_is : (r s : StreamParameters) (u : AccessUnit) (d size : ℕ) (header : List ℕ) → s ≡ r → d ≡ u.dts → size ≡ length header + length u.bytes →
-    header ≡ pes_header_bytes s.stream_id (length u.bytes) u.marks (u.pts + s.base0) (u.dts + s.base0) → record { dts = d; size = size } ≡ timed_by r u
+-- what is found of a unit is its DTS and size, with what is in front of it, and why it is refused
+pub timed_is : (r s : StreamParameters) (u : AccessUnit) (d size front : ℕ) (header : List ℕ) → s ≡ r → d ≡ u.dts → front ≡ field_size (has_access u) → size ≡ length header + length u.bytes →
+    header ≡ pes_header_bytes s.stream_id (length u.bytes) u.marks (u.pts + s.base0) (u.dts + s.base0) → record { dts = d; size = size; front = front } ≡ timed_by r u
 unfolding pes_packet_bytes
-timed_is r s u d size header same due parts is =
-    rw (due, parts, is, same, length-append (pes_header_bytes r.stream_id (length u.bytes) u.marks (u.pts + r.base0) (u.dts + r.base0)) u.bytes) refl
+timed_is r s u d size front header same due field parts is =
+    rw (due, field, parts, is, same, length-append (pes_header_bytes r.stream_id (length u.bytes) u.marks (u.pts + r.base0) (u.dts + r.base0)) u.bytes) refl
 
 pub room_is : (q : Queue) (slots : ℕ) (u : AccessUnit) (unit : PesPacket) (cause : Option FeedError) → unit ≡ timed_by q.parameters u →
     None ≡ or_cause (own_cause q.parameters.size q.min_next_dts u) (time_cause (late_at q.parameters slots u.dts) u.dts) →
@@ -130,7 +131,8 @@ room_is q slots u unit cause timed none is = (rw timed at is) ∙ sym (or_rest _
 
 -- with which it is taken
 pub queued_is : (r s : StreamParameters) (u : AccessUnit) (slot : ℕ) (header : List ℕ) → s ≡ r → slot ≡ release r.rate r.lead u.dts →
-    header ≡ pes_header_bytes s.stream_id (length u.bytes) u.marks (u.pts + s.base0) (u.dts + s.base0) → record { release = slot; header = header; bytes = u.bytes } ≡ queued r u
+    header ≡ pes_header_bytes s.stream_id (length u.bytes) u.marks (u.pts + s.base0) (u.dts + s.base0) →
+    record { release = slot; header = header; access = has_access u; bytes = u.bytes } ≡ queued r u
 queued_is r s u slot header same a b = rw (a, b, same) refl
 
 pub accepted_is : (q : Queue) (u : AccessUnit) (unit : PesPacket) (x : Queued) → unit ≡ timed_by q.parameters u → x ≡ queued q.parameters u → joined q unit x ≡ accepted q u

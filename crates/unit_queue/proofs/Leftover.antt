@@ -6,7 +6,7 @@ use Rattle.clock27.specs.Release.{release}
 use Rattle.own_slots.specs.Slots.{own_before}
 use Rattle.pes_packet.specs.AccessUnits.{AccessUnit}
 use Rattle.pes_packet.specs.Encoding.{pes_packet_bytes, pes_header_bytes, header_size, on_wire}
-use Rattle.pes_packet.specs.Marks.{marks_size}
+use Rattle.pes_packet.specs.Marks.{field_size, marks_size}
 use Rattle.pes_packet.specs.declared.marks.Marks.{Marks}
 use Rattle.pes_packet.proofs.Written.{header_sizes}
 use Rattle.unit_timing.specs.Schedule.{first_slot as first_own_slot}
@@ -27,9 +27,11 @@ most_by true same = omega arith
 most_by false true = omega arith
 most_by false false = omega arith
 
--- it has at most 19 bytes, and what the marks take
-pub header_most : (id size : ℕ) (marks : Marks) (pts dts : ℕ) → length (pes_header_bytes id size marks pts dts) ≤ 19 + marks_size marks
-header_most id size marks pts dts = rw (header_sizes id size marks pts dts) (most_by marks.long (on_wire pts == on_wire dts))
+-- with what is in front of it, it has at most 19 bytes, and what the marks take
+pub header_most : (id size : ℕ) (marks : Marks) (pts dts : ℕ) → field_size marks.random_access + length (pes_header_bytes id size marks pts dts) ≤ 19 + marks_size marks
+header_most id size marks pts dts =
+    let most : header_size marks pts dts ≤ 19 + cond marks.long 26 0 = most_by marks.long (on_wire pts == on_wire dts) in
+    omega (arith, header_sizes id size marks pts dts, most)
 
 pub text_some : (l : OwnedStream) (u : AccessUnit) → 14 ≤ length (pes_bytes l u)
 unfolding pes_packet_bytes

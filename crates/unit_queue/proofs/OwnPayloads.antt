@@ -12,9 +12,9 @@ use Rattle.own_slots.proofs.Counts.{own_before_own, own_before_other, own_before
 use Rattle.pes_packet.specs.AccessUnits.{AccessUnit}
 use Rattle.ts_packet.specs.PidList.{Entry, is_of_pid, pid_list}
 use Rattle.slot_contents.specs.Contents.{Content, PayloadContent, PcrContent, NullContent, view_of, run_bytes, Payload, payload_in, payloads_in, Numbered, HasNumber, payload_entry, payload_entries, payload_at, Piece, put}
-use Rattle.slot_contents.proofs.Counts.{payload_count_law, run_payload_entries, run_by_number}
+use Rattle.slot_contents.proofs.Counts.{payload_again, payload_count_law, run_payload_entries, run_by_number}
 use Rattle.unit_queue.specs.OwnedStreams.{OwnedStream}
-use Rattle.unit_queue.specs.Places.{UnitPlace, place_at, piece_bytes, content_of}
+use Rattle.unit_queue.specs.Places.{UnitPlace, place_at, piece_bytes, piece_start, content_of}
 use Rattle.unit_queue.specs.Payloads.{all_pieces, all_senders, piece_in, piece_of, stream_payloads, IsReleased, StreamIsAlone}
 use Rattle.unit_queue.proofs.SentPlaces.{PlaceHas, PlaceIs, one_of, place_has, sent_before, sent_fresh, sent_next}
 
@@ -101,7 +101,7 @@ pub record Found (l : OwnedStream) (us : List AccessUnit) (number : ℕ) (p : Pa
   pub place : UnitPlace
   pub mine : l.own p.index ≡ true
   pub has : PlaceIs l 0 us (own_before l.own p.index) number place
-  pub is : piece_in p ≡ record { start = place.piece == 0; bytes = piece_bytes l place }
+  pub is : piece_in p ≡ record { start = piece_start place; bytes = piece_bytes l place }
 
 found_first : (l : OwnedStream) (us : List AccessUnit) (s sent j : ℕ) (o : Option UnitPlace) (rest : List Payload) (p : Payload) → l.own s ≡ true →
     PlaceHas l 0 us (own_before l.own s) sent o → ((k : ℕ) → slice_get rest k ≡ Some p → Found l us (sent + one_of o + k) p) →
@@ -109,7 +109,7 @@ found_first : (l : OwnedStream) (us : List AccessUnit) (s sent j : ℕ) (o : Opt
 found_first l us s sent j None rest p mine h later is =
     let e : sent + 0 + j ≡ sent + j = omega arith in subst (λ (m : ℕ). Found l us m p) e (later j is)
 found_first l us s sent zero (Some x) rest p mine h later is =
-    let same : record { index = s; start = x.piece == 0; bytes = piece_bytes l x } ≡ p = cc in
+    let same : record { index = s; start = piece_start x; bytes = piece_bytes l x } ≡ p = cc in
     let none : sent + 0 ≡ sent = omega arith in
     rw none (subst (λ (q : Payload). Found l us sent q) same (record { place = x; mine = mine; has = h; is = refl }))
 found_first l us s sent (suc j) (Some x) rest p mine h later is =
@@ -148,7 +148,10 @@ carried_at pid number [] j e is = absurd (let no : ⊥ = cc in no)
 carried_at pid number (p ∷ ps) zero e is =
     let same : payload_entry pid number p ≡ e = cc in
     let none : number + 0 ≡ number = omega arith in
-    subst (λ (x : Entry). CarriedAs pid number (p ∷ ps) zero x) same (record { payload = refl; counter = ap (λ (m : ℕ). m % 16) (sym none) })
+    subst (λ (x : Entry). CarriedAs pid number (p ∷ ps) zero x) same (record {
+      payload = ap (λ (q : Payload). Some q) (sym (payload_again p.index p.start pid (number % 16) p.bytes));
+      counter = ap (λ (m : ℕ). m % 16) (sym none);
+    })
 carried_at pid number (p ∷ ps) (suc j) e is =
     let rest = carried_at pid (number + 1) ps j e is in
     let on : number + suc j ≡ number + 1 + j = omega arith in

@@ -7,16 +7,16 @@ use Rattle.own_slots.specs.Slots.{own_before}
 use Rattle.own_slots.proofs.Counts.{own_before_own, own_before_other, own_before_le, own_before_lt}
 use Rattle.pes_packet.specs.AccessUnits.{AccessUnit}
 use Rattle.pes_packet.specs.Encoding.{pes_packet_bytes, pes_header_bytes}
-use Rattle.pes_packet.specs.Marks.{marks_size}
+use Rattle.pes_packet.specs.Marks.{field_size, marks_size}
 use Rattle.unit_timing.specs.declared.allowance.Allowance.{Allowance}
 use Rattle.unit_timing.specs.declared.allowance.Allowance.TheVariants.{Groups, Pace}
-use Rattle.unit_timing.specs.PesPacket.{PesPacket, Spaced, Sized, GroupsWithin, next_due}
+use Rattle.unit_timing.specs.PesPacket.{PesPacket, packets_of_unit, Spaced, Sized, GroupsWithin, next_due}
 use Rattle.unit_timing.specs.Allowances.{Allows, KeepsAllowance}
 use Rattle.unit_timing.specs.Levels.{level_after, is_over}
 use Rattle.unit_timing.proofs.OneMoreUnit.{spaced_more_law, sized_more_law}
 use Rattle.unit_timing.proofs.Levels.{allowance_more_law}
 use Rattle.slot_contents.specs.Contents.{packet_of}
-use Rattle.unit_queue.specs.OwnedStreams.{OwnedStream, pes_bytes, timed, first_slot, end_slot}
+use Rattle.unit_queue.specs.OwnedStreams.{OwnedStream, pes_bytes, has_access, timed, first_slot, end_slot}
 use Rattle.unit_queue.specs.Places.{Left, left_at, left_before, begun, begun_before, content_of}
 use Rattle.unit_queue.specs.Causes.{or_cause, own_cause, time_cause, packets_cause, room_cause, is_late, is_full, over_cause, min_next_dts_of, unit_cause}
 use Rattle.unit_queue.specs.Queues.{IsUnit, max_packets_per_unit, Queued, Queue, queued, queue_at, queue_of}
@@ -152,7 +152,8 @@ accepted_facts l slots capacity us u none =
     }
 
 -- it stays within the declaration
-text_most : (l : OwnedStream) (u : AccessUnit) → length u.bytes + marks_size u.marks ≤ l.parameters.size → length (pes_bytes l u) ≤ 19 + l.parameters.size
+text_most : (l : OwnedStream) (u : AccessUnit) → length u.bytes + marks_size u.marks ≤ l.parameters.size →
+    field_size (has_access u) + length (pes_bytes l u) ≤ 19 + l.parameters.size
 unfolding pes_packet_bytes
 text_most l u most =
     let header = pes_header_bytes l.parameters.stream_id (length u.bytes) u.marks (u.pts + l.parameters.base0) (u.dts + l.parameters.base0) in
@@ -163,8 +164,9 @@ kept_law l slots capacity us u rules none kept =
     let facts = accepted_facts l slots capacity us u none in
     let texts = map (timed l) us in
     let more : map (timed l) (us ++ u ∷ []) ≡ map (timed l) us ++ timed l u ∷ [] = map-append (timed l) us (u ∷ []) in
-    let most = text_most l u facts.own.most in
-    let pieces : (length (pes_bytes l u) + 183) / 184 ≤ (19 + l.parameters.size + 183) / 184 = omega (arith, most) in
+    let filled = text_most l u facts.own.most in
+    let most : length (pes_bytes l u) ≤ 19 + l.parameters.size = omega (arith, filled) in
+    let pieces : packets_of_unit (timed l u) ≤ max_packets_per_unit l.parameters = omega (arith, filled) in
     let spaced = spaced_more_law.more l.parameters.interval l.parameters.lead texts (timed l u) kept.spaced (next_from l.parameters.interval l.parameters.lead u.dts texts facts.own.spaced facts.lead) in
     let unit : IsUnit l.parameters u = record { some = facts.own.some; most = facts.own.most; later = facts.own.later; soon = facts.own.soon; last = facts.last } in
     record {

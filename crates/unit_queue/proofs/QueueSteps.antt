@@ -1,19 +1,23 @@
 -- One own slot of a stream.
-use Rattle.std.proofs.Common.{◌≡◌, ℕ, zero, suc, ◌+◌, ◌-◌, ◌*◌, ◌%◌, ◌<◌, ◌≤◌, ◌==◌, Bool, true, false, List, [], ◌∷◌, length, take, drop, refl, inl, inr, arith}
+use Rattle.std.proofs.Common.{◌≡◌, ℕ, suc, ◌+◌, ◌-◌, ◌*◌, ◌%◌, ◌<◌, ◌≤◌, ◌==◌, true, false, List, [], ◌∷◌, length, refl, inl, inr, arith}
 use Rattle.std.proofs.lemmas.Bool.{cases_lt, lt-ltb, le-ltb, ne_eqb}
-use Rattle.std.proofs.lemmas.List.{length-drop, length-take}
 use Rattle.clock27.specs.Release.{release}
 use Rattle.own_slots.specs.Slots.{own_before}
 use Rattle.own_slots.proofs.Counts.{own_before_own, own_before_le}
 use Rattle.pes_packet.specs.AccessUnits.{AccessUnit}
 use Rattle.pes_packet.specs.Encoding.{pes_packet_bytes}
+use Rattle.pes_packet.specs.Marks.{field_size}
+use Rattle.pes_packet.specs.Payloads.{part_of}
+use Rattle.ts_packet.specs.declared.start.Start.{Start}
+use Rattle.ts_packet.specs.Beginnings.{start_by}
 use Rattle.slot_contents.specs.Contents.{PayloadContent, packet_of}
-use Rattle.unit_queue.specs.OwnedStreams.{OwnedStream, pes_bytes, packet_count, first_slot, end_slot}
+use Rattle.unit_queue.specs.OwnedStreams.{OwnedStream, pes_bytes, has_access, packet_count, first_slot, end_slot}
 use Rattle.unit_queue.specs.Places.{place_at, content_of, left_at, begun}
 use Rattle.unit_queue.specs.Tallies.{Tally}
 use Rattle.unit_queue.specs.Queues.{queue_at}
-use Rattle.unit_queue.specs.QueueSteps.{payload_or_null, front_content, front_sent, queue_content, sent_in, stepped}
-use Rattle.unit_queue.proofs.Leftover.{count_some, first_free, first_released, first_least, left_stop, left_on, place_before, place_in, Unfinished}
+use Rattle.unit_queue.specs.QueueSteps.{payload_or_null, part_content, front_content, front_sent, queue_content, sent_in, stepped}
+use Rattle.unit_queue.proofs.PieceBytes.{part_some, start_same}
+use Rattle.unit_queue.proofs.Leftover.{text_some, count_some, first_free, first_released, first_least, left_stop, left_on, place_before, place_in, Unfinished}
 
 -- what an own slot makes of the queue, and the packet in it
 pub record Steps (l : OwnedStream) (slots p free number : ℕ) (us : List AccessUnit) (capacity min_next_dts : ℕ) (tally : Tally) : Type 0 where
@@ -41,14 +45,7 @@ step_idle l slots p free number u us capacity min_next_dts tally early before =
     }
 
 -- a piece at `begun` pieces
-start_same : (b : ℕ) → (184 * b == 0) ≡ (b == 0)
-start_same zero = refl
-start_same (suc b) =
-    let big : 184 * suc b ≡ 0 → ⊥ = λ e. omega (arith, e) in
-    let some : suc b ≡ 0 → ⊥ = λ e. omega (arith, e) in
-    rw (ne_eqb (184 * suc b) 0 big, ne_eqb (suc b) 0 some) refl
-
-pub some_is : (pid number : ℕ) (start : Bool) (bytes : List ℕ) → 0 < length bytes → payload_or_null pid number start bytes ≡ PayloadContent pid number start bytes
+pub some_is : (pid number : ℕ) (start : Start) (bytes : List ℕ) → 0 < length bytes → payload_or_null pid number start bytes ≡ PayloadContent pid number start bytes
 unfolding payload_or_null
 some_is pid number start bytes some =
     let not_empty : length bytes ≡ 0 → ⊥ = λ e. omega (arith, e, some) in
@@ -60,14 +57,15 @@ counter_same n = omega arith
 counter_next : (n b : ℕ) → ((n + b) % 256 + 1) % 256 ≡ (n + (b + 1)) % 256
 counter_next n b = omega arith
 
-piece_packet : (l : OwnedStream) (u : AccessUnit) (number b : ℕ) → 184 * b < length (pes_bytes l u) →
-    packet_of (payload_or_null l.parameters.pid ((number + b) % 256) (184 * b == 0) (take 184 (drop (184 * b) (pes_bytes l u))))
-    ≡ packet_of (PayloadContent l.parameters.pid (number + b) (b == 0) (take 184 (drop (184 * b) (pes_bytes l u))))
+piece_packet : (l : OwnedStream) (u : AccessUnit) (number b : ℕ) → 184 * b < field_size (has_access u) + length (pes_bytes l u) →
+    packet_of (part_content l.parameters.pid ((number + b) % 256) (has_access u) (pes_bytes l u) (184 * b))
+    ≡ packet_of (PayloadContent l.parameters.pid (number + b) (start_by (b == 0) (has_access u)) (part_of (field_size (has_access u)) (184 * b) (pes_bytes l u)))
 unfolding packet_of
 piece_packet l u number b inside =
-    let pes = pes_bytes l u in
-    let some : 0 < length (take 184 (drop (184 * b) (pes_bytes l u))) = omega (arith, length-take 184 (drop (184 * b) pes), length-drop (184 * b) pes) in
-    rw (some_is l.parameters.pid ((number + b) % 256) (184 * b == 0) (take 184 (drop (184 * b) pes)) some, start_same b, counter_same (number + b)) refl
+    let part = part_of (field_size (has_access u)) (184 * b) (pes_bytes l u) in
+    let some : 0 < length (part_of (field_size (has_access u)) (184 * b) (pes_bytes l u)) =
+    part_some (has_access u) (184 * b) (pes_bytes l u) (omega (arith, text_some l u)) inside in
+    rw (some_is l.parameters.pid ((number + b) % 256) (start_by (184 * b == 0) (has_access u)) part some, start_same b, counter_same (number + b)) refl
 
 -- the queue when one more piece is sent, of a unit that goes on or ends
 step_more : (l : OwnedStream) (number b : ℕ) (u : AccessUnit) (us : List AccessUnit) (capacity min_next_dts : ℕ) (tally : Tally) →
@@ -98,22 +96,21 @@ step_busy : (l : OwnedStream) (slots p free number : ℕ) (u : AccessUnit) (us :
 unfolding front_content front_sent begun pes_packet_bytes
 step_busy l slots p free number u us capacity min_next_dts tally released from below =
     let b = p - first_slot l free u in
-    let pes = pes_bytes l u in
-    let inside : 184 * (p - first_slot l free u) < length (pes_bytes l u) = omega arith in
+    let all = field_size (has_access u) + length (pes_bytes l u) in
+    let inside : 184 * (p - first_slot l free u) < field_size (has_access u) + length (pes_bytes l u) = omega arith in
     let sent = le-ltb slots (release l.parameters.rate l.parameters.lead u.dts) released in
-    let left : length (drop (184 * (p - first_slot l free u)) (pes_bytes l u)) ≡ length (pes_bytes l u) - 184 * (p - first_slot l free u) = length-drop (184 * b) pes in
     let next : suc p - first_slot l free u ≡ (p - first_slot l free u) + 1 = omega arith in
     record {
       packet = rw (place_in l free number p u us from below, sent) (piece_packet l u number b inside);
       state = elim (cases_lt (suc p) (end_slot l free u)) [
         | inl on ↦
-            let more : 184 < length (drop (184 * (p - first_slot l free u)) (pes_bytes l u)) = omega (arith, left) in
-            rw (left_stop l (suc p) free number u us on, sent, lt-ltb 184 (length (drop (184 * b) pes)) more, next) (step_more l number b u us capacity min_next_dts tally)
+            let more : 184 < field_size (has_access u) + length (pes_bytes l u) - 184 * (p - first_slot l free u) = omega arith in
+            rw (left_stop l (suc p) free number u us on, sent, lt-ltb 184 (all - 184 * b) more, next) (step_more l number b u us capacity min_next_dts tally)
         | inr end ↦
-            let last : length (drop (184 * (p - first_slot l free u)) (pes_bytes l u)) ≤ 184 = omega (arith, left) in
+            let last : field_size (has_access u) + length (pes_bytes l u) - 184 * (p - first_slot l free u) ≤ 184 = omega arith in
             let ends : (p - first_slot l free u) + 1 ≡ packet_count l u = omega arith in
             let here : end_slot l free u ≡ suc p = omega arith in
-            rw (left_on l (suc p) free number u us end, here, fresh_left l (suc p) (number + packet_count l u) us, fresh_begun l (suc p) us, sent, le-ltb 184 (length (drop (184 * b) pes)) last)
+            rw (left_on l (suc p) free number u us end, here, fresh_left l (suc p) (number + packet_count l u) us, fresh_begun l (suc p) us, sent, le-ltb 184 (all - 184 * b) last)
             (step_last l number b u us capacity min_next_dts tally ends)
       ];
     }

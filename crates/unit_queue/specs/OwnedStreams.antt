@@ -2,8 +2,8 @@
 use Rattle.std.specs.Prelude.{ℕ, ◌+◌, Bool, List, length}
 use Rattle.pes_packet.specs.AccessUnits.{AccessUnit}
 use Rattle.pes_packet.specs.Encoding.{pes_packet_bytes}
-use Rattle.pes_packet.specs.Payloads.{piece_count}
-use Rattle.unit_timing.specs.PesPacket.{PesPacket}
+use Rattle.pes_packet.specs.Marks.{field_size}
+use Rattle.unit_timing.specs.PesPacket.{PesPacket, packets_of_unit}
 use Rattle.unit_timing.specs.Schedule.{first_slot as first_own_slot}
 use Rattle.unit_queue.specs.declared.parameters.StreamParameters.{StreamParameters}
 
@@ -16,13 +16,17 @@ pub record OwnedStream : Type 0 where
 abbrev pub pes_bytes : OwnedStream → AccessUnit → List ℕ
 pes_bytes l u = pes_packet_bytes l.parameters.stream_id l.parameters.base0 u
 
--- the same as timing sees it: the decoding time stamp and the size in bytes
-abbrev pub timed : OwnedStream → AccessUnit → PesPacket
-timed l u = record { dts = u.dts; size = length (pes_bytes l u) }
+-- a decoder may begin with the unit, and then two bytes of an adaptation field are in front of it
+abbrev pub has_access : AccessUnit → Bool
+has_access u = u.marks.random_access
 
--- the transport packets that carry it, 184 bytes each, the last one the rest
+-- the same as timing sees it: the decoding time stamp, the size in bytes, and the bytes in front of them
+abbrev pub timed : OwnedStream → AccessUnit → PesPacket
+timed l u = record { dts = u.dts; size = length (pes_bytes l u); front = field_size (has_access u) }
+
+-- the transport packets that carry it
 abbrev pub packet_count : OwnedStream → AccessUnit → ℕ
-packet_count l u = piece_count (length (pes_bytes l u))
+packet_count l u = packets_of_unit (timed l u)
 
 -- the number of the own slot in which it begins: none before its release, and none of the first `free`, which are taken
 unfoldable pub first_slot : OwnedStream → ℕ → AccessUnit → ℕ

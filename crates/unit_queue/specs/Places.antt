@@ -1,9 +1,13 @@
 -- What the own slots of a stream carry, counted from 0 over all time: units in their order, each from its release on.
-use Rattle.std.specs.Prelude.{ℕ, ◌+◌, ◌-◌, ◌*◌, ◌==◌, cond, nat_lt, Option, Some, None, List, [], ◌∷◌, take, drop}
+use Rattle.std.specs.Prelude.{ℕ, ◌+◌, ◌-◌, ◌*◌, ◌==◌, cond, nat_lt, Option, Some, None, List, [], ◌∷◌}
 use Rattle.own_slots.specs.Slots.{own_before}
 use Rattle.pes_packet.specs.AccessUnits.{AccessUnit}
+use Rattle.pes_packet.specs.Marks.{field_size}
+use Rattle.pes_packet.specs.Payloads.{part_of}
+use Rattle.ts_packet.specs.declared.start.Start.{Start}
+use Rattle.ts_packet.specs.Beginnings.{start_by}
 use Rattle.slot_contents.specs.Contents.{Content, PayloadContent, NullContent}
-use Rattle.unit_queue.specs.OwnedStreams.{OwnedStream, pes_bytes, packet_count, first_slot, end_slot}
+use Rattle.unit_queue.specs.OwnedStreams.{OwnedStream, pes_bytes, has_access, packet_count, first_slot, end_slot}
 
 -- a packet of a unit: which piece of the PES packet it carries, and its number among the stream's packets
 pub record UnitPlace : Type 0 where
@@ -21,12 +25,16 @@ place_at l free number (u ∷ us) i =
 
 -- the bytes of that piece
 abbrev pub piece_bytes : OwnedStream → UnitPlace → List ℕ
-piece_bytes l x = take 184 (drop (184 * x.piece) (pes_bytes l x.unit))
+piece_bytes l x = part_of (field_size (has_access x.unit)) (184 * x.piece) (pes_bytes l x.unit)
 
--- as the content of a slot: a payload in which the PES packet begins where it is its first piece, or nothing
+-- what begins with it: the PES packet with its first piece
+abbrev pub piece_start : UnitPlace → Start
+piece_start x = start_by (x.piece == 0) (has_access x.unit)
+
+-- as the content of a slot: a payload, or nothing
 abbrev pub content_of : OwnedStream → Option UnitPlace → Content
 content_of l None = NullContent
-content_of l (Some x) = PayloadContent l.parameters.pid x.number (x.piece == 0) (piece_bytes l x)
+content_of l (Some x) = PayloadContent l.parameters.pid x.number (piece_start x) (piece_bytes l x)
 
 -- what slot s carries of these units, where it is an own slot
 abbrev pub stream_content : OwnedStream → List AccessUnit → ℕ → Content

@@ -1,28 +1,37 @@
 -- One slot, and one unit more, as a queue takes them.
-use Rattle.std.specs.Prelude.{ℕ, ◌+◌, ◌-◌, ◌%◌, ◌==◌, ◌||◌, nat_lt, nat_le, Bool, if◌then◌else◌, Option, List, [], ◌∷◌, ◌++◌, length, take, drop}
+use Rattle.std.specs.Prelude.{ℕ, ◌+◌, ◌-◌, ◌%◌, ◌==◌, ◌||◌, nat_lt, nat_le, Bool, if◌then◌else◌, Option, List, [], ◌∷◌, ◌++◌, length, drop}
 use Rattle.clock27.specs.Release.{release}
 use Rattle.pes_packet.specs.AccessUnits.{AccessUnit}
 use Rattle.pes_packet.specs.Encoding.{pes_packet_bytes}
+use Rattle.pes_packet.specs.Marks.{field_size}
+use Rattle.pes_packet.specs.Payloads.{part_of}
+use Rattle.ts_packet.specs.declared.start.Start.{Start}
+use Rattle.ts_packet.specs.Beginnings.{start_by}
 use Rattle.slot_contents.specs.Contents.{Content, PayloadContent, NullContent}
 use Rattle.unit_timing.specs.PesPacket.{PesPacket}
 use Rattle.unit_queue.specs.Causes.{first_cause, packets_cause}
+use Rattle.unit_queue.specs.OwnedStreams.{has_access}
 use Rattle.unit_queue.specs.Tallies.{empty_tally, exceeds, counted}
 use Rattle.unit_queue.specs.Queues.{Queued, Queue, queued}
 use Rattle.unit_queue.specs.declared.parameters.StreamParameters.{StreamParameters}
 use Rattle.unit_queue.specs.declared.refusal.FeedError.{FeedError}
 
--- what of a waiting unit is not sent
-abbrev pub rest_of : Queued → ℕ → List ℕ
-rest_of u sent = drop sent (u.header ++ u.bytes)
+-- more than a packet holds is left of a PES packet, and of what is in front of it
+abbrev pub goes_on : Bool → List ℕ → ℕ → Bool
+goes_on access pes sent = nat_lt 184 (field_size access + length pes - sent)
 
 -- a payload, where there are bytes for it
-unfoldable pub payload_or_null : ℕ → ℕ → Bool → List ℕ → Content
+unfoldable pub payload_or_null : ℕ → ℕ → Start → List ℕ → Content
 payload_or_null pid number start bytes = if length bytes == 0 then NullContent else PayloadContent pid number start bytes
+
+-- the packet that carries what comes after the first `sent` bytes of a PES packet, and of what is in front of it
+abbrev pub part_content : ℕ → ℕ → Bool → List ℕ → ℕ → Content
+part_content pid number access pes sent = payload_or_null pid number (start_by (sent == 0) access) (part_of (field_size access) sent pes)
 
 -- what the queue puts into slot s, an own slot
 unfoldable pub front_content : ℕ → Queue → List Queued → Content
 front_content s q [] = NullContent
-front_content s q (u ∷ us) = if nat_lt s u.release then NullContent else payload_or_null q.parameters.pid q.counter (q.sent == 0) (take 184 (rest_of u q.sent))
+front_content s q (u ∷ us) = if nat_lt s u.release then NullContent else part_content q.parameters.pid q.counter u.access (u.header ++ u.bytes) q.sent
 
 abbrev pub queue_content : ℕ → Queue → Content
 queue_content s q = front_content s q q.units
@@ -35,7 +44,7 @@ stepped more q =
 
 unfoldable pub front_sent : ℕ → Queue → List Queued → Queue
 front_sent s q [] = q
-front_sent s q (u ∷ us) = if nat_lt s u.release then q else stepped (nat_lt 184 (length (rest_of u q.sent))) q
+front_sent s q (u ∷ us) = if nat_lt s u.release then q else stepped (goes_on u.access (u.header ++ u.bytes) q.sent) q
 
 -- the queue after slot s, an own slot
 abbrev pub sent_in : ℕ → Queue → Queue
@@ -59,7 +68,7 @@ is_over_for q unit = exceeds q.parameters.allowance q.tally (last_dts q) unit
 
 -- a unit as timing sees it
 abbrev pub timed_by : StreamParameters → AccessUnit → PesPacket
-timed_by r u = record { dts = u.dts; size = length (pes_packet_bytes r.stream_id r.base0 u) }
+timed_by r u = record { dts = u.dts; size = length (pes_packet_bytes r.stream_id r.base0 u); front = field_size (has_access u) }
 
 -- why the queue refuses a unit
 abbrev pub state_cause : ℕ → Queue → AccessUnit → Option FeedError

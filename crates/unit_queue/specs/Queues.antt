@@ -1,5 +1,5 @@
 -- The state of a queue, and the history that it stands for.
-use Rattle.std.specs.Prelude.{◌≡◌, ◌≤◌, ◌<◌, ℕ, ◌+◌, ◌*◌, ◌%◌, ◌/◌, ◌^◌, List, length, map, All, IsTrue}
+use Rattle.std.specs.Prelude.{◌≡◌, ◌≤◌, ◌<◌, ℕ, ◌+◌, ◌*◌, ◌%◌, ◌/◌, ◌^◌, Bool, List, length, map, All, IsTrue}
 use Rattle.clock27.specs.Release.{release}
 use Rattle.pes_packet.specs.AccessUnits.{AccessUnit}
 use Rattle.pes_packet.specs.Encoding.{pes_header_bytes}
@@ -8,7 +8,7 @@ use Rattle.pes_packet.specs.StreamIds.{is_unit_id, greatest_size}
 use Rattle.unit_timing.specs.PesPacket.{Spaced, Sized}
 use Rattle.unit_timing.specs.Allowances.{KeepsAllowance, allowance_rows}
 use Rattle.unit_queue.specs.declared.parameters.StreamParameters.{StreamParameters}
-use Rattle.unit_queue.specs.OwnedStreams.{OwnedStream, timed}
+use Rattle.unit_queue.specs.OwnedStreams.{OwnedStream, has_access, timed}
 use Rattle.unit_queue.specs.Places.{left_before, begun_before}
 use Rattle.unit_queue.specs.Causes.{min_next_dts_of}
 use Rattle.unit_queue.specs.Tallies.{Tally, tally_of}
@@ -39,13 +39,14 @@ pub record Kept (l : OwnedStream) (us : List AccessUnit) : Type 0 where
   pub sized : Sized (19 + l.parameters.size) (map (timed l) us)
   pub allowed : KeepsAllowance l.parameters.allowance (max_packets_per_unit l.parameters) (map (timed l) us)
 
--- a waiting unit: the slot of its release, its PES header and its bytes
+-- a waiting unit: the slot of its release, its PES header, whether a decoder may begin with it, and its bytes
 pub record Queued : Type 0 where
   pub release : ℕ
   pub header : List ℕ
+  pub access : Bool
   pub bytes : List ℕ
 
--- a queue: the units not sent whole, and of the first the bytes that are sent; the number of packets sent, modulo 256; the minimum DTS of the next
+-- a queue: the units not sent whole, and of the first the bytes that are sent, with those in front of it; the number of packets sent, modulo 256; the minimum DTS of the next
 -- unit; what is counted of the packets of all units accepted
 pub record Queue : Type 0 where
   pub parameters : StreamParameters
@@ -61,6 +62,7 @@ abbrev pub queued : StreamParameters → AccessUnit → Queued
 queued r u = record {
   release = release r.rate r.lead u.dts;
   header = pes_header_bytes r.stream_id (length u.bytes) u.marks (u.pts + r.base0) (u.dts + r.base0);
+  access = has_access u;
   bytes = u.bytes;
 }
 

@@ -20,7 +20,7 @@ use crate::refusal::FeedError;
 use crate::tally::PacketTally;
 use circular_buffer::HeapCircularBuffer;
 use clock27::release_slot;
-use pes_packet::Unit;
+use pes_packet::{Unit, field_size};
 use std::alloc::{AllocError, Allocator, Global};
 use std::marker::Model;
 use ts_packet::{MAX_PAYLOAD, write_null_packet_into};
@@ -31,7 +31,7 @@ use ts_packet::{MAX_PAYLOAD, write_null_packet_into};
 pub struct UnitQueue<A: Allocator = Global> {
     parameters: StreamParameters,
     waiting: HeapCircularBuffer<QueuedUnit<A>, A>,
-    // The bytes sent of the first unit's PES packet.
+    // The bytes sent of the first unit's PES packet, and of what is in front of it.
     sent: usize,
     // The number of packets sent, modulo 256.
     counter: u8,
@@ -104,10 +104,11 @@ impl<A: Allocator> UnitQueue<A> {
         let dts = unit.dts;
         let header = self.parameters.header(&unit);
         let size = header.len() + unit.bytes.len();
-        match self.room(dts, size) {
+        let front = field_size(unit.marks.random_access);
+        match self.room(dts, size, front) {
             Some(cause) => Err((cause, unit)),
             None => {
-                self.push(dts, size, QueuedUnit::new(slot, header, unit));
+                self.push(dts, size, front, QueuedUnit::new(slot, header, unit));
                 Ok(())
             }
         }
@@ -137,28 +138,32 @@ impl<A: Allocator> UnitQueue<A> {
         }
     }
 
-    // The first cause that lies in the room for a unit of this DTS and size in bytes, or in its packets.
-    fn room(&self, dts: u64, size: usize) -> Option<FeedError>
-        requires { size < 2 ^ 63 }
+    // The first cause that lies in the room for a unit of this DTS and size in bytes, with `front` bytes in front of it, or
+    // in its packets.
+    fn room(&self, dts: u64, size: usize, front: usize) -> Option<FeedError>
+        requires { front + size < 2 ^ 63 }
         ensures { result ≡ room_cause (nat_le self.now.capacity (length self.now.units))
-            (packets_cause self.now.parameters.allowance (is_over_for self.now (record { dts = dts; size = size }))) }
+            (packets_cause self.now.parameters.allowance (is_over_for self.now (record { dts = dts; size = size; front = front }))) }
     {
         let full = self.waiting.capacity() <= self.waiting.len();
         let allowance = self.parameters.allowance;
-        let over = self.tally.exceeds(allowance, self.last_dts(), dts, size);
+        let over = self
+            .tally
+            .exceeds(allowance, self.last_dts(), dts, size, front);
         room_cause(full, packets_cause(allowance, over))
     }
 
     // Adds a unit for which there is room.
-    fn push(&mut self, dts: u64, size: usize, unit: QueuedUnit<A>)
+    fn push(&mut self, dts: u64, size: usize, front: usize, unit: QueuedUnit<A>)
         requires dts { dts ≤ 2 ^ 52 }
-        requires size { size < 2 ^ 63 }
+        requires size { front + size < 2 ^ 63 }
         requires room { length self.old.units < self.old.capacity }
-        requires within { is_over_for self.old (record { dts = dts; size = size }) ≡ false }
-        ensures { self.new ≡ joined self.old (record { dts = dts; size = size }) unit }
+        requires within { is_over_for self.old (record { dts = dts; size = size; front = front }) ≡ false }
+        ensures { self.new ≡ joined self.old (record { dts = dts; size = size; front = front }) unit }
     {
         let last = self.last_dts();
-        self.tally.add(self.parameters.allowance, last, dts, size);
+        self.tally
+            .add(self.parameters.allowance, last, dts, size, front);
         self.min_next_dts = dts + u64::from(self.parameters.interval);
         let _ = self.waiting.try_push_back(unit);
     }

@@ -40,28 +40,39 @@ impl<A: Allocator> PacketTally<A> {
         Ok(PacketTally { recent, level: 0 })
     }
 
-    /// Returns whether a unit of this DTS and size in bytes has more packets than are allowed, where the unit before
-    /// is due at `last`.
-    pub fn exceeds(&self, allowance: Allowance, last: u64, dts: u64, size: usize) -> bool
-        requires { size < 2 ^ 63 }
-        ensures { result ≡ exceeds allowance self.now last (record { dts = dts; size = size }) }
+    /// Returns whether a unit of this DTS and size in bytes, with `front` bytes in front of it, has more packets than are
+    /// allowed, if the unit before is due at `last`.
+    pub fn exceeds(
+        &self,
+        allowance: Allowance,
+        last: u64,
+        dts: u64,
+        size: usize,
+        front: usize,
+    ) -> bool
+        requires { front + size < 2 ^ 63 }
+        ensures { result ≡ exceeds allowance self.now last (record { dts = dts; size = size; front = front }) }
     {
         match allowance {
-            Allowance::Groups { packets, .. } => self.exceeds_group(packets, packet_count(size)),
+            Allowance::Groups { packets, .. } => self.exceeds_group(
+                packets,
+                packet_count(front + size),
+            ),
             Allowance::Pace { burst, pace } => {
-                self.next_level(pace, last, dts, size) > u128::from(burst) * SLOT_UNITS_AT_1BPS
+                self.next_level(pace, last, dts, size, front)
+                    > u128::from(burst) * SLOT_UNITS_AT_1BPS
             }
         }
     }
 
-    /// Counts a unit that is within the allowance.
-    pub fn add(&mut self, allowance: Allowance, last: u64, dts: u64, size: usize)
-        requires size { size < 2 ^ 63 }
-        requires within { exceeds allowance self.old last (record { dts = dts; size = size }) ≡ false }
-        ensures { self.new ≡ counted allowance self.old last (record { dts = dts; size = size }) }
+    /// Counts a unit that is within what is allowed.
+    pub fn add(&mut self, allowance: Allowance, last: u64, dts: u64, size: usize, front: usize)
+        requires size { front + size < 2 ^ 63 }
+        requires within { exceeds allowance self.old last (record { dts = dts; size = size; front = front }) ≡ false }
+        ensures { self.new ≡ counted allowance self.old last (record { dts = dts; size = size; front = front }) }
     {
-        self.level = self.level_with(allowance, last, dts, size);
-        let _ = self.recent.push_back(packet_count(size));
+        self.level = self.level_with(allowance, last, dts, size, front);
+        let _ = self.recent.push_back(packet_count(front + size));
     }
 
     // Whether a unit of this number of packets is too large for its group.
@@ -81,24 +92,31 @@ impl<A: Allocator> PacketTally<A> {
     }
 
     // The level with a unit that is within what is allowed; by groups 0.
-    fn level_with(&self, allowance: Allowance, last: u64, dts: u64, size: usize) -> u64
-        requires size { size < 2 ^ 63 }
-        requires within { exceeds allowance self.now last (record { dts = dts; size = size }) ≡ false }
-        ensures { result ≡ level_with allowance self.now last (record { dts = dts; size = size }) }
+    fn level_with(
+        &self,
+        allowance: Allowance,
+        last: u64,
+        dts: u64,
+        size: usize,
+        front: usize,
+    ) -> u64
+        requires size { front + size < 2 ^ 63 }
+        requires within { exceeds allowance self.now last (record { dts = dts; size = size; front = front }) ≡ false }
+        ensures { result ≡ level_with allowance self.now last (record { dts = dts; size = size; front = front }) }
     {
         match allowance {
             Allowance::Groups { .. } => 0,
-            Allowance::Pace { pace, .. } => self.next_level(pace, last, dts, size) as u64,
+            Allowance::Pace { pace, .. } => self.next_level(pace, last, dts, size, front) as u64,
         }
     }
 
     // The level with a further unit: what the pace takes off until its DTS, no more than there is, and its packets.
-    fn next_level(&self, pace: u32, last: u64, dts: u64, size: usize) -> u128
-        requires { size < 2 ^ 63 }
-        ensures { result ≡ next_level pace self.now.level last (record { dts = dts; size = size }) }
+    fn next_level(&self, pace: u32, last: u64, dts: u64, size: usize, front: usize) -> u128
+        requires { front + size < 2 ^ 63 }
+        ensures { result ≡ next_level pace self.now.level last (record { dts = dts; size = size; front = front }) }
     {
         let taken_off = u128::from(pace) * u128::from(dts.saturating_sub(last));
-        let added = u128::from(packet_count(size)) * SLOT_UNITS_AT_1BPS;
+        let added = u128::from(packet_count(front + size)) * SLOT_UNITS_AT_1BPS;
         u128::from(self.level).saturating_sub(taken_off) + added
     }
 }

@@ -17,13 +17,14 @@ head_size = 21
 abbrev pub max_unit_size : ℕ
 max_unit_size = 4_000_000
 
--- the marks of a unit in one byte: 0x10 a header of 45 bytes, the four flags as in the first flag byte of a PES header
+-- the marks of a unit in one byte: 0x40 the random_access_indicator, the bit that it has in an adaptation field, 0x10 a header of 45 bytes,
+-- the four flags as in the first flag byte of a PES header
 abbrev pub marks_byte : Marks → ℕ
-marks_byte marks = bit marks.long * 16 + flag_bits marks.flags
+marks_byte marks = bit marks.random_access * 64 + bit marks.long * 16 + flag_bits marks.flags
 
 -- the marks that a byte names
 unfoldable pub marks_in : ℕ → Marks
-marks_in byte = record { flags = flags_in byte; long = flag byte 16 }
+marks_in byte = record { random_access = flag byte 64; flags = flags_in byte; long = flag byte 16 }
 
 -- the word of a record: a byte of marks and three bytes of size; where three bytes do not name the size, a word that no reader takes
 abbrev pub word_of : Marks → ℕ → ℕ
@@ -31,7 +32,7 @@ word_of marks size = if nat_lt size (2 ^ 24) then marks_byte marks * 2 ^ 24 + si
 
 -- each bit of the byte of marks that is set says something, and the unit has bytes
 abbrev pub is_known : ℕ → Bool
-is_known word = nat_lt (word / 2 ^ 24) 32 && not (word % 2 ^ 24 == 0)
+is_known word = nat_lt (word / 2 ^ 24) 128 && nat_lt (word / 2 ^ 24 % 64) 32 && not (word % 2 ^ 24 == 0)
 
 -- the size in a word; the whole word, which is 0 or over each size, if a bit that says nothing is set or the unit has no bytes
 unfoldable pub size_in : ℕ → ℕ

@@ -8,14 +8,19 @@ use pes_packet::{Marks, PesFlags};
 /// The number of sizes that three bytes name.
 const SIZES: u32 = 1 << 24;
 
-/// Gives the byte of marks of a record: 0x10 a PES header of 45 bytes, the four flags as in the first flag byte of a PES
-/// header.
+/// Gives the byte of marks of a record: 0x40 the random_access_indicator, 0x10 a PES header of 45 bytes, the four flags as
+/// in the first flag byte of a PES header.
 pub fn marks_byte(marks: Marks) -> u8
     ensures value { result ≡ marks_byte marks }
-    ensures below { result < 32 }
+    ensures below { result < 128 }
 {
     let flags = marks.flags.bits();
-    if marks.long { 16 + flags } else { flags }
+    let header = if marks.long { 16 + flags } else { flags };
+    if marks.random_access {
+        64 + header
+    } else {
+        header
+    }
 }
 
 /// Gives the word of a unit of this size with these marks. A size that three bytes do not name fills it, and no reader
@@ -37,7 +42,8 @@ pub fn size_in(word: u32) -> usize
     ensures { result ≡ size_in word }
 {
     let size = word % SIZES;
-    if word / SIZES < 32 && size != 0 {
+    let byte = word / SIZES;
+    if byte < 128 && byte % 64 < 32 && size != 0 {
         size as usize
     } else {
         word as usize
@@ -51,6 +57,7 @@ pub(crate) fn marks_in(word: u32) -> Marks
 {
     let byte = (word / SIZES) as u8;
     Marks {
+        random_access: byte >> 6 & 1 == 1,
         flags: PesFlags::from_bits(byte),
         long: byte >> 4 & 1 == 1,
     }

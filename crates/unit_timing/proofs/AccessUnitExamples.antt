@@ -10,7 +10,7 @@ use Rattle.unit_timing.specs.AccessUnits.{FramedPacket, access_units_held, frame
 -- are there at 1,599; at 1,600 the first is removed, at 1,700 the second, at 1,800 the last
 
 three : List FramedPacket
-three = record { packet = record { dts = 1600; size = 590 }; access_units = 200 ∷ 200 ∷ 190 ∷ [] } ∷ []
+three = record { packet = record { dts = 1600; size = 590; front = 0 }; access_units = 200 ∷ 200 ∷ 190 ∷ [] } ∷ []
 
 -- at 1,504,000 bits a second, drained at 2,000,000: the moment of 1,599 units of 90 kHz, and so on, rounded up
 before_first : framed_fullness 1504000 2000000 6680266667 100 three (replicate 590 0) ≡ 590

@@ -143,9 +143,9 @@ record Waiting (rate r x interval main : ℕ) (f : Framing) (ahead : ℕ → ℕ
 waiting_rest : (rate r x interval main : ℕ) (f : Framing) (ahead : ℕ → ℕ) (p : FramedPacket) (packets : List FramedPacket) (left : List ℕ) →
     Waiting rate r x interval main f ahead (p ∷ packets) left → Waiting rate r x interval main f ahead packets (drop p.packet.size left)
 waiting_rest rate r x interval main f ahead p packets left w = record {
-  none = le_trans (mb_rest rate r x (record { dts = p.packet.dts - 0; size = p.packet.size }) (advanced 0 (packets_of packets)) left) w.none;
+  none = le_trans (mb_rest rate r x (record { dts = p.packet.dts - 0; size = p.packet.size; front = p.packet.front }) (advanced 0 (packets_of packets)) left) w.none;
   some = λ i pos lt.
-      let rest = mb_rest rate r x (record { dts = p.packet.dts - ahead i; size = p.packet.size }) (advanced (ahead i) (packets_of packets)) left in
+      let rest = mb_rest rate r x (record { dts = p.packet.dts - ahead i; size = p.packet.size; front = p.packet.front }) (advanced (ahead i) (packets_of packets)) left in
       omega (arith, rest, w.some i pos lt);
 }
 
@@ -206,7 +206,7 @@ one_due rate r x interval main held f ahead short near p (q ∷ packets) left sp
               (few_apart i f.frames f.frame interval some short) (near i) in
               let rest = none_due rate r x f.frame interval q.packet.dts (ahead i) (q ∷ packets) (drop p.packet.size left)
               (unfold Spaced in (omega arith, spaced.1)) before in
-              let whole = mb_rest rate r x (record { dts = p.packet.dts - ahead i; size = p.packet.size })
+              let whole = mb_rest rate r x (record { dts = p.packet.dts - ahead i; size = p.packet.size; front = p.packet.front })
               (advanced (ahead i) (packets_of (q ∷ packets))) left in
               le_trans (both held (framed_fullness rate r x f.frame (q ∷ packets) (drop p.packet.size left)) _ _ gone.others rest)
               (omega (arith, whole, w.some i (pos_removed x p.packet.dts i f.frame rate r due lt) some))

@@ -21,41 +21,41 @@ pub length-run : (own : ℕ → Bool) (n : ℕ) → length (own_slots own 0 n) �
 unfolding own_before
 length-run own n = let e : 0 + n ≡ n = omega arith in let h = length-own_slots own 0 n in omega (arith, rw e at h)
 
-cut_before : (e size : ℕ) (slots : List ℕ) → All (λ s. s < e) slots → All (λ p. p.slot < e) (cut size slots)
+cut_before : (e front size : ℕ) (slots : List ℕ) → All (λ s. s < e) slots → All (λ p. p.slot < e) (cut front size slots)
 unfolding cut
-cut_before e size [] all = All-nil (λ p. p.slot < e)
-cut_before e size (s ∷ slots) all =
-    All-cons (λ p. p.slot < e) (record { slot = s; size = min 184 size }) (cut (size - 184) slots) (All-head (λ t. t < e) s slots all)
-    (cut_before e (size - 184) slots (All-tail (λ t. t < e) s slots all))
+cut_before e front size [] all = All-nil (λ p. p.slot < e)
+cut_before e front size (s ∷ slots) all =
+    All-cons (λ p. p.slot < e) (record { slot = s; size = min (184 - front) size }) (cut (front - 184) (size - (184 - front)) slots) (All-head (λ t. t < e) s slots all)
+    (cut_before e (front - 184) (size - (184 - front)) slots (All-tail (λ t. t < e) s slots all))
 
 -- the unit whose own slots b to b + p - 1 stand before slot e of the run is there whole, and has left by e's
 -- begin and the peak
-pub unit_there : (own : ℕ → Bool) (rate r room peak : ℕ) (W : ℕ → ℕ) (n e b p size from prev : ℕ) → BoundsWork own rate r room peak W →
-    b + p ≤ own_before own e → e ≤ n → size ≤ 184 * p → Rises own from (drop b (own_slots own 0 n)) → Level r W from prev →
-    (length (pes_left rate r prev (cut size (take p (drop b (own_slots own 0 n))))) ≡ size)
-    × All (λ d. d ≤ 188 * r * e + peak) (pes_left rate r prev (cut size (take p (drop b (own_slots own 0 n)))))
+pub unit_there : (own : ℕ → Bool) (rate r room peak : ℕ) (W : ℕ → ℕ) (n e b p front size from prev : ℕ) → BoundsWork own rate r room peak W →
+    b + p ≤ own_before own e → e ≤ n → front + size ≤ 184 * p → Rises own from (drop b (own_slots own 0 n)) → Level r W from prev →
+    (length (pes_left rate r prev (cut front size (take p (drop b (own_slots own 0 n))))) ≡ size)
+    × All (λ d. d ≤ 188 * r * e + peak) (pes_left rate r prev (cut front size (take p (drop b (own_slots own 0 n)))))
 unfolding own_before
-unit_there own rate r room peak W n e b p size from prev bounds packets_in_slots within small rises h =
+unit_there own rate r room peak W n e b p front size from prev bounds packets_in_slots within small rises h =
     let slots = own_slots own 0 n in
     let xs = take p (drop b slots) in
     let many : length (take p (drop b slots)) ≡ min p (own_before own n - b) =
     rw (length-take p (drop b slots), length-drop b slots, length-run own n) refl in
     let all : All (λ s. s < e) (take p (drop b slots)) =
     rw (← drop-take b p slots) (All-drop (λ s. s < e) b (take (b + p) slots) (first_before own e 0 n (b + p) (omega arith))) in (
-      rw (length-left-cut rate r size prev xs, many) (omega (arith, own_before_le own e n within)),
-      left_by own rate r room peak W e (cut size xs) from prev bounds (rw (slots_of-cut size xs) (rises_take own from p (drop b slots) rises)) h (cut_before e size xs all),
+      rw (length-left-cut rate r front size prev xs, many) (omega (arith, own_before_le own e n within)),
+      left_by own rate r room peak W e (cut front size xs) from prev bounds (rw (slots_of-cut front size xs) (rises_take own from p (drop b slots) rises)) h (cut_before e front size xs all),
     )
 
 -- what is left of the departures after a unit is that of the later units
-pub after_unit : (own : ℕ → Bool) (rate lead r n b p size prev next : ℕ) (units : List PesPacket) → size ≤ 184 * p →
-    drop size (pes_left rate r prev (cut size (take p (drop b (own_slots own 0 n))))
+pub after_unit : (own : ℕ → Bool) (rate lead r n b p front size prev next : ℕ) (units : List PesPacket) → front + size ≤ 184 * p →
+    drop size (pes_left rate r prev (cut front size (take p (drop b (own_slots own 0 n))))
     ++ pes_left rate r next (packets_in_slots own rate lead (b + p) units (own_slots own 0 n)))
     ≡ pes_left rate r next (packets_in_slots own rate lead (b + p) units (own_slots own 0 n))
-after_unit own rate lead r n b p size prev next units small =
+after_unit own rate lead r n b p front size prev next units small =
     let slots = own_slots own 0 n in
-    let left = pes_left rate r prev (cut size (take p (drop b slots))) in
-    let many : length left ≡ min size (184 * min p (length slots - b)) =
-    rw (length-left-cut rate r size prev (take p (drop b slots)), length-take p (drop b slots), length-drop b slots) refl in
+    let left = pes_left rate r prev (cut front size (take p (drop b slots))) in
+    let many : length left ≡ min size (184 * min p (length slots - b) - front) =
+    rw (length-left-cut rate r front size prev (take p (drop b slots)), length-take p (drop b slots), length-drop b slots) refl in
     elim (cases_lt (length slots) (b + p)) [
       | inl short ↦
           let nothing : pes_left rate r next (packets_in_slots own rate lead (b + p) units slots) ≡ [] =
@@ -76,14 +76,14 @@ by_stamp : (d e r peak extra due rate : ℕ) → d ≤ 188 * r * e + peak → e 
 by_stamp d e r peak extra due rate le early = omega (arith, le, early)
 
 due_there : (own : ℕ → Bool) (rate r room peak extra : ℕ) (W : ℕ → ℕ) (n b p : ℕ) (unit : PesPacket) (from prev : ℕ) → BoundsWork own rate r room peak W → 0 < r →
-    unit.size ≤ 184 * p → Rises own from (drop b (own_slots own 0 n)) → Level r W from prev → (later : List ℕ) →
+    unit.front + unit.size ≤ 184 * p → Rises own from (drop b (own_slots own 0 n)) → Level r W from prev → (later : List ℕ) →
     EndsInTime own rate r (peak + extra) (b + p) unit.dts → unit.dts * rate ≤ n * 135360000 →
-    (unit.size ≤ length (pes_left rate r prev (cut unit.size (take p (drop b (own_slots own 0 n)))) ++ later))
-    × All (λ d. (d + extra) * 720000 ≤ unit.dts * rate * r) (take unit.size (pes_left rate r prev (cut unit.size (take p (drop b (own_slots own 0 n)))) ++ later))
+    (unit.size ≤ length (pes_left rate r prev (cut unit.front unit.size (take p (drop b (own_slots own 0 n)))) ++ later))
+    × All (λ d. (d + extra) * 720000 ≤ unit.dts * rate * r) (take unit.size (pes_left rate r prev (cut unit.front unit.size (take p (drop b (own_slots own 0 n)))) ++ later))
 due_there own rate r room peak extra W n b p unit from prev bounds pos small here h later ends due =
-    let left = pes_left rate r prev (cut unit.size (take p (drop b (own_slots own 0 n)))) in
+    let left = pes_left rate r prev (cut unit.front unit.size (take p (drop b (own_slots own 0 n)))) in
     let within = slot_within ends.slot (peak + extra) unit.dts rate r n pos ends.early due in
-    let there = unit_there own rate r room peak W n ends.slot b p unit.size from prev bounds ends.sent within small here h in (
+    let there = unit_there own rate r room peak W n ends.slot b p unit.front unit.size from prev bounds ends.sent within small here h in (
       rw (length-append left later) (omega (arith, there.0)),
       rw (take_at left later unit.size there.0)
           (All-weaker (λ d. d ≤ 188 * r * ends.slot + peak) (λ d. (d + extra) * 720000 ≤ unit.dts * rate * r)
@@ -108,14 +108,14 @@ arrived own rate lead r room peak extra W n pos bounds (unit ∷ units) free pre
     let p = packets_of_unit unit in
     let xs = take p (drop b slots) in
     let next = last_left rate prev (arrivals r xs) in
-    let small : unit.size ≤ 184 * packets_of_unit unit = omega arith in
+    let small : unit.front + unit.size ≤ 184 * packets_of_unit unit = omega arith in
     let here = rises_begin own rate lead free from unit slots rises in
-    let joined : pes_left rate r prev (cut unit.size xs ++ packets_in_slots own rate lead (b + p) units slots)
-    ≡ pes_left rate r prev (cut unit.size xs) ++ pes_left rate r next (packets_in_slots own rate lead (b + p) units slots) =
-    pes_left-append rate r prev (cut unit.size xs) (packets_in_slots own rate lead (b + p) units slots) ∙ rw (slots_of-cut unit.size xs) refl in
+    let joined : pes_left rate r prev (cut unit.front unit.size xs ++ packets_in_slots own rate lead (b + p) units slots)
+    ≡ pes_left rate r prev (cut unit.front unit.size xs) ++ pes_left rate r next (packets_in_slots own rate lead (b + p) units slots) =
+    pes_left-append rate r prev (cut unit.front unit.size xs) (packets_in_slots own rate lead (b + p) units slots) ∙ rw (slots_of-cut unit.front unit.size xs) refl in
     rw joined (
       (λ due. due_there own rate r room peak extra W n b p unit from prev bounds pos small here h (pes_left rate r next (packets_in_slots own rate lead (b + p) units slots)) in_time.0 due),
-      rw (after_unit own rate lead r n b p unit.size prev next units small)
+      rw (after_unit own rate lead r n b p unit.front unit.size prev next units small)
           (arrived own rate lead r room peak extra W n pos bounds units (b + p) next (slot_after from xs) in_time.1
           (rises_following own from b p slots here)
           (level_packets own rate r room peak W from prev xs bounds (rises_take own from p (drop b slots) here) h)),

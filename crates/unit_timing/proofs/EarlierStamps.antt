@@ -12,13 +12,13 @@ use Rattle.unit_timing.specs.Conditions.{IsProper}
 
 -- the same packets with stamps that are so much earlier
 abbrev pub advanced : ℕ → List PesPacket → List PesPacket
-advanced less units = map (λ u. let v : PesPacket = record { dts = u.dts - less; size = u.size } in v) units
+advanced less units = map (λ u. let v : PesPacket = record { dts = u.dts - less; size = u.size; front = u.front } in v) units
 
 pub advanced_none : (units : List PesPacket) → advanced 0 units ≡ units
 advanced_none [] = refl
 advanced_none (u ∷ units) =
     let e : u.dts - 0 ≡ u.dts = omega arith in
-    let one : PesPacket = record { dts = u.dts; size = u.size } in
+    let one : PesPacket = record { dts = u.dts; size = u.size; front = u.front } in
     rw e (ap (λ l. one ∷ l) (advanced_none units))
 
 pub advanced_slots : (own : ℕ → Bool) (rate lead less free : ℕ) (units : List PesPacket) (slots : List ℕ) → less ≤ lead →
@@ -44,7 +44,7 @@ advanced_sized largest less (unit ∷ units) sized = (sized.0, advanced_sized la
 advanced_packets : (less : ℕ) (units : List PesPacket) → packets_of_units (advanced less units) ≡ packets_of_units units
 advanced_packets less [] = refl
 advanced_packets less (unit ∷ units) =
-    let earlier : PesPacket = record { dts = unit.dts - less; size = unit.size } in
+    let earlier : PesPacket = record { dts = unit.dts - less; size = unit.size; front = unit.front } in
     sum_by-cons packets_of_unit earlier (advanced less units) ∙ ap (λ (n : ℕ). packets_of_unit unit + n) (advanced_packets less units)
     ∙ sym (sum_by-cons packets_of_unit unit units)
 
@@ -54,7 +54,7 @@ advanced_groups g most n less [] within = tt
 advanced_groups g most n less (unit ∷ units) within = (
   within.0,
   rw (
-    take-map (λ u. let v : PesPacket = record { dts = u.dts - less; size = u.size } in v) g (unit ∷ units),
+    take-map (λ u. let v : PesPacket = record { dts = u.dts - less; size = u.size; front = u.front } in v) g (unit ∷ units),
     advanced_packets less (take g (unit ∷ units)),
   ) within.1,
   advanced_groups g most n less units within.2,

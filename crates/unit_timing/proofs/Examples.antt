@@ -6,7 +6,7 @@ use Rattle.clock27.specs.Fullness.{fullness}
 use Rattle.own_slots.specs.Slots.{own_before, own_slots}
 use Rattle.unit_timing.specs.declared.allowance.Allowance.{Allowance}
 use Rattle.unit_timing.specs.declared.allowance.Allowance.TheVariants.{Groups, Pace}
-use Rattle.unit_timing.specs.PesPacket.{PesPacket, grouped}
+use Rattle.unit_timing.specs.PesPacket.{PesPacket, packets_of_unit, grouped}
 use Rattle.unit_timing.specs.Allowances.{group_curve, pace_curve}
 use Rattle.unit_timing.specs.Levels.{level_after, last_due, greatest_after, level, greatest_level, is_over}
 use Rattle.unit_timing.specs.Schedule.{Packet, first_slot, cut, packets_in_slots}
@@ -35,7 +35,7 @@ every_fourth : ℕ → Bool
 every_fourth s = nat_eq (s % 4) 0
 
 one_unit : ℕ → List PesPacket
-one_unit due = record { dts = due; size = 590 } ∷ []
+one_unit due = record { dts = due; size = 590; front = 0 } ∷ []
 
 run_of : ℕ → ℕ → List Packet
 run_of due n = packets_in_slots every_fourth 1504000 due 0 (one_unit due) (own_slots every_fourth 0 n)
@@ -43,6 +43,17 @@ run_of due n = packets_in_slots every_fourth 1504000 due 0 (one_unit due) (own_s
 first_run : run_of 1600 18 ≡ record { slot = 0; size = 184 } ∷ record { slot = 4; size = 184 } ∷ record { slot = 8; size = 184 } ∷ record { slot = 12; size = 38 } ∷ []
 unfolding run_of every_fourth one_unit packets_in_slots first_slot cut own_before own_slots
 first_run = refl
+
+-- with two bytes in front the first packet carries 182 of them, and a unit of 367 bytes has three packets where one of 366 has two
+first_less : cut 2 367 (0 ∷ 4 ∷ 8 ∷ []) ≡ record { slot = 0; size = 182 } ∷ record { slot = 4; size = 184 } ∷ record { slot = 8; size = 1 } ∷ []
+unfolding cut
+first_less = refl
+
+two_packets : packets_of_unit (record { dts = 0; size = 366; front = 2 }) ≡ 2
+two_packets = refl
+
+three_packets : packets_of_unit (record { dts = 0; size = 367; front = 2 }) ≡ 3
+three_packets = refl
 
 -- the transport buffer holds no more than the byte that arrives, as at the last one
 one_byte : fullness 4886000000 (arrivals 2000000 (0 ∷ 4 ∷ 8 ∷ 12 ∷ [])) (departures 1504000 0 (arrivals 2000000 (0 ∷ 4 ∷ 8 ∷ 12 ∷ []))) ≡ 1
@@ -106,11 +117,11 @@ unfolding one_unit level_after
 too_full = refl
 
 -- so the one unit after the other is refused at 3,039, and taken at 3,040
-refused : is_over (Pace 4 376000) (one_unit 1600) (record { dts = 3039; size = 590 }) ≡ true
+refused : is_over (Pace 4 376000) (one_unit 1600) (record { dts = 3039; size = 590; front = 0 }) ≡ true
 unfolding one_unit level_after last_due
 refused = refl
 
-taken : is_over (Pace 4 376000) (one_unit 1600) (record { dts = 3040; size = 590 }) ≡ false
+taken : is_over (Pace 4 376000) (one_unit 1600) (record { dts = 3040; size = 590; front = 0 }) ≡ false
 unfolding one_unit level_after last_due
 taken = refl
 

@@ -67,15 +67,15 @@ kept_packet rate r x due s left few all =
       ]
     ]
 
-kept_pieces : (rate r x due size : ℕ) (slots left : List ℕ) → NoneLeavesEarly r (cut size slots) left → kept rate r x due left ≤ 184 * live rate r x (pieces due slots)
+kept_pieces : (rate r x due front size : ℕ) (slots left : List ℕ) → NoneLeavesEarly r (cut front size slots) left → kept rate r x due left ≤ 184 * live rate r x (pieces due slots)
 unfolding cut live NoneLeavesEarly
-kept_pieces rate r x due size [] left none = rw none (omega (arith, kept_le rate r x due []))
-kept_pieces rate r x due size (s ∷ slots) left late =
-    let one = take (min 184 size) left in
-    let rest = drop (min 184 size) left in
+kept_pieces rate r x due front size [] left none = rw none (omega (arith, kept_le rate r x due []))
+kept_pieces rate r x due front size (s ∷ slots) left late =
+    let one = take (min (184 - front) size) left in
+    let rest = drop (min (184 - front) size) left in
     let parts : kept rate r x due left ≡ kept rate r x due one + kept rate r x due rest =
-    ap (λ (l : List ℕ). kept rate r x due l) (sym (take-append-drop (min 184 size) left)) ∙ kept-append rate r x due one rest in
-    omega (arith, parts, kept_packet rate r x due s one (omega (arith, late.0)) late.1, kept_pieces rate r x due (size - 184) slots rest late.2)
+    ap (λ (l : List ℕ). kept rate r x due l) (sym (take-append-drop (min (184 - front) size) left)) ∙ kept-append rate r x due one rest in
+    omega (arith, parts, kept_packet rate r x due s one (omega (arith, late.0)) late.1, kept_pieces rate r x due (front - 184) (size - (184 - front)) slots rest late.2)
 
 main_pieces : (own : ℕ → Bool) (rate lead r n x : ℕ) (units : List PesPacket) (free : ℕ) (left : List ℕ) →
     NoneLeavesEarly r (packets_in_slots own rate lead free units (own_slots own 0 n)) left →
@@ -87,11 +87,11 @@ main_pieces own rate lead r n x (unit ∷ units) free left late =
     let b = first_slot own rate lead free unit in
     let p = packets_of_unit unit in
     let xs = take p (drop b slots) in
-    let parts = unit_parts own rate lead r n b p unit.size units left (omega arith) late in
+    let parts = unit_parts own rate lead r n b p unit.front unit.size units left (omega arith) late in
     rw (live-append rate r x (pieces unit.dts xs) (all_pieces own rate lead (b + p) units slots))
     (omega (
       arith,
-      kept_pieces rate r x unit.dts unit.size xs (take unit.size left) parts.0,
+      kept_pieces rate r x unit.dts unit.front unit.size xs (take unit.size left) parts.0,
       main_pieces own rate lead r n x units (b + p) (drop unit.size left) parts.1,
     ))
 
@@ -114,8 +114,8 @@ slots_in-all own rate lead free (unit ∷ units) slots =
     rw (
       map-append (λ (p : Piece). p.slot) (pieces unit.dts xs) (all_pieces own rate lead (b + p) units slots),
       slots_in-pieces unit.dts xs,
-      map-append (λ (p : Packet). p.slot) (cut unit.size xs) (packets_in_slots own rate lead (b + p) units slots),
-      slots_of-cut unit.size xs,
+      map-append (λ (p : Packet). p.slot) (cut unit.front unit.size xs) (packets_in_slots own rate lead (b + p) units slots),
+      slots_of-cut unit.front unit.size xs,
       slots_in-all own rate lead (b + p) units slots,
     ) refl
 

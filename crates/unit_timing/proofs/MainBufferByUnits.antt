@@ -29,13 +29,13 @@ early_slot x rate lead r due s early le =
 
 -- only a live unit has bytes in the main buffer, `each` for each that it counts
 kept_unit : (own : ℕ → Bool) (rate lead r x free n : ℕ) (unit : PesPacket) (each : ℕ) (f : PesPacket → ℕ) (left : List ℕ) → unit.size ≤ each * f unit →
-    NoneLeavesEarly r (cut unit.size (take (packets_of_unit unit) (drop (first_slot own rate lead free unit) (own_slots own 0 n)))) left →
+    NoneLeavesEarly r (cut unit.front unit.size (take (packets_of_unit unit) (drop (first_slot own rate lead free unit) (own_slots own 0 n)))) left →
     kept rate r x unit.dts left ≤ each * cond (is_live rate lead r x unit) (f unit) 0
 kept_unit own rate lead r x free n unit each f left few late =
     let xs = take (packets_of_unit unit) (drop (first_slot own rate lead free unit) (own_slots own 0 n)) in
     elim (cases_lt (x * 720000) ((unit.dts - lead) * rate * r)) [
       | inl early ↦
-          let all = unit_later r unit.size (suc x) xs left late
+          let all = unit_later r unit.front unit.size (suc x) xs left late
           (All-weaker (λ s. release rate lead unit.dts ≤ s) (λ s. suc x ≤ 188 * s * r) (λ s le. early_slot x rate lead r unit.dts s early le) xs (unit_slots own rate lead free n unit)) in
           let none = kept_before rate r x unit.dts left all in
           omega (arith, none)
@@ -44,7 +44,7 @@ kept_unit own rate lead r x free n unit each f left few late =
         | inl before ↦
             let is : is_live rate lead r x unit ≡ true =
             and_from _ _ (le-leb ((unit.dts - lead) * rate * r) (x * 720000) begun) (lt-ltb (x * 720000) (unit.dts * rate * r) before) in
-            rw is (omega (arith, few, kept_le rate r x unit.dts left, few_left r unit.size xs left late))
+            rw is (omega (arith, few, kept_le rate r x unit.dts left, few_left r unit.front unit.size xs left late))
       ]
     ]
 
@@ -56,7 +56,7 @@ main_units own rate lead r n x each f few [] free left late = omega arith
 main_units own rate lead r n x each f few (unit ∷ units) free left late =
     let b = first_slot own rate lead free unit in
     let p = packets_of_unit unit in
-    let parts = unit_parts own rate lead r n b p unit.size units left (omega arith) late in
+    let parts = unit_parts own rate lead r n b p unit.front unit.size units left (omega arith) late in
     omega (
       arith,
       kept_unit own rate lead r x free n unit each f (take unit.size left) (few unit) parts.0,

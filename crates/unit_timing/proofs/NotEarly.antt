@@ -47,11 +47,11 @@ pub none_leaves_early_law : NoneLeavesEarlyLaw
 none_leaves_early_law = record { model = model; joined = joined }
 
 -- the packets of a run carry no more than they can
-small_cut : (size : ℕ) (slots : List ℕ) → All (λ p. p.size ≤ 188) (cut size slots)
+small_cut : (front size : ℕ) (slots : List ℕ) → All (λ p. p.size ≤ 188) (cut front size slots)
 unfolding cut
-small_cut size [] = All-nil (λ (p : Packet). p.size ≤ 188)
-small_cut size (s ∷ slots) =
-    All-cons (λ (p : Packet). p.size ≤ 188) (record { slot = s; size = min 184 size }) (cut (size - 184) slots) (omega arith) (small_cut (size - 184) slots)
+small_cut front size [] = All-nil (λ (p : Packet). p.size ≤ 188)
+small_cut front size (s ∷ slots) =
+    All-cons (λ (p : Packet). p.size ≤ 188) (record { slot = s; size = min (184 - front) size }) (cut (front - 184) (size - (184 - front)) slots) (omega arith) (small_cut (front - 184) (size - (184 - front)) slots)
 
 pub small_packets : (own : ℕ → Bool) (rate lead free : ℕ) (units : List PesPacket) (slots : List ℕ) → All (λ p. p.size ≤ 188) (packets_in_slots own rate lead free units slots)
 unfolding packets_in_slots
@@ -59,7 +59,7 @@ small_packets own rate lead free [] slots = All-nil (λ (p : Packet). p.size ≤
 small_packets own rate lead free (unit ∷ units) slots =
     let b = first_slot own rate lead free unit in
     let xs = take (packets_of_unit unit) (drop b slots) in
-    All-append (λ (p : Packet). p.size ≤ 188) (cut unit.size xs) (packets_in_slots own rate lead (b + packets_of_unit unit) units slots) (small_cut unit.size xs)
+    All-append (λ (p : Packet). p.size ≤ 188) (cut unit.front unit.size xs) (packets_in_slots own rate lead (b + packets_of_unit unit) units slots) (small_cut unit.front unit.size xs)
     (small_packets own rate lead (b + packets_of_unit unit) units slots)
 
 -- so those of the model are such in a run
@@ -71,22 +71,22 @@ run_left own rate lead r n units =
 -- ---- those of one unit
 
 -- they are no more than its bytes
-pub few_left : (r size : ℕ) (slots left : List ℕ) → NoneLeavesEarly r (cut size slots) left → length left ≤ size
+pub few_left : (r front size : ℕ) (slots left : List ℕ) → NoneLeavesEarly r (cut front size slots) left → length left ≤ size
 unfolding cut NoneLeavesEarly
-few_left r size [] left none = rw none (omega arith)
-few_left r size (s ∷ slots) left late =
-    let rest = few_left r (size - 184) slots (drop (min 184 size) left) late.2 in
-    omega (arith, rest, length-drop (min 184 size) left, length-take (min 184 size) left, late.0)
+few_left r front size [] left none = rw none (omega arith)
+few_left r front size (s ∷ slots) left late =
+    let rest = few_left r (front - 184) (size - (184 - front)) slots (drop (min (184 - front) size) left) late.2 in
+    omega (arith, rest, length-drop (min (184 - front) size) left, length-take (min (184 - front) size) left, late.0)
 
 -- and come after its first slot has begun
-pub unit_later : (r size low : ℕ) (slots left : List ℕ) → NoneLeavesEarly r (cut size slots) left → All (λ s. low ≤ 188 * s * r) slots → All (λ d. low ≤ d) left
+pub unit_later : (r front size low : ℕ) (slots left : List ℕ) → NoneLeavesEarly r (cut front size slots) left → All (λ s. low ≤ 188 * s * r) slots → All (λ d. low ≤ d) left
 unfolding cut NoneLeavesEarly
-unit_later r size low [] left none all = rw none (All-nil (λ (d : ℕ). low ≤ d))
-unit_later r size low (s ∷ slots) left late all =
-    let k = min 184 size in
+unit_later r front size low [] left none all = rw none (All-nil (λ (d : ℕ). low ≤ d))
+unit_later r front size low (s ∷ slots) left late all =
+    let k = min (184 - front) size in
     let first : low ≤ 188 * s * r = All-head (λ s. low ≤ 188 * s * r) s slots all in
     let one : All (λ d. low ≤ d) (take k left) = All-weaker (λ d. 188 * s * r ≤ d) (λ d. low ≤ d) (λ d h. le_trans first h) (take k left) late.1 in
-    let rest = unit_later r (size - 184) low slots (drop k left) late.2 (All-tail (λ s. low ≤ 188 * s * r) s slots all) in
+    let rest = unit_later r (front - 184) (size - (184 - front)) low slots (drop k left) late.2 (All-tail (λ s. low ≤ 188 * s * r) s slots all) in
     rw (take-append-drop k left) at (All-append (λ d. low ≤ d) (take k left) (drop k left) one rest)
 
 -- ---- and those of the later units
@@ -95,10 +95,10 @@ unfoldable bytes_of : List Packet → ℕ
 bytes_of [] = 0
 bytes_of (p ∷ packets) = p.size + bytes_of packets
 
-bytes_of-cut : (size : ℕ) (slots : List ℕ) → bytes_of (cut size slots) ≡ min size (184 * length slots)
+bytes_of-cut : (front size : ℕ) (slots : List ℕ) → bytes_of (cut front size slots) ≡ min size (184 * length slots - front)
 unfolding bytes_of cut
-bytes_of-cut size [] = omega arith
-bytes_of-cut size (s ∷ slots) = omega (arith, bytes_of-cut (size - 184) slots)
+bytes_of-cut front size [] = omega arith
+bytes_of-cut front size (s ∷ slots) = omega (arith, bytes_of-cut (front - 184) (size - (184 - front)) slots)
 
 parted : (r : ℕ) (packets packets' : List Packet) (left : List ℕ) → NoneLeavesEarly r (packets ++ packets') left →
     (bytes_of packets ≤ length left) × NoneLeavesEarly r packets (take (bytes_of packets) left) × NoneLeavesEarly r packets' (drop (bytes_of packets) left)
@@ -121,18 +121,18 @@ no_packets : (r : ℕ) → NoneLeavesEarly r [] []
 unfolding NoneLeavesEarly
 no_packets r = refl
 
-pub unit_parts : (own : ℕ → Bool) (rate lead r n b p size : ℕ) (units : List PesPacket) (left : List ℕ) → size ≤ 184 * p →
-    NoneLeavesEarly r (cut size (take p (drop b (own_slots own 0 n))) ++ packets_in_slots own rate lead (b + p) units (own_slots own 0 n)) left →
-    NoneLeavesEarly r (cut size (take p (drop b (own_slots own 0 n)))) (take size left)
+pub unit_parts : (own : ℕ → Bool) (rate lead r n b p front size : ℕ) (units : List PesPacket) (left : List ℕ) → front + size ≤ 184 * p →
+    NoneLeavesEarly r (cut front size (take p (drop b (own_slots own 0 n))) ++ packets_in_slots own rate lead (b + p) units (own_slots own 0 n)) left →
+    NoneLeavesEarly r (cut front size (take p (drop b (own_slots own 0 n)))) (take size left)
     × NoneLeavesEarly r (packets_in_slots own rate lead (b + p) units (own_slots own 0 n)) (drop size left)
-unit_parts own rate lead r n b p size units left small late =
+unit_parts own rate lead r n b p front size units left small late =
     let slots = own_slots own 0 n in
     let xs = take p (drop b slots) in
     let later = packets_in_slots own rate lead (b + p) units slots in
-    let k = bytes_of (cut size xs) in
-    let parts = parted r (cut size xs) later left late in
-    let many : k ≡ min size (184 * min p (length slots - b)) =
-    bytes_of-cut size xs ∙ (rw (length-take p (drop b slots), length-drop b slots) refl) in
+    let k = bytes_of (cut front size xs) in
+    let parts = parted r (cut front size xs) later left late in
+    let many : k ≡ min size (184 * min p (length slots - b) - front) =
+    bytes_of-cut front size xs ∙ (rw (length-take p (drop b slots), length-drop b slots) refl) in
     elim (cases_lt (length slots) (b + p)) [
       | inl short ↦
           let nothing : later ≡ [] = sent_nothing own rate lead (b + p) units slots (omega arith) in
@@ -141,12 +141,12 @@ unit_parts own rate lead r n b p size units left small late =
           let lens : length (drop k left) ≡ 0 = ap (λ (l : List ℕ). length l) over in
           let all : length left ≤ k = omega (arith, length-drop k left, lens) in
           let all' : length left ≤ size = omega (arith, all, many) in (
-            subst (λ (l : List ℕ). NoneLeavesEarly r (cut size xs) l) (take_all k left all ∙ sym (take_all size left all')) parts.1,
+            subst (λ (l : List ℕ). NoneLeavesEarly r (cut front size xs) l) (take_all k left all ∙ sym (take_all size left all')) parts.1,
             rw (nothing, drop_all size left all') (no_packets r),
           )
       | inr whole ↦
           let e : k ≡ size = omega (arith, many) in (
-            subst (λ (m : ℕ). NoneLeavesEarly r (cut size xs) (take m left)) e parts.1,
+            subst (λ (m : ℕ). NoneLeavesEarly r (cut front size xs) (take m left)) e parts.1,
             subst (λ (m : ℕ). NoneLeavesEarly r later (drop m left)) e parts.2,
           )
     ]

@@ -16,10 +16,10 @@ use Rattle.unit_timing.specs.Transport.{slots_of, of_payloads, pes_left}
 use Rattle.unit_timing.proofs.TransportBuffer.{Level, level_le, level_packet, length-bytes_from, pes_left-cons}
 use Rattle.unit_timing.proofs.ScheduleLemmas.{free_le}
 
-pub slots_of-cut : (size : ℕ) (slots : List ℕ) → slots_of (cut size slots) ≡ slots
+pub slots_of-cut : (front size : ℕ) (slots : List ℕ) → slots_of (cut front size slots) ≡ slots
 unfolding cut
-slots_of-cut size [] = refl
-slots_of-cut size (s ∷ slots) = ap (λ l. s ∷ l) (slots_of-cut (size - 184) slots)
+slots_of-cut front size [] = refl
+slots_of-cut front size (s ∷ slots) = ap (λ l. s ∷ l) (slots_of-cut (front - 184) (size - (184 - front)) slots)
 
 pub pes_left-append : (rate r prev : ℕ) (ps qs : List Packet) →
     pes_left rate r prev (ps ++ qs) ≡ pes_left rate r prev ps ++ pes_left rate r (last_left rate prev (arrivals r (slots_of ps))) qs
@@ -38,17 +38,17 @@ pes_left-append rate r prev (p ∷ ps) qs =
     ) refl
 
 -- all that these slots can carry of the unit leaves
-pub length-left-cut : (rate r size prev : ℕ) (slots : List ℕ) → length (pes_left rate r prev (cut size slots)) ≡ min size (184 * length slots)
+pub length-left-cut : (rate r front size prev : ℕ) (slots : List ℕ) → length (pes_left rate r prev (cut front size slots)) ≡ min size (184 * length slots - front)
 unfolding cut
-length-left-cut rate r size prev [] = unfold of_payloads in (omega arith)
-length-left-cut rate r size prev (s ∷ slots) =
+length-left-cut rate r front size prev [] = unfold of_payloads in (omega arith)
+length-left-cut rate r front size prev (s ∷ slots) =
     let first = bytes_from r (188 * s) 188 in
     let many : length (departures rate prev first) ≡ 188 = length-departures rate prev first ∙ length-bytes_from r (188 * s) 188 in
-    let rest = length-left-cut rate r (size - 184) (last_left rate prev first) slots in
+    let rest = length-left-cut rate r (front - 184) (size - (184 - front)) (last_left rate prev first) slots in
     rw (
-      pes_left-cons rate r prev (record { slot = s; size = min 184 size }) (cut (size - 184) slots),
-      length-append (drop (188 - min 184 size) (departures rate prev first)) (pes_left rate r (last_left rate prev first) (cut (size - 184) slots)),
-      length-drop (188 - min 184 size) (departures rate prev first),
+      pes_left-cons rate r prev (record { slot = s; size = min (184 - front) size }) (cut (front - 184) (size - (184 - front)) slots),
+      length-append (drop (188 - min (184 - front) size) (departures rate prev first)) (pes_left rate r (last_left rate prev first) (cut (front - 184) (size - (184 - front)) slots)),
+      length-drop (188 - min (184 - front) size) (departures rate prev first),
       many,
       rest,
     ) (omega arith)
@@ -156,7 +156,7 @@ rising_sent own rate lead slots (unit ∷ units) free from rises =
     let p = packets_of_unit unit in
     let xs = take p (drop b slots) in
     let here = rises_begin own rate lead free from unit slots rises in
-    rw (map-append (λ (p : Packet). p.slot) (cut unit.size xs) (packets_in_slots own rate lead (b + p) units slots), slots_of-cut unit.size xs)
+    rw (map-append (λ (p : Packet). p.slot) (cut unit.front unit.size xs) (packets_in_slots own rate lead (b + p) units slots), slots_of-cut unit.front unit.size xs)
     (rises_join own from xs (slots_of (packets_in_slots own rate lead (b + p) units slots)) (rises_take own from p (drop b slots) here)
     (rising_sent own rate lead slots units (b + p) (slot_after from xs) (rises_following own from b p slots here)))
 

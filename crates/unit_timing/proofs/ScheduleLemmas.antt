@@ -1,5 +1,5 @@
 -- Slot by slot and unit by unit; the two buffers of a program's tables.
-use Rattle.std.proofs.Common.{◌≡◌, ℕ, zero, suc, ◌+◌, ◌-◌, ◌*◌, ◌<◌, ◌≤◌, min, Bool, Option, Some, None, List, [], ◌∷◌, ◌++◌, take, drop, refl, ap, ◌∙◌, inl, inr, arith}
+use Rattle.std.proofs.Common.{◌≡◌, ℕ, zero, suc, ◌+◌, ◌-◌, ◌*◌, ◌<◌, ◌≤◌, min, Bool, Option, Some, None, List, [], ◌∷◌, ◌++◌, take, drop, refl, ap, ap₂, ◌∙◌, inl, inr, arith}
 use Rattle.std.proofs.Math.Nat.{le_trans}
 use Rattle.std.proofs.lemmas.Bool.{cases_Bool, lt-ltb, le-ltb}
 use Rattle.std.proofs.lemmas.List.{append_assoc, drop-drop}
@@ -9,7 +9,7 @@ use Rattle.own_slots.specs.Slots.{own_before, own_slots}
 use Rattle.own_slots.proofs.Counts.{own_before_own, own_before_other}
 use Rattle.own_slots.proofs.WorkLemmas.{work_scale_law}
 use Rattle.unit_timing.specs.PesPacket.{PesPacket, packets_of_unit}
-use Rattle.unit_timing.specs.Schedule.{Packet, first_slot, payload_size_at, packet_in, packets_by_slot, cut, packets_in_slots, SlotwiseLaw}
+use Rattle.unit_timing.specs.Schedule.{Packet, first_slot, payload_size, payload_size_at, packet_in, packets_by_slot, cut, packets_in_slots, SlotwiseLaw}
 use Rattle.unit_timing.specs.SystemBuffer.{SystemLaw}
 use Rattle.unit_timing.proofs.TransportBuffer.{transport_room}
 
@@ -61,20 +61,40 @@ picked_same f g i [] same = refl
 picked_same f g i (s ∷ slots) same =
     rw (same i (omega arith), picked_same f g (suc i) slots (λ j from. same j (omega arith))) refl
 
-picked_cut : (f : ℕ → Option ℕ) (p size i : ℕ) (slots : List ℕ) → ((j : ℕ) → j < p → f (i + j) ≡ Some (min 184 (size - 184 * j))) →
-    picked f i (take p slots) ≡ cut size (take p slots)
+-- what the first packet of a unit carries, and the later ones, which are those of what is then left
+first_size : (front size : ℕ) → payload_size front size 0 ≡ min (184 - front) size
+first_size front size =
+    let room : front - 184 * 0 ≡ front = omega arith in
+    let all : size - (184 * 0 - front) ≡ size = omega arith in
+    ap₂ (λ (m n : ℕ). min (184 - m) n) room all
+
+later_room : (front j : ℕ) → front - 184 * suc j ≡ front - 184 - 184 * j
+later_room front j = omega arith
+
+later_place : (front j : ℕ) → 184 * suc j - front ≡ (184 - front) + (184 * j - (front - 184))
+later_place front j = omega arith
+
+less_both : (a x y : ℕ) → a - (x + y) ≡ a - x - y
+less_both a x y = omega arith
+
+later_size : (front size j : ℕ) → payload_size front size (suc j) ≡ payload_size (front - 184) (size - (184 - front)) j
+later_size front size j =
+    ap₂ (λ (m n : ℕ). min (184 - m) n) (later_room front j)
+    (ap (λ (k : ℕ). size - k) (later_place front j) ∙ less_both size (184 - front) (184 * j - (front - 184)))
+
+picked_cut : (f : ℕ → Option ℕ) (p front size i : ℕ) (slots : List ℕ) → ((j : ℕ) → j < p → f (i + j) ≡ Some (payload_size front size j)) →
+    picked f i (take p slots) ≡ cut front size (take p slots)
 unfolding picked cut
-picked_cut f zero size i slots pieces = refl
-picked_cut f (suc p) size i [] pieces = refl
-picked_cut f (suc p) size i (s ∷ slots) pieces =
-    let here : f i ≡ Some (min 184 size) =
-    let e : i + 0 ≡ i = omega arith in let z : size - 184 * 0 ≡ size = omega arith in rw (e, z) at (pieces 0 (omega arith)) in
+picked_cut f zero front size i slots pieces = refl
+picked_cut f (suc p) front size i [] pieces = refl
+picked_cut f (suc p) front size i (s ∷ slots) pieces =
+    let at_first : i ≡ i + 0 = omega arith in
+    let here : f i ≡ Some (min (184 - front) size) = ap f at_first ∙ pieces 0 (omega arith) ∙ ap (λ (n : ℕ). Some n) (first_size front size) in
     rw (
       here,
-      picked_cut f p (size - 184) (suc i) slots (λ j below.
+      picked_cut f p (front - 184) (size - (184 - front)) (suc i) slots (λ j below.
           let e : suc i + j ≡ i + suc j = omega arith in
-          let z : (size - 184) - 184 * j ≡ size - 184 * suc j = omega arith in
-          rw (e, z) (pieces (suc j) (omega arith))),
+          ap f e ∙ pieces (suc j) (omega arith) ∙ ap (λ (n : ℕ). Some n) (later_size front size j)),
     ) refl
 
 -- what own slot number i carries: nothing before the unit, its pieces, and then what the later units give it
@@ -84,7 +104,7 @@ unfolding payload_size_at
 carried_before own rate lead free i unit units lt = rw (lt-ltb i (first_slot own rate lead free unit) lt) refl
 
 carried_piece : (own : ℕ → Bool) (rate lead free j : ℕ) (unit : PesPacket) (units : List PesPacket) → j < packets_of_unit unit →
-    payload_size_at own rate lead free (unit ∷ units) (first_slot own rate lead free unit + j) ≡ Some (min 184 (unit.size - 184 * j))
+    payload_size_at own rate lead free (unit ∷ units) (first_slot own rate lead free unit + j) ≡ Some (payload_size unit.front unit.size j)
 unfolding payload_size_at
 carried_piece own rate lead free j unit units lt =
     let b = first_slot own rate lead free unit in
@@ -120,7 +140,7 @@ picked_units own rate lead free (unit ∷ units) slots =
     let f = payload_size_at own rate lead free (unit ∷ units) in
     let to : free + (first_slot own rate lead free unit - free) ≡ first_slot own rate lead free unit = omega (arith, free_le own rate lead free unit) in
     let before = picked_none f (b - free) free (drop free slots) (λ j from below. carried_before own rate lead free j unit units (omega arith)) in
-    let pieces = picked_cut f p unit.size b (drop b slots) (λ j below. carried_piece own rate lead free j unit units below) in
+    let pieces = picked_cut f p unit.front unit.size b (drop b slots) (λ j below. carried_piece own rate lead free j unit units below) in
     let after = picked_same f (payload_size_at own rate lead (b + p) units) (b + p) (drop (b + p) slots) (λ j le. carried_after own rate lead free j unit units le) in
     rw (
       picked_split f (b - free) free (drop free slots),

@@ -31,8 +31,8 @@ waits_from own rate lead r n (unit ∷ units) free times late =
     let p = packets_of_unit unit in
     let xs = take p (drop b (own_slots own 0 n)) in
     let begins = release rate lead unit.dts in
-    let parts = unit_parts own rate lead r n b p unit.size units times (omega arith) late in
-    let all = unit_later r unit.size (188 * begins * r) xs (take unit.size times) parts.0
+    let parts = unit_parts own rate lead r n b p unit.front unit.size units times (omega arith) late in
+    let all = unit_later r unit.front unit.size (188 * begins * r) xs (take unit.size times) parts.0
     (All-weaker (λ s. begins ≤ s) (λ s. 188 * begins * r ≤ 188 * s * r) (λ s le. slot_begins begins s r le) xs (unit_slots own rate lead free n unit)) in (
       All-weaker (λ t. 188 * begins * r ≤ t) (λ t. unit.dts * rate * r ≤ t * 720000 + lead * rate * r)
           (λ t le. from_release rate lead r unit.dts t le) (take unit.size times) all,

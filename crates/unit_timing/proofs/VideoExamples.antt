@@ -21,7 +21,7 @@ in_slots : ℕ → ℕ → ℕ → ℕ → List Packet
 in_slots a b c d = record { slot = a; size = 184 } ∷ record { slot = b; size = 184 } ∷ record { slot = c; size = 184 } ∷ record { slot = d; size = 38 } ∷ []
 
 unit : List PesPacket
-unit = record { dts = 1600; size = 590 } ∷ []
+unit = record { dts = 1600; size = 590; front = 0 } ∷ []
 
 -- four slots in a row at 3,008,000 bits a second, TB drained at 2,000,000 and MB at 1,000,000: when the last byte of the third
 -- packet enters MB, MB holds 273 bytes, and EB 279 of the 552 that have entered MB
@@ -81,6 +81,6 @@ unfolding latest departures bytes_from
 two_queues = refl
 
 -- two units of two bytes and one: each byte is removed at its unit's stamp
-removed : removed_at 1504000 2000000 (record { dts = 1; size = 2 } ∷ record { dts = 3; size = 1 } ∷ []) ≡ 3008000000000 ∷ 3008000000000 ∷ 9024000000000 ∷ []
+removed : removed_at 1504000 2000000 (record { dts = 1; size = 2; front = 0 } ∷ record { dts = 3; size = 1; front = 0 } ∷ []) ≡ 3008000000000 ∷ 3008000000000 ∷ 9024000000000 ∷ []
 unfolding removed_at
 removed = refl

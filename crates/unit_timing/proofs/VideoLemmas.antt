@@ -116,7 +116,7 @@ few_bytes own rate lead r n k [] free left none = rw none (omega arith)
 few_bytes own rate lead r n k (unit ∷ units) free left early =
     let b = first_slot own rate lead free unit in
     let p = packets_of_unit unit in
-    let parts = unit_parts own rate lead r n b p unit.size units left (omega arith) early in
+    let parts = unit_parts own rate lead r n b p unit.front unit.size units left (omega arith) early in
     let rest = few_bytes own rate lead r n k units (b + p) (drop unit.size left) parts.1 in
     rw (length-append (replicate unit.size (unit.dts * rate * k)) (removed_at rate k units), length-replicate unit.size (unit.dts * rate * k))
     (omega (arith, rest, length-drop unit.size left))

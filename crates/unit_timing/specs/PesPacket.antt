@@ -2,14 +2,16 @@
 use Rattle.std.specs.Prelude.{ℕ, ◌+◌, ◌-◌, ◌*◌, ◌/◌, ◌%◌, ◌≤◌, min, List, [], ◌∷◌, ◌++◌, length, take, drop, sum_by}
 
 -- the unit of a unit is its PES packet, header and data (ISO/IEC 13818-1, 2.4.3.6): its bytes, and when it is due, the
--- decoding time stamp counted in units of 90 kHz from the start of the run
+-- decoding time stamp counted in units of 90 kHz from the start of the run; `front` is what its first transport packet holds
+-- before its bytes, the adaptation field that says something of it, 0 where nothing is said
 pub record PesPacket : Type 0 where
   pub dts : ℕ
   pub size : ℕ
+  pub front : ℕ
 
--- the transport packets that carry it: 184 bytes each, the last one the rest
+-- the transport packets that carry it: 184 bytes each, with what stands in front, the last one the rest
 abbrev pub packets_of_unit : PesPacket → ℕ
-packets_of_unit unit = (unit.size + 183) / 184
+packets_of_unit unit = (unit.front + unit.size + 183) / 184
 
 abbrev pub packets_of_units : List PesPacket → ℕ
 packets_of_units units = sum_by packets_of_unit units

@@ -14,12 +14,16 @@ pub record Packet : Type 0 where
 unfoldable pub first_slot : (ℕ → Bool) → ℕ → ℕ → ℕ → PesPacket → ℕ
 first_slot own rate lead free unit = max free (own_before own (release rate lead unit.dts))
 
+-- the payload bytes of packet number j of a unit of `size` bytes: 184, less what stands in front of it, and in the last one the rest
+abbrev pub payload_size : ℕ → ℕ → ℕ → ℕ
+payload_size front size j = min (184 - (front - 184 * j)) (size - (184 * j - front))
+
 -- the payload bytes that own slot number i carries, none where it carries no packet of the stream
 unfoldable pub payload_size_at : (ℕ → Bool) → ℕ → ℕ → ℕ → List PesPacket → ℕ → Option ℕ
 payload_size_at own rate lead free [] i = None
 payload_size_at own rate lead free (unit ∷ units) i =
     cond (nat_lt i (first_slot own rate lead free unit)) None
-    (cond (nat_lt i (first_slot own rate lead free unit + packets_of_unit unit)) (Some (min 184 (unit.size - 184 * (i - first_slot own rate lead free unit))))
+    (cond (nat_lt i (first_slot own rate lead free unit + packets_of_unit unit)) (Some (payload_size unit.front unit.size (i - first_slot own rate lead free unit)))
     (payload_size_at own rate lead (first_slot own rate lead free unit + packets_of_unit unit) units i))
 
 -- the packet in slot s, where it carries one
@@ -32,17 +36,17 @@ unfoldable pub packets_by_slot : (ℕ → Bool) → (ℕ → Option ℕ) → Lis
 packets_by_slot own carried [] = []
 packets_by_slot own carried (s ∷ slots) = packet_in s (carried (own_before own s)) ++ packets_by_slot own carried slots
 
--- the packets that carry `size` bytes in these slots: 184 each, the last one the rest
-unfoldable pub cut : ℕ → List ℕ → List Packet
-cut size [] = []
-cut size (s ∷ slots) = record { slot = s; size = min 184 size } ∷ cut (size - 184) slots
+-- the packets that carry `size` bytes in these slots, `front` bytes in front of them: 184 with these, the last one the rest
+unfoldable pub cut : ℕ → ℕ → List ℕ → List Packet
+cut front size [] = []
+cut front size (s ∷ slots) = record { slot = s; size = min (184 - front) size } ∷ cut (front - 184) (size - (184 - front)) slots
 
 -- the packets of these units, one unit after the other, where `slots` has the own slots from number 0 on as far as the
 -- run goes, and the first `free` of them are taken
 unfoldable pub packets_in_slots : (ℕ → Bool) → ℕ → ℕ → ℕ → List PesPacket → List ℕ → List Packet
 packets_in_slots own rate lead free [] slots = []
 packets_in_slots own rate lead free (unit ∷ units) slots =
-    cut unit.size (take (packets_of_unit unit) (drop (first_slot own rate lead free unit) slots))
+    cut unit.front unit.size (take (packets_of_unit unit) (drop (first_slot own rate lead free unit) slots))
     ++ packets_in_slots own rate lead (first_slot own rate lead free unit + packets_of_unit unit) units slots
 
 -- slot by slot and unit by unit the packets of a run of n slots are the same

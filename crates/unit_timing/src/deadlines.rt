@@ -11,7 +11,7 @@ pub fn paid()
     ensures { DeadlineLaw }
 {}
 
-/// Groups are paid for: the condition on the rate pays for whole groups, that on the lead for the rest.
+/// States that groups are paid for: the condition on the rate pays for whole groups, that on the lead for the rest.
 pub fn groups_paid()
     ensures { GroupsPaidLaw }
 {}

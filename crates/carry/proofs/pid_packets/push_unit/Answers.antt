@@ -1,7 +1,10 @@
-use Rattle.std.proofs.Common.{◌≡◌, ◌+◌, ◌%◌, ◌++◌, ℕ, List, IfOk, IfErr, length, true, ap, ◌∙◌, subst, rules, arith}
+use Rattle.std.proofs.Common.{◌≡◌, ◌+◌, ◌%◌, ◌++◌, ℕ, Bool, List, IfOk, IfErr, length, true, ap, ◌∙◌, subst, rules, arith}
 use Rattle.pes_packet.specs.AccessUnits.{AccessUnit}
 use Rattle.pes_packet.specs.Encoding.{pes_packet_bytes}
-use Rattle.pes_packet.specs.Payloads.{pieces, piece_count}
+use Rattle.pes_packet.specs.Marks.{field_size}
+use Rattle.pes_packet.specs.Payloads.{piece_count, unit_pieces}
+use Rattle.ts_packet.specs.Beginnings.{start_by}
+use Rattle.unit_queue.specs.OwnedStreams.{has_access}
 use Rattle.packet_output.specs.Buffer.{IsOutput, Took}
 use Rattle.packet_output.specs.Formats.{formatted_all}
 use Rattle.carry.specs.PidPackets.{payload_packets}
@@ -21,10 +24,15 @@ returns-clause-ok g c = λ start all number h e.
     let pes : c.deref.result.now ++ c.deref-2.result.now ≡ pes_packet_bytes c.args.id 0 c.args.unit.now =
     pes_is c.args.id c.args.unit.now _ _ _ _ _ _ (header ∙ c.write_header-header.ensures) bytes size
     (ap (λ (u : AccessUnit). u.marks) c.unit.view_is) (ap (λ (u : AccessUnit). u.pts) c.unit.view_is) (ap (λ (u : AccessUnit). u.dts) c.unit.view_is) in
-    subst (λ (x : List ℕ). IfOk c.push_pieces.result (λ next. (next ≡ (number + piece_count (length x)) % 16)
+    let access : c.unit.inside.marks.random_access ≡ has_access c.args.unit.now = ap (λ (u : AccessUnit). u.marks.random_access) c.unit.view_is in
+    subst (λ (b : Bool). IfOk c.push_pieces.result (λ next. (next ≡ (number + piece_count (field_size b + length (pes_packet_bytes c.args.id 0 c.args.unit.now))) % 16)
     × IsOutput start (g.W.Write.contents c.push_pieces.new.to) c.push_pieces.new.packets
-    (all ++ formatted_all c.args.packets.now.hex (payload_packets c.args.pid true number (pieces x))))) pes
-    (c.push_pieces.ensures.ok start all number h e)
+    (all ++ formatted_all c.args.packets.now.hex (payload_packets c.args.pid (start_by true b) number (unit_pieces b (pes_packet_bytes c.args.id 0 c.args.unit.now)))))) access
+    (subst (λ (x : List ℕ). IfOk c.push_pieces.result (λ next. (next ≡ (number + piece_count (field_size c.unit.inside.marks.random_access + length x)) % 16)
+    × IsOutput start (g.W.Write.contents c.push_pieces.new.to) c.push_pieces.new.packets
+    (all ++ formatted_all c.args.packets.now.hex
+    (payload_packets c.args.pid (start_by true c.unit.inside.marks.random_access) number (unit_pieces c.unit.inside.marks.random_access x))))) pes
+    (c.push_pieces.ensures.ok start all number h e))
 
 pub returns-clause-err : goal.returns-clause-err
 returns-clause-err g c = λ start all number h e.
@@ -34,6 +42,10 @@ returns-clause-err g c = λ start all number h e.
     let pes : c.deref.result.now ++ c.deref-2.result.now ≡ pes_packet_bytes c.args.id 0 c.args.unit.now =
     pes_is c.args.id c.args.unit.now _ _ _ _ _ _ (header ∙ c.write_header-header.ensures) bytes size
     (ap (λ (u : AccessUnit). u.marks) c.unit.view_is) (ap (λ (u : AccessUnit). u.pts) c.unit.view_is) (ap (λ (u : AccessUnit). u.dts) c.unit.view_is) in
-    subst (λ (x : List ℕ). IfErr c.push_pieces.result (λ fault. Took start (g.W.Write.contents c.push_pieces.new.to) fault.sent
-    (all ++ formatted_all c.args.packets.now.hex (payload_packets c.args.pid true number (pieces x))))) pes
-    (c.push_pieces.ensures.err start all number h e)
+    let access : c.unit.inside.marks.random_access ≡ has_access c.args.unit.now = ap (λ (u : AccessUnit). u.marks.random_access) c.unit.view_is in
+    subst (λ (b : Bool). IfErr c.push_pieces.result (λ fault. Took start (g.W.Write.contents c.push_pieces.new.to) fault.sent
+    (all ++ formatted_all c.args.packets.now.hex (payload_packets c.args.pid (start_by true b) number (unit_pieces b (pes_packet_bytes c.args.id 0 c.args.unit.now)))))) access
+    (subst (λ (x : List ℕ). IfErr c.push_pieces.result (λ fault. Took start (g.W.Write.contents c.push_pieces.new.to) fault.sent
+    (all ++ formatted_all c.args.packets.now.hex
+    (payload_packets c.args.pid (start_by true c.unit.inside.marks.random_access) number (unit_pieces c.unit.inside.marks.random_access x))))) pes
+    (c.push_pieces.ensures.err start all number h e))

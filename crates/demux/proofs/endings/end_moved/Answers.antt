@@ -11,6 +11,6 @@ returns-clause-ok g c =
     let zero : header.len ≡ 0 = search rules in
     let size : c.len-size.result ≡ length unit.bytes.items = omega (arith, c.len-size.ensures) in
     subst (λ (found : List Found). Finds c.args.place c.args.found.now.items c.note_whole.new.found.items found)
-    (sym (endless_found c.args.open_unit.now c.in-Some.unit unit.packet unit.kind unit.header unit.front.items unit.bytes.items header c.len-size.result
+    (sym (endless_found c.args.open_unit.now c.in-Some.unit unit.packet unit.kind unit.access unit.header unit.front.items unit.bytes.items header c.len-size.result
     c.in-Some.is c.unit.view_is c.unit.invariant.1.1.1 c.in-Some-header.is zero size))
     c.in_ok-note_whole.ensures.ok

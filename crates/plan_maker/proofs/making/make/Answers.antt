@@ -2,7 +2,7 @@ use Rattle.std.specs.Prelude.{IfOk, IfErr}
 use Rattle.std.proofs.Common.{◌≡◌, false, Option, Result, Ok, Err, ap, sym, ◌∙◌}
 use Rattle.description.specs.Described.{Described}
 use Rattle.slot_plan.specs.Planned.{Planned}
-use Rattle.plan_search.specs.PlainPlan.{plain_plan, serves}
+use Rattle.plan_maker.specs.PlainPlan.{plain_plan, serves}
 use Rattle.plan_maker.specs.Failures.{Fails}
 use Rattle.plan_maker.specs.declared.making.MakeError.{MakeError}
 use Rattle.plan_maker.specs.declared.making.MakeError.TheVariants.{NotFound}

@@ -3,7 +3,7 @@ use Rattle.std.proofs.lemmas.Bool.{and_parts}
 use Rattle.std.proofs.lemmas.List.{length-append}
 use Rattle.pes_packet.specs.Units.{units_of}
 use Rattle.tstd.specs.Carried.{carries}
-use Rattle.decoder_buffers.specs.PidPackets.{packets_from}
+use Rattle.tstd.specs.PidPackets.{packets_from}
 use Rattle.tstd.specs.Refusals.{all_carried}
 use Rattle.tstd.proofs.StreamsInTurn.{streams_next, carried_next, late_step, late_done, late_same, full_same, enough}
 use Rattle.tstd.proofs.all_streams.measure_streams.Goals as goal

@@ -8,9 +8,9 @@ use Rattle.unit_timing.specs.Transport.{slots_of, tb_fullness, pes_left}
 use Rattle.unit_timing.proofs.MainBufferPeak.{main_peak_law}
 use Rattle.pes_packet.specs.Units.{units_of}
 use Rattle.tstd.specs.Carried.{timed_pes_packets}
-use Rattle.decoder_buffers.specs.PidPackets.{packets_from}
-use Rattle.decoder_buffers.specs.Queues.{greatest_residence}
-use Rattle.decoder_buffers.specs.PayloadBytes.{bytes_ahead, drain_of}
+use Rattle.tstd.specs.PidPackets.{packets_from}
+use Rattle.tstd.specs.Queues.{greatest_residence}
+use Rattle.tstd.specs.PayloadBytes.{bytes_ahead, drain_of}
 use Rattle.tstd.proofs.Peaks.{residence_peak, peak_few, length-arrivals}
 use Rattle.tstd.proofs.StreamPackets.{packets_climb, packets_few, payloads_few, none_given, most_found_all}
 use Rattle.tstd.proofs.UnitLists.{late_found}

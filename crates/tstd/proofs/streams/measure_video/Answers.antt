@@ -9,10 +9,10 @@ use Rattle.unit_timing.proofs.MainBufferPeak.{main_peak_law}
 use Rattle.clock27.proofs.Departures.{length-departures}
 use Rattle.pes_packet.specs.Units.{units_of}
 use Rattle.tstd.specs.Carried.{timed_pes_packets}
-use Rattle.decoder_buffers.specs.PidPackets.{packets_from}
-use Rattle.decoder_buffers.specs.Queues.{greatest_residence}
-use Rattle.decoder_buffers.specs.MultiplexingQueue.{residence_in}
-use Rattle.decoder_buffers.specs.PayloadBytes.{bytes_ahead, drain_of}
+use Rattle.tstd.specs.PidPackets.{packets_from}
+use Rattle.tstd.specs.Queues.{greatest_residence}
+use Rattle.tstd.specs.MultiplexingQueue.{residence_in}
+use Rattle.tstd.specs.PayloadBytes.{bytes_ahead, drain_of}
 use Rattle.tstd.proofs.Peaks.{peak_few, length-arrivals, video_peak}
 use Rattle.tstd.proofs.StreamPackets.{packets_few, payloads_few, payload_count, none_given, most_found_all}
 use Rattle.tstd.proofs.UnitLists.{late_found}

@@ -1,12 +1,12 @@
 use Rattle.std.proofs.Common.{◌∙◌, ◌+◌, ◌*◌, ◌<◌, ◌≤◌, length, drop, refl, arith, ap, sym}
 use Rattle.clock27.specs.Arrival.{arrivals, bytes_from}
 use Rattle.clock27.specs.Departure.{departures}
-use Rattle.decoder_buffers.specs.declared.queue.Queue.{Queue}
+use Rattle.tstd.specs.declared.queue.Queue.{Queue}
 use Rattle.tstd.specs.PacketLists.{tables_from}
-use Rattle.decoder_buffers.specs.Queues.{all_arrived, bytes_within}
+use Rattle.tstd.specs.Queues.{all_arrived, bytes_within}
 use Rattle.tstd.proofs.TablePackets.{tables_own, tables_other, tables_end, packet_arrives, packet_passes, tables_rise, tables_few}
 use Rattle.tstd.proofs.Peaks.{tables_peak, tables_bytes}
-use Rattle.decoder_buffers.proofs.QueueStates.{passed-step}
+use Rattle.tstd.proofs.QueueStates.{passed-step}
 use Rattle.tstd.proofs.tables.measure_tables.Goals as goal
 
 pub loop-index-preserved-then-not-is_of_tables : goal.loop-index-preserved-then-not-is_of_tables

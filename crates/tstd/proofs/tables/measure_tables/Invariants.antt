@@ -2,7 +2,7 @@ use Rattle.std.proofs.Common.{◌≡◌, ◌*◌, ◌^◌, ◌≤◌, drop}
 use Rattle.clock27.specs.Arrival.{arrivals}
 use Rattle.clock27.specs.Departure.{departures}
 use Rattle.tstd.specs.PacketLists.{tables_from}
-use Rattle.decoder_buffers.specs.Queues.{all_arrived}
+use Rattle.tstd.specs.Queues.{all_arrived}
 use Rattle.tstd.proofs.tables.measure_tables.Given as goal
 
 abbrev pub invariant-loop-index : goal.invariant-loop-index

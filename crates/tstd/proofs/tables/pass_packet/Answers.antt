@@ -1,5 +1,5 @@
 use Rattle.std.proofs.Common.{◌≡◌, ◌∙◌, ◌+◌, ◌*◌, ◌≤◌, max, refl, arith}
-use Rattle.decoder_buffers.proofs.ByteRows.{row_step, row_end}
+use Rattle.tstd.proofs.ByteRows.{row_step, row_end}
 use Rattle.tstd.proofs.TablePackets.{pass_step, pass_pace, pass_end}
 use Rattle.tstd.proofs.tables.pass_packet.Goals as goal
 

@@ -1,7 +1,7 @@
 use Rattle.std.proofs.Common.{◌≡◌, ◌-◌, ◌*◌, ◌^◌, ◌≤◌}
 use Rattle.clock27.specs.Arrival.{bytes_from}
 use Rattle.clock27.specs.Departure.{departures}
-use Rattle.decoder_buffers.specs.Queues.{all_arrived}
+use Rattle.tstd.specs.Queues.{all_arrived}
 use Rattle.tstd.proofs.tables.pass_packet.Given as goal
 
 abbrev pub invariant-loop-byte : goal.invariant-loop-byte

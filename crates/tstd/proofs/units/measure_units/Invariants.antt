@@ -3,9 +3,9 @@ use Rattle.std.specs.Option.{option_or}
 use Rattle.unit_timing.specs.Arrived.{first_late}
 use Rattle.pes_packet.specs.Units.{units_of}
 use Rattle.tstd.specs.Carried.{timed_pes_packets}
-use Rattle.unit_arrival.specs.Entry.{peak_of}
-use Rattle.decoder_buffers.specs.BufferState.{IsSound}
-use Rattle.decoder_buffers.specs.PayloadBytes.{bytes_ahead, residences, drain_of}
+use Rattle.tstd.specs.Entry.{peak_of}
+use Rattle.tstd.specs.BufferState.{IsSound}
+use Rattle.tstd.specs.PayloadBytes.{bytes_ahead, residences, drain_of}
 use Rattle.tstd.proofs.units.measure_units.Given as goal
 
 abbrev pub invariant-loop-entry : goal.invariant-loop-entry

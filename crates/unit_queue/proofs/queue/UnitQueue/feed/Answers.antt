@@ -1,5 +1,7 @@
 use Rattle.std.proofs.Common.{rules, ◌≡◌, ◌+◌, ◌++◌, ◌∷◌, [], Some, None, length, nat_le, sym, ◌∙◌, arith, subst}
 use Rattle.unit_queue.specs.declared.parameters.StreamParameters.{StreamParameters}
+use Rattle.pes_packet.specs.Marks.{field_size}
+use Rattle.unit_queue.specs.OwnedStreams.{has_access}
 use Rattle.unit_queue.specs.QueueSteps.{late_at, is_over_for, timed_by}
 use Rattle.unit_queue.specs.Causes.{own_cause, time_cause, packets_cause, room_cause}
 use Rattle.unit_queue.specs.Queues.{Queue, QueueHolds, ParametersInRange, IsUnit}
@@ -41,7 +43,7 @@ room-requires g c =
     let same : c.args.self.now.parameters ≡ c.self.inside.parameters = search rules in
     let bytes : c.len-2.result ≡ length c.args.unit.bytes = search rules in
     let few = size_few c.self.inside.parameters c.args.unit c.len.result c.self.invariant (subst (λ (r : StreamParameters). IsUnit r c.args.unit) same unit) c.len.ensures.fits in
-    omega (arith, bytes, few)
+    omega (arith, bytes, few, c.field_size-front.ensures.most)
 
 pub returns-in-Some-clause-cause : goal.returns-in-Some-clause-cause
 returns-in-Some-clause-cause g c =
@@ -50,9 +52,10 @@ returns-in-Some-clause-cause g c =
     let size = c.len.result + c.len-2.result in
     let same : c.self.inside.parameters ≡ c.args.self.now.parameters = search rules in
     let dts : c.unit.inside.dts ≡ c.args.unit.dts = search rules in
+    let field : c.field_size-front.result ≡ field_size (has_access c.args.unit) = search rules in
     let parts : c.len.result + c.len-2.result ≡ length c.header-header.result.items + length c.args.unit.bytes = search rules in
-    let timed = timed_is q.parameters c.self.inside.parameters u c.unit.inside.dts size c.header-header.result.items same dts parts c.header-header.ensures in
-    room_is q c.args.slots u (record { dts = c.unit.inside.dts; size = size }) (Some c.in-Some.cause) timed c.in-Ok.ensures.cause c.in-Some.ensures
+    let timed = timed_is q.parameters c.self.inside.parameters u c.unit.inside.dts size c.field_size-front.result c.header-header.result.items same dts field parts c.header-header.ensures in
+    room_is q c.args.slots u (record { dts = c.unit.inside.dts; size = size; front = c.field_size-front.result }) (Some c.in-Some.cause) timed c.in-Ok.ensures.cause c.in-Some.ensures
 
 -- there is room for it, and it is within what is allowed
 pub push-requires-clause-dts : goal.push-requires-clause-dts
@@ -69,7 +72,7 @@ push-requires-clause-size g c =
     let same : c.args.self.now.parameters ≡ c.self.inside.parameters = search rules in
     let bytes : c.len-2.result ≡ length c.args.unit.bytes = search rules in
     let few = size_few c.self.inside.parameters c.args.unit c.len.result c.self.invariant (subst (λ (r : StreamParameters). IsUnit r c.args.unit) same unit) c.len.ensures.fits in
-    omega (arith, bytes, few)
+    omega (arith, bytes, few, c.field_size-front.ensures.most)
 
 pub push-requires-clause-room : goal.push-requires-clause-room
 push-requires-clause-room g c =
@@ -88,9 +91,10 @@ returns-in-None-clause-cause g c =
     let size = c.len.result + c.len-2.result in
     let same : c.self.inside.parameters ≡ c.args.self.now.parameters = search rules in
     let dts : c.unit.inside.dts ≡ c.args.unit.dts = search rules in
+    let field : c.field_size-front.result ≡ field_size (has_access c.args.unit) = search rules in
     let parts : c.len.result + c.len-2.result ≡ length c.header-header.result.items + length c.args.unit.bytes = search rules in
-    let timed = timed_is q.parameters c.self.inside.parameters u c.unit.inside.dts size c.header-header.result.items same dts parts c.header-header.ensures in
-    room_is q c.args.slots u (record { dts = c.unit.inside.dts; size = size }) None timed c.in-Ok.ensures.cause c.in-None.ensures
+    let timed = timed_is q.parameters c.self.inside.parameters u c.unit.inside.dts size c.field_size-front.result c.header-header.result.items same dts field parts c.header-header.ensures in
+    room_is q c.args.slots u (record { dts = c.unit.inside.dts; size = size; front = c.field_size-front.result }) None timed c.in-Ok.ensures.cause c.in-None.ensures
 
 pub returns-in-None-clause-state : goal.returns-in-None-clause-state
 returns-in-None-clause-state g c =
@@ -99,10 +103,11 @@ returns-in-None-clause-state g c =
     let size = c.len.result + c.len-2.result in
     let same : c.self.inside.parameters ≡ c.args.self.now.parameters = search rules in
     let dts : c.unit.inside.dts ≡ c.args.unit.dts = search rules in
+    let field : c.field_size-front.result ≡ field_size (has_access c.args.unit) = search rules in
     let parts : c.len.result + c.len-2.result ≡ length c.header-header.result.items + length c.args.unit.bytes = search rules in
-    let timed = timed_is q.parameters c.self.inside.parameters u c.unit.inside.dts size c.header-header.result.items same dts parts c.header-header.ensures in
+    let timed = timed_is q.parameters c.self.inside.parameters u c.unit.inside.dts size c.field_size-front.result c.header-header.result.items same dts field parts c.header-header.ensures in
     let taken = queued_is q.parameters c.self.inside.parameters u c.in-Ok.slot c.header-header.result.items same c.in-Ok.ensures.slot c.header-header.ensures in
-    c.push.ensures ∙ accepted_is q u (record { dts = c.unit.inside.dts; size = size }) c.new.result timed (c.new.ensures ∙ taken)
+    c.push.ensures ∙ accepted_is q u (record { dts = c.unit.inside.dts; size = size; front = c.field_size-front.result }) c.new.result timed (c.new.ensures ∙ taken)
 
 -- a queue refuses a unit for the cause that its history has, and with an accepted unit stands for one unit more
 pub returns-in-Err-clause-refused : goal.returns-in-Err-clause-refused

@@ -1,0 +1,355 @@
+-- What one finding and one clock reference do to the streams of a feed, where nothing is told.
+use Rattle.std.proofs.Common.{◌≡◌, ◌≢◌, ◌∙◌, ◌⊎◌, ◌<◌, ℕ, ◌++◌, ◌==◌, eqb, ◌||◌, Bool, true, false, if◌then◌else◌, Option, Some, None, Result, Ok, Err, List, [], ◌∷◌, map, slice_get, slice_set, refl, sym, ap, inl, inr, arith}
+use Rattle.std.specs.Option.{option_to_list}
+use Rattle.std.specs.Prelude.{nat_lt}
+use Rattle.std.proofs.lemmas.Bool.Decides.{eqb_tells, nat_tests}
+use Rattle.std.proofs.lemmas.List.{append-nil}
+use Rattle.pes_packet.specs.AccessUnits.{AccessUnit}
+use Rattle.demux.specs.Views.{FindingView}
+use Rattle.es_units.specs.CarriedUnits.{CarriedUnit}
+use Rattle.es_units.specs.Stamps.{distance, dts_after, moved, unit_at, unit_fault}
+use Rattle.es_units.specs.UnitSteps.{ended_unit}
+use Rattle.es_units.specs.declared.stamps.StampFault.{StampFault}
+use Rattle.es_feed.specs.Clocks.{is_on, jump_of, jumps}
+use Rattle.es_feed.specs.EachStream.{fed_if, has_fault, have_fault, units_fed}
+use Rattle.es_feed.specs.Feeding.{Fed, FedStreamView, FeedView, after_at, after_found, after_one, after_place, ahead_of, at_moment, base_by, base_of, before_with, due_of, fed_at, fed_by, fed_one, fed_place, fed_with, feed_with, greatest_of, last_dts, map_fed, origin_after, place_from, stream_with, told_by, told_fed, told_of, unless_ahead, unless_fault, watched, whole_by}
+use Rattle.es_feed.specs.Maps.{clock_pid, new_map}
+use Rattle.es_feed.specs.Origins.{no_origin, origin_with}
+use Rattle.es_feed.specs.Ticks.{after_end, after_end_at, after_late, after_own, after_passed, after_shown, after_tick, fed_end, fed_end_at, fed_late, fed_own, fed_passed, fed_shown, fed_tick, is_tick, jump_fed, late_in, late_of, passed_from, with_shown, without_unit}
+use Rattle.es_feed.specs.declared.due.Due.{Due}
+use Rattle.es_feed.specs.declared.feed_fault.ClockJump.{ClockJump}
+use Rattle.es_feed.specs.declared.feed_fault.FeedFault.{FeedFault}
+use Rattle.es_feed.specs.declared.feed_fault.NewMap.{NewMap}
+use Rattle.es_feed.specs.declared.found_pcr.FoundPcr.{FoundPcr}
+use Rattle.es_feed.specs.declared.origin.Origin.{Origin}
+use Rattle.es_feed.proofs.FedUnits.{base_first, base_fixed, fixed, origin_fixed, origin_first}
+use Rattle.es_feed.proofs.ListedStreams.{passed}
+
+-- 1. Nothing is told
+
+fault_head : (x : Bool) (all xs ys : Bool) → (x || all) ≡ false → (all ≡ false → (xs ≡ false) × (ys ≡ false)) → ((x || xs) ≡ false) × (ys ≡ false)
+fault_head true all xs ys none rest = absurd cc
+fault_head false all xs ys none rest = rest none
+
+pub fault_split : (xs ys : List Fed) → have_fault (xs ++ ys) ≡ false → (have_fault xs ≡ false) × (have_fault ys ≡ false)
+fault_split [] ys none = (refl, none)
+fault_split (x ∷ xs) ys none = fault_head (has_fault x) (have_fault (xs ++ ys)) (have_fault xs) (have_fault ys) none (λ e. fault_split xs ys e)
+
+-- 2. What a step does: nothing to a stream, or it gives a unit of one of them
+
+pub record Rests (feed next : FeedView) (fed : List Fed) : Type 0 where
+  pub streams : next.streams ≡ feed.streams
+  pub origin : next.origin ≡ feed.origin
+  pub earliest : next.earliest ≡ feed.earliest
+  pub none : (n : ℕ) → n < 255 → units_fed n fed ≡ []
+  pub silent : feed.origin ≡ no_origin → fed ≡ []
+
+-- w becomes whole of stream s at place j, which is t then, but for the last DTS
+pub record Gives (feed next : FeedView) (fed : List Fed) (j : ℕ) (s t : FedStreamView) (w : Option CarriedUnit) : Type 0 where
+  pub due : Due
+  pub due_is : due.earliest ≡ feed.earliest
+  pub at : slice_get feed.streams j ≡ Some s
+  pub number : t.number ≡ s.number
+  pub before : t.before ≡ s.before
+  pub pid : t.units.pid ≡ s.units.pid
+  pub streams : next.streams ≡ slice_set feed.streams j (stream_with due feed.origin t w)
+  pub origin : next.origin ≡ origin_after due feed.origin w
+  pub earliest : next.earliest ≡ feed.earliest
+  pub fed_is : fed ≡ option_to_list (fed_with due feed.origin s.number s.before w)
+
+-- 3. A finding
+
+not_told_map : (change : Option NewMap) (more : List Fed) → have_fault (option_to_list (map_fed change) ++ more) ≡ false → option_to_list (map_fed change) ≡ []
+unfolding map_fed has_fault
+not_told_map None more none = refl
+not_told_map (Some change) more none = absurd cc
+
+not_told : (number : ℕ) (fault : Option FeedFault) → have_fault (option_to_list (told_of number fault)) ≡ false → option_to_list (told_of number fault) ≡ []
+unfolding told_of has_fault
+not_told number None none = refl
+not_told number (Some fault) none = absurd cc
+
+fed_here : (feed : FeedView) (f : FindingView) (j : ℕ) (s : FedStreamView) → place_from f.pid 0 feed.streams ≡ Some j → slice_get feed.streams j ≡ Some s →
+    fed_one feed f ≡ option_to_list (map_fed (new_map f feed.maps)) ++ (option_to_list (fed_by (due_of feed) feed.origin s (whole_by s f)) ++ option_to_list (told_fed s f))
+unfolding fed_place fed_at
+fed_here feed f j s at is = rw (at, is) refl
+
+after_here : (feed : FeedView) (f : FindingView) (j : ℕ) (s : FedStreamView) → place_from f.pid 0 feed.streams ≡ Some j → slice_get feed.streams j ≡ Some s →
+    after_one feed f ≡ feed_with (watched feed f) j (after_found s f) (whole_by s f)
+unfolding after_place after_at
+after_here feed f j s at is = rw (at, is) refl
+
+pub finding_gives : (feed : FeedView) (f : FindingView) (j : ℕ) (s : FedStreamView) → place_from f.pid 0 feed.streams ≡ Some j → slice_get feed.streams j ≡ Some s →
+    have_fault (fed_one feed f) ≡ false → Gives feed (after_one feed f) (fed_one feed f) j s (after_found s f) (whole_by s f)
+finding_gives feed f j s at is none =
+    let change = option_to_list (map_fed (new_map f feed.maps)) in
+    let unit = option_to_list (fed_by (due_of feed) feed.origin s (whole_by s f)) in
+    let told = option_to_list (told_fed s f) in
+    let parts = fed_here feed f j s at is in
+    let clear : have_fault (change ++ (unit ++ told)) ≡ false = ap have_fault (sym parts) ∙ none in
+    let no_map : change ≡ [] = not_told_map (new_map f feed.maps) (unit ++ told) clear in
+    let kept = (fault_split unit told (fault_split change (unit ++ told) clear).1).1 in
+    let no_told : told ≡ [] = not_told s.number (told_by s f) kept in
+    let goes = after_here feed f j s at is in
+    record {
+      due = due_of feed;
+      due_is = refl;
+      at = is;
+      number = refl;
+      before = refl;
+      pid = refl;
+      streams = ap (λ (n : FeedView). n.streams) goes;
+      origin = ap (λ (n : FeedView). n.origin) goes;
+      earliest = ap (λ (n : FeedView). n.earliest) goes;
+      fed_is = parts ∙ ap (λ (xs : List Fed). xs ++ (unit ++ told)) no_map ∙ ap (λ (xs : List Fed). unit ++ xs) no_told ∙ append-nil unit;
+    }
+
+fed_nowhere : (feed : FeedView) (f : FindingView) → place_from f.pid 0 feed.streams ≡ None → fed_one feed f ≡ option_to_list (map_fed (new_map f feed.maps)) ++ []
+unfolding fed_place
+fed_nowhere feed f none = rw none refl
+
+after_nowhere : (feed : FeedView) (f : FindingView) → place_from f.pid 0 feed.streams ≡ None → after_one feed f ≡ watched feed f
+unfolding after_place
+after_nowhere feed f none = rw none refl
+
+pub finding_rests : (feed : FeedView) (f : FindingView) → place_from f.pid 0 feed.streams ≡ None → have_fault (fed_one feed f) ≡ false → Rests feed (after_one feed f) (fed_one feed f)
+finding_rests feed f nowhere none =
+    let told = option_to_list (map_fed (new_map f feed.maps)) in
+    let parts = fed_nowhere feed f nowhere in
+    let empty : fed_one feed f ≡ [] = parts ∙ append-nil told ∙ not_told_map (new_map f feed.maps) [] (ap have_fault (sym parts) ∙ none) in
+    let goes = after_nowhere feed f nowhere in
+    record {
+      streams = ap (λ (n : FeedView). n.streams) goes;
+      origin = ap (λ (n : FeedView). n.origin) goes;
+      earliest = ap (λ (n : FeedView). n.earliest) goes;
+      none = λ n below. ap (λ (xs : List Fed). units_fed n xs) empty;
+      silent = λ e. empty;
+    }
+
+-- 4. A clock reference
+
+-- a step that leaves the streams, or ends a unit under way
+unfoldable pub Out : FeedView → FeedView → List Fed → Type 0
+Out feed next fed = Rests feed next fed ⊎ ((j : ℕ) × (s : FedStreamView) × Gives feed next fed j s (without_unit s) (ended_unit false s.units.unit))
+
+no_stream : (n : ℕ) → n < 255 → (255 == n) ≡ false
+no_stream n below = grind (arith, nat_tests)
+
+tick_rests : (g : FeedView) (late : ℕ) (is : Bool) → (g.origin ≡ no_origin → ⊥) → is_tick (greatest_of g) late ≡ is → Rests g (after_tick g late) (fed_tick g late)
+unfolding fed_if
+tick_rests g late true known is = record {
+  streams = rw is refl;
+  origin = rw is refl;
+  earliest = rw is refl;
+  none = λ n below. rw is (rw (no_stream n below) refl);
+  silent = λ e. absurd (known e);
+}
+tick_rests g late false known is = record {
+  streams = rw is refl;
+  origin = rw is refl;
+  earliest = rw is refl;
+  none = λ n below. rw is refl;
+  silent = λ e. absurd (known e);
+}
+
+end_gives : (g : FeedView) (j : ℕ) (s : FedStreamView) → slice_get g.streams j ≡ Some s → Gives g (after_end g j) (fed_end g j) j s (without_unit s) (ended_unit false s.units.unit)
+unfolding after_end_at fed_end_at
+end_gives g j s is = record {
+  due = due_of g;
+  due_is = refl;
+  at = is;
+  number = refl;
+  before = refl;
+  pid = refl;
+  streams = rw is refl;
+  origin = rw is refl;
+  earliest = rw is refl;
+  fed_is = rw is refl;
+}
+
+passed_out : (g : FeedView) (late : ℕ) (place : Option ℕ) → (g.origin ≡ no_origin → ⊥) → passed_from g.origin late 0 g.streams ≡ place →
+    Out g (after_passed g late place) (fed_passed g late place)
+unfolding Out after_passed fed_passed
+passed_out g late None known is = inl (tick_rests g late (is_tick (greatest_of g) late) known refl)
+passed_out g late (Some j) known is =
+    let s = passed g.origin late j g.streams is in
+    inr (j, s.0, end_gives g j s.0 s.1)
+
+late_out : (g : FeedView) (late : Option ℕ) → (g.origin ≡ no_origin → late ≡ None) → Out g (after_late g late) (fed_late g late)
+unfolding Out after_late fed_late
+late_out g None unknown = inl (record { streams = refl; origin = refl; earliest = refl; none = λ n below. refl; silent = λ e. refl })
+late_out g (Some late) unknown = passed_out g late (passed_from g.origin late 0 g.streams) (λ e. let no = unknown e in absurd cc) refl
+
+late_unknown : (g : FeedView) (shown : ℕ) → g.origin ≡ no_origin → late_in g shown ≡ None
+unfolding late_of
+late_unknown g shown e = rw e refl
+
+same_rests : (feed g next : FeedView) (fed told : List Fed) → g.streams ≡ feed.streams → g.origin ≡ feed.origin → g.earliest ≡ feed.earliest → told ≡ fed →
+    Rests g next fed → Rests feed next told
+same_rests feed g next fed told streams origin earliest is r = record {
+  streams = r.streams ∙ streams;
+  origin = r.origin ∙ origin;
+  earliest = r.earliest ∙ earliest;
+  none = λ n below. ap (λ (xs : List Fed). units_fed n xs) is ∙ r.none n below;
+  silent = λ e. is ∙ r.silent (origin ∙ e);
+}
+
+same_gives : (feed g next : FeedView) (fed told : List Fed) (j : ℕ) (s t : FedStreamView) (w : Option CarriedUnit) →
+    g.streams ≡ feed.streams → g.origin ≡ feed.origin → g.earliest ≡ feed.earliest → told ≡ fed → Gives g next fed j s t w → Gives feed next told j s t w
+same_gives feed g next fed told j s t w streams origin earliest is r = record {
+  due = r.due;
+  due_is = r.due_is ∙ earliest;
+  at = ap (λ (ss : List FedStreamView). slice_get ss j) (sym streams) ∙ r.at;
+  number = r.number;
+  before = r.before;
+  pid = r.pid;
+  streams = r.streams ∙ ap (λ (ss : List FedStreamView). slice_set ss j (stream_with r.due g.origin t w)) streams
+      ∙ ap (λ (o : Origin). slice_set feed.streams j (stream_with r.due o t w)) origin;
+  origin = r.origin ∙ ap (λ (o : Origin). origin_after r.due o w) origin;
+  earliest = r.earliest ∙ earliest;
+  fed_is = is ∙ r.fed_is ∙ ap (λ (o : Origin). option_to_list (fed_with r.due o s.number s.before w)) origin;
+}
+
+same_out : (feed g next : FeedView) (fed told : List Fed) → g.streams ≡ feed.streams → g.origin ≡ feed.origin → g.earliest ≡ feed.earliest → told ≡ fed →
+    Out g next fed → Out feed next told
+unfolding Out
+same_out feed g next fed told streams origin earliest is (inl r) = inl (same_rests feed g next fed told streams origin earliest is r)
+same_out feed g next fed told streams origin earliest is (inr r) =
+    inr (r.0, r.1, same_gives feed g next fed told r.0 r.1 (without_unit r.1) (ended_unit false r.1.units.unit) streams origin earliest is r.2)
+
+-- a jump is told
+jump_if : (pcr : FoundPcr) (before : ℕ) (a b : Bool) (jump : ClockJump) → have_fault (option_to_list (jump_fed (if a || b then Some jump else None))) ≡ false → (b ≡ false) × ((a || b) ≡ false)
+unfolding jump_fed has_fault
+jump_if pcr before true b jump none = absurd cc
+jump_if pcr before false true jump none = absurd cc
+jump_if pcr before false false jump none = (refl, refl)
+
+no_jump : (shown : Option ℕ) (pcr : FoundPcr) → have_fault (option_to_list (jump_fed (jump_of shown pcr))) ≡ false →
+    (jumps shown pcr.base ≡ false) × (option_to_list (jump_fed (jump_of shown pcr)) ≡ [])
+unfolding jump_of jumps jump_fed
+no_jump None pcr none = (refl, refl)
+no_jump (Some before) pcr none =
+    let far = nat_lt 900_000 (distance before pcr.base) in
+    let two = jump_if pcr before pcr.discontinuity far (record { pid = pcr.pid; packet = pcr.packet; before = before; after = pcr.base }) none in
+    (two.0, rw two.1 refl)
+
+shown_out : (feed : FeedView) (pcr : FoundPcr) → have_fault (fed_shown feed pcr) ≡ false → Out feed (after_shown feed pcr) (fed_shown feed pcr)
+shown_out feed pcr none =
+    let g = with_shown feed pcr in
+    let late = late_in g pcr.base in
+    let jump = option_to_list (jump_fed (jump_of feed.shown pcr)) in
+    let stays = no_jump feed.shown pcr (fault_split jump (fed_late g late) none).0 in
+    same_out feed g (after_late g late) (fed_late g late) (fed_shown feed pcr) refl (rw stays.0 refl) refl (ap (λ (xs : List Fed). xs ++ fed_late g late) stays.1)
+    (late_out g late (late_unknown g pcr.base))
+
+own_out : (feed : FeedView) (pcr : FoundPcr) (on : Bool) → have_fault (if on then fed_shown feed pcr else []) ≡ false →
+    Out feed (if on then after_shown feed pcr else feed) (if on then fed_shown feed pcr else [])
+unfolding Out
+own_out feed pcr true none = shown_out feed pcr none
+own_out feed pcr false none = inl (record { streams = refl; origin = refl; earliest = refl; none = λ n below. refl; silent = λ e. refl })
+
+pub clock_out : (feed : FeedView) (pcr : FoundPcr) → have_fault (fed_own feed pcr) ≡ false → Out feed (after_own feed pcr) (fed_own feed pcr)
+clock_out feed pcr none = own_out feed pcr (is_on pcr.pid (clock_pid feed.maps)) none
+
+-- 5. The unit that is given, at its moment
+
+ok_ahead : (n : ℕ) (ahead : Option ℕ) (u : AccessUnit) → has_fault (n, unless_ahead ahead u) ≡ false → unless_ahead ahead u ≡ Ok u
+unfolding unless_ahead has_fault
+ok_ahead n None u none = refl
+ok_ahead n (Some by) u none = absurd cc
+
+ok_unless : (n : ℕ) (greatest : Option ℕ) (fault : Option StampFault) (u : AccessUnit) → has_fault (n, unless_fault greatest fault u) ≡ false → unless_fault greatest fault u ≡ Ok u
+unfolding unless_fault has_fault
+ok_unless n greatest None u none = ok_ahead n (ahead_of greatest u.dts) u none
+ok_unless n greatest (Some fault) u none = absurd cc
+
+ok_moment : (n : ℕ) (greatest : Option ℕ) (base : ℕ) (before : Option ℕ) (u : AccessUnit) → has_fault (n, at_moment greatest base before u) ≡ false →
+    at_moment greatest base before u ≡ Ok (unit_at base before u)
+ok_moment n greatest base before u none = ok_unless n greatest (unit_fault base before u) (unit_at base before u) none
+
+-- the constant of a unit, if there is one; and that it is fixed after it
+abbrev pub HasBase : Due → Origin → Option CarriedUnit → ℕ → Type 0
+HasBase d o w base = (u : CarriedUnit) → w ≡ Some u → base_of d o u ≡ base
+
+pub record Fixes (d : Due) (o : Origin) (w : Option CarriedUnit) (base : ℕ) : Type 0 where
+  pub here : HasBase d o w base
+  pub then_fixed : origin_after d o w ≡ fixed base
+
+unfoldable pub units_in : Option CarriedUnit → List AccessUnit
+units_in w = map (λ (w : CarriedUnit). w.unit) (option_to_list w)
+
+if_first : (a b : Bool) → (a || b) ≡ false → a ≡ false
+if_first true b e = absurd cc
+if_first false b e = refl
+
+pub own_number : (n : ℕ) → (n == n) ≡ true
+own_number n = grind (arith, nat_tests)
+
+pub own_unit : (n : ℕ) (u : AccessUnit) → (if n == n then u ∷ [] else []) ≡ u ∷ []
+own_unit n u = rw (own_number n) refl
+
+number_by : (n m : ℕ) → m ≢ n → ((eqb n m ≡ true) × (n ≡ m)) ⊎ ((eqb n m ≡ false) × (n ≢ m)) → (n == m) ≡ false
+number_by n m other (inl same) = absurd (other (sym same.1))
+number_by n m other (inr apart) = apart.0
+
+other_number : (n m : ℕ) → m ≢ n → (n == m) ≡ false
+other_number n m other = number_by n m other (eqb_tells n m)
+
+pub given_ok : (d : Due) (o : Origin) (n base : ℕ) (before : Option ℕ) (u : CarriedUnit) (more : List Fed) → base_of d o u ≡ base → have_fault ((n, at_moment d.greatest (base_of d o u) before u.unit) ∷ more) ≡ false →
+    at_moment d.greatest (base_of d o u) before u.unit ≡ Ok (unit_at base before u.unit)
+given_ok d o n base before u more b none =
+    ok_moment n d.greatest (base_of d o u) before u.unit (if_first (has_fault (n, at_moment d.greatest (base_of d o u) before u.unit)) (have_fault more) none)
+    ∙ ap (λ (b : ℕ). Ok (unit_at b before u.unit)) b
+
+pub given_units : (d : Due) (o : Origin) (n base : ℕ) (before : Option ℕ) (w : Option CarriedUnit) → HasBase d o w base → have_fault (option_to_list (fed_with d o n before w)) ≡ false →
+    units_fed n (option_to_list (fed_with d o n before w)) ≡ moved base before (units_in w)
+unfolding fed_with fed_if moved units_in
+given_units d o n base before None here none = refl
+given_units d o n base before (Some u) here none =
+    ap (λ (r : Result AccessUnit FeedFault). fed_if n (n, r) ++ []) (given_ok d o n base before u [] (here u refl) none)
+    ∙ ap (λ (own : Bool). (if own then unit_at base before u.unit ∷ [] else []) ++ []) (own_number n)
+
+pub given_before : (d : Due) (o : Origin) (n base : ℕ) (before : Option ℕ) (w : Option CarriedUnit) → HasBase d o w base → have_fault (option_to_list (fed_with d o n before w)) ≡ false →
+    before_with d o before w ≡ dts_after base before (units_in w)
+unfolding fed_with before_with last_dts dts_after unit_at units_in
+given_before d o n base before None here none = refl
+given_before d o n base before (Some u) here none = ap (λ (r : Result AccessUnit FeedFault). last_dts before r) (given_ok d o n base before u [] (here u refl) none)
+
+pub others_if : (m n : ℕ) (r : Result AccessUnit FeedFault) → m ≢ n → fed_if m (n, r) ≡ []
+unfolding fed_if
+others_if m n (Ok u) other = rw (other_number n m other) refl
+others_if m n (Err fault) other = refl
+
+pub given_others : (d : Due) (o : Origin) (n m : ℕ) (before : Option ℕ) (w : Option CarriedUnit) → m ≢ n → units_fed m (option_to_list (fed_with d o n before w)) ≡ []
+unfolding fed_with
+given_others d o n m before None other = refl
+given_others d o n m before (Some u) other = append-nil (fed_if m (n, at_moment d.greatest (base_of d o u) before u.unit)) ∙ others_if m n (at_moment d.greatest (base_of d o u) before u.unit) other
+
+base_then : (d : Due) (base : ℕ) (u : CarriedUnit) → base_of d (fixed base) u ≡ base
+unfolding base_by
+base_then d base u = rw (base_fixed base u.packet) refl
+
+fixed_after : (d : Due) (base : ℕ) (w : Option CarriedUnit) → origin_after d (fixed base) w ≡ fixed base
+unfolding origin_after
+fixed_after d base None = refl
+fixed_after d base (Some u) = ap (λ (b : ℕ). origin_with (fixed base) u.packet b) (base_then d base u) ∙ origin_fixed base u.packet
+
+pub fixes_fixed : (d : Due) (o : Origin) (w : Option CarriedUnit) (base : ℕ) → o ≡ fixed base → Fixes d o w base
+fixes_fixed d o w base is = record {
+  here = λ u e. ap (λ (o : Origin). base_of d o u) is ∙ base_then d base u;
+  then_fixed = ap (λ (o : Origin). origin_after d o w) is ∙ fixed_after d base w;
+}
+
+base_at_no : (d : Due) (u : CarriedUnit) → base_of d no_origin u ≡ distance d.earliest u.unit.dts
+unfolding base_by
+base_at_no d u = rw (base_first u.packet) refl
+
+origin_then : (d : Due) (u : CarriedUnit) → origin_after d no_origin (Some u) ≡ fixed (distance d.earliest u.unit.dts)
+unfolding origin_after
+origin_then d u = ap (λ (b : ℕ). origin_with no_origin u.packet b) (base_at_no d u) ∙ origin_first (distance d.earliest u.unit.dts) u.packet
+
+pub fixes_first : (d : Due) (o : Origin) (u : CarriedUnit) → o ≡ no_origin → Fixes d o (Some u) (distance d.earliest u.unit.dts)
+fixes_first d o u is = record {
+  here = λ v e. ap (λ (o : Origin). base_of d o v) is ∙ base_at_no d v ∙ ap (λ (x : CarriedUnit). distance d.earliest x.unit.dts) (let same : v ≡ u = cc in same);
+  then_fixed = ap (λ (o : Origin). origin_after d o (Some u)) is ∙ origin_then d u;
+}

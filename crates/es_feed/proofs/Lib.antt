@@ -1,0 +1,17 @@
+pub mod UncutUnits
+pub mod FedUnits
+pub mod ListedStreams
+pub mod OwnUnits
+pub mod FedSteps
+pub mod FedEach
+pub mod FedFirst
+pub mod FedRises
+pub mod EachStream
+pub mod MovedApart
+pub mod FedMaps
+pub mod FedPackets
+pub mod PlainPackets
+pub mod FedStreams
+pub mod FedTicks
+pub mod PendingOutput
+pub mod PassedStreams

@@ -1,0 +1,5 @@
+use Rattle.es_feed.proofs.FedUnits.{as_carried}
+use Rattle.es_feed.proofs.laws.fed_as_carried.Goals as goal
+
+pub returns : goal.returns
+returns c = as_carried

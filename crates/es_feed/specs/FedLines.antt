@@ -1,0 +1,79 @@
+-- What goes out of what a stream feeds: the records of its units and of ticks, and a line for each unit that has no moment, each loss of
+-- packets, whatever else cuts units, each new map and each jump of the clock.
+use Rattle.std.specs.Prelude.{ℕ, List, [], ◌∷◌, Ok, Err, codes, slice_get, unwrap_or}
+use Rattle.std.specs.List.{flat_map}
+use Rattle.unit_records.specs.Records.{record_bytes}
+use Rattle.es_units.specs.declared.stamps.StampFault.{StampFault}
+use Rattle.es_units.specs.declared.stamps.StampFault.TheVariants.{DtsNotIncreasing, PtsOutOfRange, DtsTooFar}
+pub use Rattle.es_feed.specs.EachStream.{has_fault, have_fault}
+use Rattle.es_feed.specs.Feeding.{Fed}
+use Rattle.es_feed.specs.declared.feed_fault.FeedFault.{FeedFault}
+use Rattle.es_feed.specs.declared.feed_fault.ClockJump.{ClockJump}
+use Rattle.es_feed.specs.declared.feed_fault.FeedFault.TheVariants.{Stamp, Ahead, Lost, Cut, Map, Clock}
+use Rattle.es_feed.specs.declared.feed_fault.CutCause.{CutCause}
+use Rattle.es_feed.specs.declared.feed_fault.CutCause.TheVariants.{Scrambled, Truncated, Section, BadPes, NoPts}
+use Rattle.es_feed.specs.declared.feed_fault.CutUnits.{CutUnits}
+use Rattle.es_feed.specs.declared.feed_fault.Loss.{Loss}
+use Rattle.es_feed.specs.declared.feed_fault.NewMap.{NewMap}
+use Rattle.devices.specs.Lines.{line_text}
+
+-- the record of a unit with the number of its stream
+unfoldable pub fed_record : Fed → List ℕ
+fed_record (n, Ok u) = record_bytes n u
+fed_record (n, Err fault) = []
+
+abbrev pub fed_records : List Fed → List ℕ
+fed_records fed = flat_map fed_record fed
+
+-- why a unit of a PID has no moment, and by how much, in units of 90 kHz
+unfoldable pub stamp_line : ℕ → StampFault → List ℕ
+stamp_line pid (DtsNotIncreasing by) = line_text (codes "dts-falls") (pid ∷ by ∷ [])
+stamp_line pid (PtsOutOfRange by) = line_text (codes "pts-range") (pid ∷ by ∷ [])
+stamp_line pid DtsTooFar = line_text (codes "dts-far") (pid ∷ [])
+
+-- packets of a PID are lost before a packet, whose counter is another than the one that was to come
+abbrev pub loss_line : ℕ → Loss → List ℕ
+loss_line pid loss = line_text (codes "lost") (pid ∷ loss.packet ∷ loss.expected ∷ loss.found ∷ [])
+
+-- what cuts the units of a PID, with the packet of its first byte
+unfoldable pub cut_name : CutCause → List ℕ
+cut_name Scrambled = codes "scrambled"
+cut_name Truncated = codes "truncated"
+cut_name Section = codes "section"
+cut_name BadPes = codes "bad-pes"
+cut_name NoPts = codes "no-pts"
+
+abbrev pub cut_line : ℕ → CutUnits → List ℕ
+cut_line pid cut = line_text (cut_name cut.cause) (pid ∷ cut.packet ∷ [])
+
+-- the map of a program that is whole at a packet is of another version than the one before it
+abbrev pub map_line : NewMap → List ℕ
+map_line map = line_text (codes "map") (map.program ∷ map.packet ∷ map.before ∷ map.version ∷ [])
+
+-- a unit of a PID is due so long after the greatest DTS so far
+abbrev pub ahead_line : ℕ → ℕ → List ℕ
+ahead_line pid by = line_text (codes "dts-ahead") (pid ∷ by ∷ [])
+
+-- the clock shows something else at a packet of a PID than what goes on from what it showed before
+abbrev pub clock_line : ClockJump → List ℕ
+clock_line jump = line_text (codes "clock") (jump.pid ∷ jump.packet ∷ jump.before ∷ jump.after ∷ [])
+
+unfoldable pub fault_line : ℕ → FeedFault → List ℕ
+fault_line pid (Stamp fault) = stamp_line pid fault
+fault_line pid (Ahead by) = ahead_line pid by
+fault_line pid (Lost loss) = loss_line pid loss
+fault_line pid (Cut cut) = cut_line pid cut
+fault_line pid (Map map) = map_line map
+fault_line pid (Clock jump) = clock_line jump
+
+-- the PID of the stream of a number
+abbrev pub pid_at : List ℕ → ℕ → ℕ
+pid_at pids n = unwrap_or (slice_get pids n) 0
+
+-- a line where it is no unit at its moment
+unfoldable pub lines_of : List ℕ → Fed → List (List ℕ)
+lines_of pids (n, Ok u) = []
+lines_of pids (n, Err fault) = fault_line (pid_at pids n) fault ∷ []
+
+abbrev pub fed_lines : List ℕ → List Fed → List (List ℕ)
+fed_lines pids fed = flat_map (lines_of pids) fed

@@ -1,0 +1,12 @@
+pub mod Clocks
+pub mod EachStream
+pub mod Feeding
+pub mod Laws
+pub mod Maps
+pub mod MovedApart
+pub mod Origins
+pub mod StreamFeeding
+pub mod Ticks
+pub mod Records
+pub mod FedLines
+pub mod Passing

@@ -1,0 +1,91 @@
+-- The maps of a description's programs while a stream comes: where one is of another version than the one before it
+-- (ISO/IEC 13818-1, 2.4.4.8 and 2.4.4.9: version_number goes up by one when what the table says changes), and on which PID the
+-- clock references come.
+use Rattle.std.specs.Prelude.{ℕ, ◌+◌, ◌==◌, Bool, false, if◌then◌else◌, Option, Some, None, is_some, option_map, List, [], ◌∷◌, slice_get, slice_set}
+use Rattle.psi_tables.specs.ProgramMap.{PmtView}
+use Rattle.demux.specs.Views.{FindingView}
+use Rattle.demux.specs.declared.finding.Kind.{Kind}
+use Rattle.demux.specs.declared.finding.Kind.TheVariants as kinds
+use Rattle.stream_programs.specs.ProgramMaps.{program_map}
+use Rattle.es_feed.specs.declared.fed_map.FedMap.{FedMap}
+use Rattle.es_feed.specs.declared.fed_map.CurrentMap.{CurrentMap}
+use Rattle.es_feed.specs.declared.feed_fault.NewMap.{NewMap}
+
+-- 1. One map
+
+abbrev pub MapView : Type 0
+MapView = FedMap
+
+-- what is kept of a program map table that is in force
+abbrev pub current_of : PmtView → CurrentMap
+current_of pmt = record { version = pmt.header.version_number; pcr_pid = pmt.pcr_pid }
+
+-- a section begins as one of a program map table: its table_id is 2
+unfoldable pub is_map : Option (ℕ × Kind) → Bool
+is_map None = false
+is_map (Some (packet, kinds.Table id)) = id == 2
+is_map (Some (packet, kinds.Pes stamped access)) = false
+
+-- the map of a program that a finding has, by program_number: on whatever PID
+unfoldable pub current_on : ℕ → FindingView → Option ℕ → Option CurrentMap
+current_on number f None = None
+current_on number f (Some pid) = option_map current_of (program_map (record { program_number = number; pid = pid }) (f ∷ []))
+
+unfoldable pub current_found : ℕ → FindingView → Option CurrentMap
+current_found number f = if is_map f.begun then current_on number f f.pid else None
+
+-- after this map, if there is one
+unfoldable pub map_with : FedMap → Option CurrentMap → FedMap
+map_with m None = m
+map_with m (Some current) = record m { current = Some current }
+
+-- a version that is not the one before it, at a packet; the first one changes nothing
+unfoldable pub change_from : ℕ → ℕ → ℕ → Option CurrentMap → Option NewMap
+change_from number packet version None = None
+change_from number packet version (Some before) =
+    if before.version == version then None else Some (record { program = number; packet = packet; before = before.version; version = version })
+
+unfoldable pub map_change : FedMap → ℕ → Option CurrentMap → Option NewMap
+map_change m packet None = None
+map_change m packet (Some current) = change_from m.program_number packet current.version m.current
+
+-- 2. The first map that a finding has
+
+-- its number; the first of these has number k
+unfoldable pub map_from : FindingView → ℕ → List FedMap → Option ℕ
+map_from f k [] = None
+map_from f k (m ∷ ms) = if is_some (current_found m.program_number f) then Some k else map_from f (k + 1) ms
+
+unfoldable pub set_at : FindingView → ℕ → Option FedMap → List FedMap → List FedMap
+set_at f k None ms = ms
+set_at f k (Some m) ms = slice_set ms k (map_with m (current_found m.program_number f))
+
+unfoldable pub change_of : FindingView → Option FedMap → Option NewMap
+change_of f None = None
+change_of f (Some m) = map_change m f.packet (current_found m.program_number f)
+
+unfoldable pub set_place : FindingView → Option ℕ → List FedMap → List FedMap
+set_place f None ms = ms
+set_place f (Some k) ms = set_at f k (slice_get ms k) ms
+
+unfoldable pub change_place : FindingView → Option ℕ → List FedMap → Option NewMap
+change_place f None ms = None
+change_place f (Some k) ms = change_of f (slice_get ms k)
+
+-- the maps after a finding, and what it changes
+abbrev pub maps_after : FindingView → List FedMap → List FedMap
+maps_after f ms = set_place f (map_from f 0 ms) ms
+
+abbrev pub new_map : FindingView → List FedMap → Option NewMap
+new_map f ms = change_place f (map_from f 0 ms) ms
+
+-- 3. The clock
+
+-- the PID of the clock references of the first program, once its map has come (2.4.4.9: PCR_PID)
+unfoldable pub pcr_pid_of : Option CurrentMap → Option ℕ
+pcr_pid_of None = None
+pcr_pid_of (Some current) = Some current.pcr_pid
+
+unfoldable pub clock_pid : List FedMap → Option ℕ
+clock_pid [] = None
+clock_pid (m ∷ ms) = pcr_pid_of m.current

@@ -1,0 +1,38 @@
+-- Units that are fed while a stream comes, beside the same units moved by another constant, as those of a job of the whole stream are.
+use Rattle.std.specs.Prelude.{◌≡◌, ◌≤◌, ◌<◌, ℕ, ◌+◌, ◌^◌, true, false, None, Some, List, ◌∷◌, map, slice_get}
+use Rattle.pes_packet.specs.AccessUnits.{AccessUnit}
+use Rattle.demux.specs.Views.{FindingView}
+use Rattle.es_units.specs.CarriedUnits.{wire_units}
+use Rattle.es_units.specs.Stamps.{distance, moved}
+use Rattle.es_feed.specs.EachStream.{AreFirst, found_of_all, have_fault, one_by_one, units_fed}
+use Rattle.es_feed.specs.Feeding.{Fed, FedStreamView, feed_first}
+use Rattle.es_feed.specs.StreamFeeding.{fed_of}
+use Rattle.es_feed.specs.declared.fed_map.FedMap.{FedMap}
+
+-- a unit that is due so much later
+abbrev pub after_time : ℕ → AccessUnit → AccessUnit
+after_time time u = record { dts = u.dts + time; pts = u.pts + time; marks = u.marks; bytes = u.bytes }
+
+-- of units on the wire, on a clock that shows `base` at moment 0: the first of one stream is due no later than this after the first of another
+abbrev pub BeginNear : ℕ → ℕ → List AccessUnit → List AccessUnit → Type 0
+BeginNear base apart wire other =
+    (u v : AccessUnit) (us vs : List AccessUnit) → wire ≡ u ∷ us → other ≡ v ∷ vs → distance base u.dts ≤ distance base v.dts + apart
+
+-- each unit of each stream is one PES packet that nothing interrupts, and the streams begin within this of one another
+pub record AreWhole (base apart : ℕ) (streams : List FedStreamView) (findings : List FindingView) : Type 0 where
+  pub alone : (k : ℕ) (s : FedStreamView) → slice_get streams k ≡ Some s → one_by_one s.units.pid findings ≡ true
+  pub near : (j k : ℕ) (s t : FedStreamView) → slice_get streams j ≡ Some s → slice_get streams k ≡ Some t →
+      BeginNear base apart (wire_units s.units.pid findings) (wire_units t.units.pid findings)
+
+-- the units of each stream are those of its PID, moved by this constant, in the same order, and all stamps apart by one time: one of all streams
+pub record AreApart (base : ℕ) (streams : List FedStreamView) (findings : List FindingView) (fed : List Fed) : Type 0 where
+  pub here : ℕ
+  pub there : ℕ
+  pub are : (k : ℕ) (s : FedStreamView) → slice_get streams k ≡ Some s →
+      map (after_time here) (units_fed k fed) ≡ map (after_time there) (moved base None (wire_units s.units.pid findings))
+
+-- so it is where nothing is told, and the streams begin no further apart than the first unit of all is due after moment 0
+abbrev pub FedApart : Type 0
+FedApart = (earliest base : ℕ) (maps : List FedMap) (streams : List FedStreamView) (bytes : List ℕ) → earliest < 2 ^ 32 → AreFirst streams →
+    have_fault (fed_of (feed_first earliest maps streams) bytes) ≡ false → AreWhole base earliest streams (found_of_all bytes) →
+    AreApart base streams (found_of_all bytes) (fed_of (feed_first earliest maps streams) bytes)

@@ -1,0 +1,78 @@
+-- The units of a description's streams from the bytes of a stream, in pieces of any size.
+use Rattle.std.specs.Prelude.{◌≡◌, ◌<◌, ◌≤◌, ℕ, ◌+◌, ◌*◌, ◌++◌, Bool, true, false, List, [], All, drop, length, take}
+use Rattle.std.specs.List.{concat}
+use Rattle.ts_packet.specs.PidList.{cut_packets}
+use Rattle.demux.specs.Stream.{StreamState, start, pushed, finished, found_in, taken}
+use Rattle.demux.specs.FoundSoFar.{taken_all}
+use Rattle.packet_sync.specs.Slips.{carried}
+use Rattle.es_feed.specs.Feeding.{Fed, FeedView, fed_to_end}
+use Rattle.es_feed.specs.Clocks.{pcr_at}
+use Rattle.es_feed.specs.Ticks.{after_packet, after_packets, fed_packet, fed_packets}
+
+-- 1. Whole packets
+
+-- what is kept of packets: the demultiplexer, the feed
+pub record PacketFeedView : Type 0 where
+  pub demux : StreamState
+  pub feed : FeedView
+
+abbrev pub is_packet : List ℕ → Type 0
+is_packet packet = length packet ≡ 188
+
+-- a packet was taken: it is demultiplexed, and what is found in it is fed, and then its clock reference
+abbrev pub TakesPacket : PacketFeedView → PacketFeedView → List ℕ → List Fed → List Fed → Type 0
+TakesPacket old new bytes before after = (new.demux ≡ taken old.demux bytes)
+    × (new.feed ≡ after_packet old.feed (found_in old.demux bytes) (pcr_at old.demux.packets bytes))
+    × (after ≡ before ++ fed_packet old.feed (found_in old.demux bytes) (pcr_at old.demux.packets bytes))
+
+-- the whole packets at the front of these bytes were taken, which have n bytes
+pub record TakesPackets (old new : PacketFeedView) (bytes : List ℕ) (n : ℕ) (before after : List Fed) : Type 0 where
+  pub packets : List (List ℕ)
+  pub sizes : All is_packet packets
+  pub are : concat packets ≡ take n bytes
+  pub within : n ≤ length bytes
+  pub all : length bytes < n + 188
+  pub demux_is : new.demux ≡ taken_all old.demux packets
+  pub feed_is : new.feed ≡ after_packets old.demux old.feed packets
+  pub fed_is : after ≡ before ++ fed_packets old.demux old.feed packets
+
+-- what is fed where no more packets come, with these bytes of the next one
+abbrev pub fed_rest : StreamState → FeedView → List ℕ → List Fed
+fed_rest demux feed rest = fed_to_end feed (finished (pushed demux rest)).found
+
+-- 2. Bytes in pieces
+
+-- what is kept of a stream: the bytes of which it is not known yet whether they are carried, and what is kept of the packets before
+pub record StreamFeedView : Type 0 where
+  pub held : List ℕ
+  pub packets : PacketFeedView
+
+abbrev pub no_packets : FeedView → PacketFeedView
+no_packets feed = record { demux = start; feed = feed }
+
+abbrev pub at_first : FeedView → StreamFeedView
+at_first feed = record { held = []; packets = no_packets feed }
+
+-- after these bytes: the packets that are carried for certain were taken
+pub record IsFedBy (first : FeedView) (bytes : List ℕ) (ended : Bool) (s : StreamFeedView) (fed : List Fed) : Type 0 where
+  pub packets : List (List ℕ)
+  pub sizes : All is_packet packets
+  pub carries : (more : List ℕ) → (ended ≡ true → more ≡ []) → carried (bytes ++ more) ≡ concat packets ++ carried (s.held ++ more)
+  pub demux_is : s.packets.demux ≡ taken_all start packets
+  pub feed_is : s.packets.feed ≡ after_packets start first packets
+  pub fed_is : fed ≡ fed_packets start first packets
+
+-- all that is fed of a stream: of the packets of the bytes that stand in step, and of the end
+abbrev pub fed_in : FeedView → List (List ℕ) → List ℕ → List Fed
+fed_in first packets rest = fed_packets start first packets ++ fed_rest (taken_all start packets) (after_packets start first packets) rest
+
+abbrev pub after_cut : List ℕ → List ℕ
+after_cut bytes = drop (188 * length (cut_packets bytes)) bytes
+
+abbrev pub fed_of : FeedView → List ℕ → List Fed
+fed_of first bytes = fed_in first (cut_packets (carried bytes)) (after_cut (carried bytes))
+
+-- what is fed so far is a beginning of what is fed of the whole stream, however it goes on
+abbrev pub FedIsBeginning : Type 0
+FedIsBeginning = (first : FeedView) (bytes more : List ℕ) (s : StreamFeedView) (fed : List Fed) → IsFedBy first bytes false s fed →
+    (rest : List Fed) × (fed_of first (bytes ++ more) ≡ fed ++ rest)

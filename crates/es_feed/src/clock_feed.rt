@@ -1,0 +1,140 @@
+//! All streams of a description, clock reference by clock reference.
+
+ghost use Rattle.std.specs.Prelude.{◌≡◌, ◌<◌, ◌++◌, OnOk, length};
+ghost use Rattle.es_feed.specs.Ticks as spec;
+
+use crate::fed_map::clock_pid;
+use crate::fed_streams::{end_at, passed_place};
+use crate::feed_fault::{ClockJump, FeedFault};
+use crate::found_pcr::FoundPcr;
+use crate::late::late_of;
+use crate::unit_feed::{NO_STREAM, UnitFeed, push_fed};
+use pes_packet::{Marks, Unit};
+use std::alloc::{AllocError, Global};
+
+// The latest DTS of a unit.
+const LAST_DTS: u64 = 1 << 52;
+
+// What is told of a clock that jumps, if it does.
+#[tactic(auto, unfolding(crate::specs::Ticks::jump_fed))]
+fn told_jump(jump: Option<ClockJump>) -> Option<(u8, Result<Unit, FeedFault>)>
+    ensures { result ≡ spec.jump_fed jump }
+{
+    match jump {
+        None => None,
+        Some(jump) => Some((NO_STREAM, Err(FeedFault::Clock(jump)))),
+    }
+}
+
+// A tick.
+fn tick(alloc: &Global, moment: u64) -> (u8, Result<Unit, FeedFault>)
+    ensures { result ≡ spec.tick moment }
+{
+    let unit = Unit {
+        dts: moment,
+        pts: moment,
+        marks: Marks::NONE,
+        bytes: Vec::new(*alloc),
+    };
+    (NO_STREAM, Ok(unit))
+}
+
+impl UnitFeed {
+    // Feeds a tick, where time goes on by it.
+    fn tick(
+        &mut self,
+        alloc: &Global,
+        late: u64,
+        fed: &mut Vec<(u8, Result<Unit, FeedFault>)>,
+    ) -> Result<(), AllocError>
+        ensures feed { OnOk result (self.new ≡ spec.after_tick self.old late) }
+        ensures fed { OnOk result (fed.new.items ≡ fed.old.items ++ spec.fed_tick self.old late) }
+    {
+        if late <= self.greatest() || late > LAST_DTS {
+            return Ok(());
+        }
+        self.ticked = late;
+        fed.push(tick(alloc, late))?;
+        Ok(())
+    }
+
+    // Feeds the unit under way of the stream at a place.
+    fn end_at(
+        &mut self,
+        k: usize,
+        fed: &mut Vec<(u8, Result<Unit, FeedFault>)>,
+    ) -> Result<(), AllocError>
+        requires { k < length self.old.streams }
+        ensures feed { OnOk result (self.new ≡ spec.after_end self.old k) }
+        ensures fed { OnOk result (fed.new.items ≡ fed.old.items ++ spec.fed_end self.old k) }
+    {
+        let due = self.due();
+        let one = end_at(&mut self.streams, k, due, &mut self.origin);
+        push_fed(fed, one)?;
+        Ok(())
+    }
+
+    // Time goes on to a second behind the clock: the first unit under way that is due by then ends, or a tick is fed.
+    #[tactic(auto, unfolding(crate::specs::Ticks::after_passed, crate::specs::Ticks::fed_passed))]
+    fn go_on(
+        &mut self,
+        alloc: &Global,
+        late: u64,
+        fed: &mut Vec<(u8, Result<Unit, FeedFault>)>,
+    ) -> Result<(), AllocError>
+        ensures feed { OnOk result (self.new ≡ spec.after_moment self.old late) }
+        ensures fed { OnOk result (fed.new.items ≡ fed.old.items ++ spec.fed_moment self.old late) }
+    {
+        match passed_place(self.origin, late, &self.streams) {
+            None => self.tick(alloc, late, fed),
+            Some(k) => self.end_at(k, fed),
+        }
+    }
+
+    // The clock shows this.
+    fn show(&mut self, pcr: FoundPcr)
+        ensures { self.new ≡ spec.with_shown self.old pcr }
+    {
+        if pcr.is_jump(self.shown) {
+            let moment = self.greatest();
+            self.origin = self.origin.jumped(pcr.packet, moment, pcr.base);
+        }
+        self.shown = Some(pcr.base);
+    }
+
+    // Takes a reference of the clock.
+    #[tactic(auto, unfolding(crate::specs::Ticks::after_late, crate::specs::Ticks::fed_late))]
+    fn take_shown(
+        &mut self,
+        alloc: &Global,
+        pcr: FoundPcr,
+        fed: &mut Vec<(u8, Result<Unit, FeedFault>)>,
+    ) -> Result<(), AllocError>
+        ensures feed { OnOk result (self.new ≡ spec.after_shown self.old pcr) }
+        ensures fed { OnOk result (fed.new.items ≡ fed.old.items ++ spec.fed_shown self.old pcr) }
+    {
+        push_fed(fed, told_jump(pcr.jump(self.shown)))?;
+        self.show(pcr);
+        match late_of(self.origin.now, self.greatest(), pcr.base) {
+            None => Ok(()),
+            Some(late) => self.go_on(alloc, late, fed),
+        }
+    }
+
+    /// Takes a clock reference: that of another PID than the clock's does nothing. What it tells of the clock goes to `fed`,
+    /// and then a unit under way that is due a second before it, or a tick.
+    pub(crate) fn take_pcr(
+        &mut self,
+        alloc: &Global,
+        pcr: FoundPcr,
+        fed: &mut Vec<(u8, Result<Unit, FeedFault>)>,
+    ) -> Result<(), AllocError>
+        ensures feed { OnOk result (self.new ≡ spec.after_own self.old pcr) }
+        ensures fed { OnOk result (fed.new.items ≡ fed.old.items ++ spec.fed_own self.old pcr) }
+    {
+        if !pcr.is_on(clock_pid(&self.maps)) {
+            return Ok(());
+        }
+        self.take_shown(alloc, pcr, fed)
+    }
+}

@@ -1,0 +1,209 @@
+//! What a stream feeds: records on an output, and lines for units that have no moment, lost packets, what else cuts units, new
+//! maps and a clock that jumps.
+
+ghost use Rattle.std.specs.Prelude.{◌≡◌, ◌≤◌, ◌++◌, length};
+ghost use Rattle.devices.specs.Devices.{writes};
+ghost use Rattle.devices.specs.Lines.{Reports, Tells, WritesLine};
+ghost use Rattle.es_feed.specs.FedLines as spec;
+ghost use Rattle.es_feed.specs.Records.{Puts};
+
+use crate::feed_fault::{ClockJump, CutCause, CutUnits, FeedFault, Loss, NewMap};
+use crate::pending::PendingBytes;
+use crate::records::{flush, put_record};
+use counted_io::Sink;
+use devices::{Halt, report_line};
+use es_units::StampFault;
+use pes_packet::Unit;
+
+// Puts the record of a unit that is fed, where it has a moment.
+#[tactic(auto, unfolding(crate::specs::FedLines::fed_record))]
+fn put_fed<W: Sink>(
+    to: &mut W,
+    pending: &mut PendingBytes,
+    fed: &(u8, Result<Unit, FeedFault>),
+) -> Result<(), Halt>
+    ensures { Puts (writes W.Sink to.old to.new) (pending.old.items ++ spec.fed_record fed.now) pending.new.items result }
+{
+    match &fed.1 {
+        Ok(unit) => put_record(to, pending, fed.0, unit),
+        Err(_) => Ok(()),
+    }
+}
+
+// Puts the records of all that is fed.
+fn put_all_fed<W: Sink>(
+    to: &mut W,
+    pending: &mut PendingBytes,
+    fed: &[(u8, Result<Unit, FeedFault>)],
+) -> Result<(), Halt>
+    ensures { Puts (writes W.Sink to.old to.new) (pending.old.items ++ spec.fed_records fed.now) pending.new.items result }
+{
+    for one in fed {
+        match put_fed(to, pending, one) {
+            Ok(()) => {}
+            Err(halt) => return Err(halt),
+        }
+    }
+    Ok(())
+}
+
+/// Writes the records of all that is fed.
+pub(crate) fn write_fed<W: Sink>(
+    to: &mut W,
+    fed: &[(u8, Result<Unit, FeedFault>)],
+) -> Result<(), Halt>
+    ensures { WritesLine (spec.fed_records fed.now) (writes W.Sink to.old to.new) result }
+{
+    let mut pending = PendingBytes::new();
+    match put_all_fed(to, &mut pending, fed) {
+        Ok(()) => flush(to, &mut pending),
+        Err(halt) => Err(halt),
+    }
+}
+
+// The PID of the stream of a number.
+fn pid_at(pids: &[u16], number: u8) -> u16
+    ensures { result ≡ spec.pid_at pids.now number }
+{
+    match pids.get(number as usize) {
+        Some(pid) => *pid,
+        None => 0,
+    }
+}
+
+// Reports why a unit of a PID has no moment.
+#[tactic(auto, unfolding(crate::specs::FedLines::stamp_line))]
+fn report_stamp<E: Sink>(faults: &mut E, pid: u16, fault: StampFault)
+    ensures { Reports (writes E.Sink faults.old faults.new) (spec.stamp_line pid fault) }
+{
+    let pid = u128::from(pid);
+    match fault {
+        StampFault::DtsNotIncreasing(by) => report_line(
+            faults,
+            "dts-falls",
+            &[pid, u128::from(by)],
+        ),
+        StampFault::PtsOutOfRange(by) => report_line(faults, "pts-range", &[pid, u128::from(by)]),
+        StampFault::DtsTooFar => report_line(faults, "dts-far", &[pid]),
+    }
+}
+
+// Reports that packets of a PID are lost.
+fn report_loss<E: Sink>(faults: &mut E, pid: u16, loss: Loss)
+    ensures { Reports (writes E.Sink faults.old faults.new) (spec.loss_line pid loss) }
+{
+    let numbers = [
+        u128::from(pid),
+        u128::from(loss.packet),
+        u128::from(loss.expected),
+        u128::from(loss.found),
+    ];
+    report_line(faults, "lost", &numbers);
+}
+
+// The name of what cuts units.
+#[tactic(auto, unfolding(crate::specs::FedLines::cut_name))]
+fn cut_name(cause: CutCause) -> &'static str
+    ensures value { result.now ≡ spec.cut_name cause }
+    ensures bound { length result.now ≤ 40 }
+{
+    match cause {
+        CutCause::Scrambled => "scrambled",
+        CutCause::Truncated => "truncated",
+        CutCause::Section => "section",
+        CutCause::BadPes => "bad-pes",
+        CutCause::NoPts => "no-pts",
+    }
+}
+
+// Reports what cuts the units of a PID.
+fn report_cut<E: Sink>(faults: &mut E, pid: u16, cut: CutUnits)
+    ensures { Reports (writes E.Sink faults.old faults.new) (spec.cut_line pid cut) }
+{
+    let numbers = [u128::from(pid), u128::from(cut.packet)];
+    report_line(faults, cut_name(cut.cause), &numbers);
+}
+
+// Reports that a program's map is of another version than the one before it.
+fn report_map<E: Sink>(faults: &mut E, map: NewMap)
+    ensures { Reports (writes E.Sink faults.old faults.new) (spec.map_line map) }
+{
+    let numbers = [
+        u128::from(map.program),
+        u128::from(map.packet),
+        u128::from(map.before),
+        u128::from(map.version),
+    ];
+    report_line(faults, "map", &numbers);
+}
+
+// Reports that a unit of a PID is due so long after the greatest DTS so far.
+fn report_ahead<E: Sink>(faults: &mut E, pid: u16, by: u64)
+    ensures { Reports (writes E.Sink faults.old faults.new) (spec.ahead_line pid by) }
+{
+    report_line(faults, "dts-ahead", &[u128::from(pid), u128::from(by)]);
+}
+
+// Reports that the clock jumps.
+fn report_jump<E: Sink>(faults: &mut E, jump: ClockJump)
+    ensures { Reports (writes E.Sink faults.old faults.new) (spec.clock_line jump) }
+{
+    let numbers = [
+        u128::from(jump.pid),
+        u128::from(jump.packet),
+        u128::from(jump.before),
+        u128::from(jump.after),
+    ];
+    report_line(faults, "clock", &numbers);
+}
+
+// Reports what is told of the stream of a PID, of a map, or of the clock.
+#[tactic(auto, unfolding(crate::specs::FedLines::fault_line))]
+fn report_fault<E: Sink>(faults: &mut E, pid: u16, fault: FeedFault)
+    ensures { Reports (writes E.Sink faults.old faults.new) (spec.fault_line pid fault) }
+{
+    match fault {
+        FeedFault::Stamp(fault) => report_stamp(faults, pid, fault),
+        FeedFault::Ahead(by) => report_ahead(faults, pid, by),
+        FeedFault::Lost(loss) => report_loss(faults, pid, loss),
+        FeedFault::Cut(cut) => report_cut(faults, pid, cut),
+        FeedFault::Map(map) => report_map(faults, map),
+        FeedFault::Clock(jump) => report_jump(faults, jump),
+    }
+}
+
+// Reports what is fed where it is no unit at its moment, and returns whether it is none.
+#[tactic(auto, unfolding(crate::specs::EachStream::has_fault))]
+fn tell_one<E: Sink>(faults: &mut E, pids: &[u16], fed: &(u8, Result<Unit, FeedFault>)) -> bool
+    ensures tells { Tells (writes E.Sink faults.old faults.new).before (writes E.Sink faults.old faults.new).after
+        (spec.lines_of pids.now fed.now) }
+    ensures found { result ≡ spec.has_fault fed.now }
+{
+    match &fed.1 {
+        Ok(_) => false,
+        Err(fault) => {
+            report_fault(faults, pid_at(pids, fed.0), *fault);
+            true
+        }
+    }
+}
+
+/// Reports each unit that has no moment, each loss of packets, whatever else cuts units, each new map and each jump of the
+/// clock, and returns whether there is one.
+pub(crate) fn tell_faults<E: Sink>(
+    faults: &mut E,
+    pids: &[u16],
+    fed: &[(u8, Result<Unit, FeedFault>)],
+) -> bool
+    ensures tells { Tells (writes E.Sink faults.old faults.new).before (writes E.Sink faults.old faults.new).after
+        (spec.fed_lines pids.now fed.now) }
+    ensures found { result ≡ spec.have_fault fed.now }
+{
+    let mut found = false;
+    for one in fed {
+        if tell_one(faults, pids, one) {
+            found = true;
+        }
+    }
+    found
+}

@@ -1,0 +1,81 @@
+//! Reports on a stream in place of a unit.
+
+use es_units::StampFault;
+
+/// Packets of a PID that are lost.
+#[derive(Clone, Copy, PartialEq, Eq)]
+pub struct Loss {
+    /// The packet before which they are lost.
+    pub packet: u64,
+    /// The continuity_counter that was to come.
+    pub expected: u8,
+    /// The counter that the packet has.
+    pub found: u8,
+}
+
+/// Why the units of a PID do not go on to the start of the next one.
+#[derive(Clone, Copy, PartialEq, Eq)]
+pub enum CutCause {
+    /// A packet whose payload is scrambled.
+    Scrambled,
+    /// A PES packet or a section that is cut short.
+    Truncated,
+    /// A section, or what is none where one should stand.
+    Section,
+    /// A PES packet whose header is refused.
+    BadPes,
+    /// A PES packet without a PTS that goes on with no unit under way: that is of another stream_id, or has ended.
+    NoPts,
+}
+
+/// The units of a PID are cut: the current unit is left out, and so is everything before the next unit starts.
+#[derive(Clone, Copy, PartialEq, Eq)]
+pub struct CutUnits {
+    /// The packet of the first byte of what cuts them.
+    pub packet: u64,
+    /// What it is.
+    pub cause: CutCause,
+}
+
+/// A map of a program that is of another version than the one before it.
+#[derive(Clone, Copy, PartialEq, Eq)]
+pub struct NewMap {
+    /// program_number.
+    pub program: u16,
+    /// The packet at which it is whole.
+    pub packet: u64,
+    /// The version_number before.
+    pub before: u8,
+    /// The version that the new map has.
+    pub version: u8,
+}
+
+/// A clock reference that does not go on from the one before it on its program's clock.
+#[derive(Clone, Copy, PartialEq, Eq)]
+pub struct ClockJump {
+    /// Its PID.
+    pub pid: u16,
+    /// The packet that has it.
+    pub packet: u64,
+    /// What the clock showed before, in units of 90 kHz.
+    pub before: u64,
+    /// What it shows, in units of 90 kHz.
+    pub after: u64,
+}
+
+/// A report in place of a unit.
+#[derive(Clone, Copy, PartialEq, Eq)]
+pub enum FeedFault {
+    /// A unit can't have a moment.
+    Stamp(StampFault),
+    /// A unit is due this long after the greatest DTS so far, in units of 90 kHz, which is over 10 s.
+    Ahead(u64),
+    /// Packets of its PID are lost.
+    Lost(Loss),
+    /// Its units are cut by something else than lost packets.
+    Cut(CutUnits),
+    /// A program's map changes.
+    Map(NewMap),
+    /// The clock jumps.
+    Clock(ClockJump),
+}

@@ -1,0 +1,190 @@
+//! A stream, read as it comes; what it feeds goes out before the next read.
+
+ghost use Rattle.std.specs.Prelude.{◌≡◌, ◌<◌, ◌≤◌, ◌||◌, ℕ, List, [], false, length};
+ghost use Rattle.devices.specs.Devices.{reads, writes};
+ghost use Rattle.es_feed.specs.Feeding.{Fed, FeedView};
+ghost use Rattle.es_feed.specs.StreamFeeding.{IsFedBy, at_first};
+ghost use Rattle.es_feed.specs.Passing as spec;
+
+use crate::fed_records::{tell_faults, write_fed};
+use crate::feed_fault::FeedFault;
+use crate::stream_feed::StreamFeed;
+use crate::unit_feed::UnitFeed;
+use counted_io::{Sink, Source};
+use devices::{Halt, report_halt};
+use pes_packet::Unit;
+use std::alloc::Global;
+
+/// The most bytes of one read.
+const PIECE: usize = 1 << 16;
+
+// What is fed goes out: the records, and then a line for all else. Returns whether there is one.
+fn pass_fed<W: Sink, E: Sink>(
+    pids: &[u16],
+    fed: &[(u8, Result<Unit, FeedFault>)],
+    output: &mut W,
+    faults: &mut E,
+) -> Result<bool, Halt>
+    ensures { spec.GoesOut pids.now fed.now (writes W.Sink output.old output.new)
+        (writes E.Sink faults.old faults.new) result }
+{
+    match write_fed(output, fed) {
+        Ok(()) => Ok(tell_faults(faults, pids, fed)),
+        Err(halt) => Err(halt),
+    }
+}
+
+// What waits goes out, and nothing waits then. Returns whether a line was told.
+fn let_out<W: Sink, E: Sink>(
+    pids: &[u16],
+    fed: &mut Vec<(u8, Result<Unit, FeedFault>)>,
+    output: &mut W,
+    faults: &mut E,
+) -> Result<bool, Halt>
+    ensures goes { spec.GoesOut pids.now fed.old.items (writes W.Sink output.old output.new)
+        (writes E.Sink faults.old faults.new) result }
+    ensures out { fed.new.items ≡ [] }
+{
+    let result = pass_fed(pids, fed.as_slice(), output, faults);
+    fed.clear();
+    result
+}
+
+// Reads the next bytes of the input, and feeds them. All that was fed before is out. Returns whether there are any.
+fn feed_piece<R: Source>(
+    stream: &mut StreamFeed,
+    piece: &mut [u8],
+    input: &mut R,
+    fed: &mut Vec<(u8, Result<Unit, FeedFault>)>,
+) -> Result<bool, Halt>
+    requires some { 0 < length piece.old }
+    requires most { length piece.old ≤ spec.longest_piece }
+    // Nothing that was fed before waits to go out.
+    requires out { fed.old.items ≡ [] }
+    ensures { spec.FeedsPiece stream.old (reads R.Source input.old input.new) stream.new fed.new.items result }
+{
+    let n = match input.read_some(piece) {
+        Ok(0) => return Ok(false),
+        Ok(n) => n,
+        Err(_) => return Err(Halt::Read),
+    };
+    if stream.push(&piece[..n], fed).is_err() {
+        return Err(Halt::Memory);
+    }
+    Ok(true)
+}
+
+// Reads a stream to the end of the input; what each read feeds goes out before the next. Returns whether a line was told.
+fn pass_pieces<R: Source, W: Sink, E: Sink>(
+    alloc: Global,
+    pids: &[u16],
+    stream: &mut StreamFeed,
+    piece: &mut [u8],
+    input: &mut R,
+    output: &mut W,
+    faults: &mut E,
+) -> Result<bool, Halt>
+    requires some { 0 < length piece.old }
+    requires most { length piece.old ≤ spec.longest_piece }
+    ensures { (first : FeedView) → stream.old ≡ at_first first →
+        spec.PassesPieces first pids.now (reads R.Source input.old input.new) (writes W.Sink output.old output.new)
+        (writes E.Sink faults.old faults.new) result stream.new }
+{
+    let mut faulty = false;
+    let mut fed = Vec::new(alloc);
+    for _ in 0..u64::MAX {
+        let more = match feed_piece(stream, piece, input, &mut fed) {
+            Ok(more) => more,
+            Err(halt) => return Err(halt),
+        };
+        if !more {
+            return Ok(faulty);
+        }
+        let found = match let_out(pids, &mut fed, output, faults) {
+            Ok(found) => found,
+            Err(halt) => return Err(halt),
+        };
+        if found {
+            faulty = true;
+        }
+    }
+    Err(Halt::Read)
+}
+
+// The input has ended: what that feeds goes out. Returns whether a line was told.
+fn pass_last<W: Sink, E: Sink>(
+    alloc: Global,
+    pids: &[u16],
+    stream: StreamFeed,
+    output: &mut W,
+    faults: &mut E,
+) -> Result<bool, Halt>
+    ensures { (first : FeedView) (came : List ℕ) (before : List Fed) → IsFedBy first came false stream before →
+        spec.PassesLast first pids.now came before (writes W.Sink output.old output.new)
+        (writes E.Sink faults.old faults.new) result }
+{
+    let mut fed = Vec::new(alloc);
+    if stream.finish(&mut fed).is_err() {
+        return Err(Halt::Memory);
+    }
+    pass_fed(pids, &fed, output, faults)
+}
+
+// Whether one of two is so.
+fn either(early: bool, late: bool) -> bool
+    ensures { result ≡ (early || late) }
+{
+    early || late
+}
+
+// Reads a whole stream, and what it feeds goes out. Returns whether a line was told.
+fn pass_all<R: Source, W: Sink, E: Sink>(
+    alloc: Global,
+    feed: UnitFeed,
+    pids: &[u16],
+    input: &mut R,
+    output: &mut W,
+    faults: &mut E,
+) -> Result<bool, Halt>
+    ensures { spec.PassesOn feed pids.now (reads R.Source input.old input.new) (writes W.Sink output.old output.new)
+        (writes E.Sink faults.old faults.new) result }
+{
+    let Ok(mut piece) = vec![in alloc; 0u8; PIECE] else {
+        // By a call: at the end of a function the drop of each part would be a step of its proof.
+        drop(feed);
+        return Err(Halt::Memory);
+    };
+    let mut stream = StreamFeed::new(alloc, feed);
+    let early = match pass_pieces(alloc, pids, &mut stream, &mut piece, input, output, faults) {
+        Ok(early) => early,
+        Err(halt) => {
+            drop(stream);
+            return Err(halt);
+        }
+    };
+    match pass_last(alloc, pids, stream, output, faults) {
+        Ok(late) => Ok(either(early, late)),
+        Err(halt) => Err(halt),
+    }
+}
+
+/// Reads a stream as it arrives, writes the record of each unit and tick that it feeds before the next read, reports each unit
+/// that has no moment, each loss of packets, whatever else cuts units, each new map and each jump of the clock, and returns the
+/// status: 0 all went out, 1 any of these was reported, 3 a device failed or out of memory.
+pub fn pass_stream<R: Source, W: Sink, E: Sink>(
+    alloc: Global,
+    feed: UnitFeed,
+    pids: &[u16],
+    input: &mut R,
+    output: &mut W,
+    faults: &mut E,
+) -> u8
+    ensures { spec.RunsStream feed pids.now (reads R.Source input.old input.new) (writes W.Sink output.old output.new)
+        (writes E.Sink faults.old faults.new) result }
+{
+    match pass_all(alloc, feed, pids, input, output, faults) {
+        Ok(false) => 0,
+        Ok(true) => 1,
+        Err(halt) => report_halt(faults, halt),
+    }
+}

@@ -1,0 +1,10 @@
+use Rattle.std.proofs.Common.{◌∙◌, ap}
+use Rattle.es_units.specs.Declaration.{CountedPacketsView}
+use Rattle.es_units.proofs.PacketRows.{group_is}
+use Rattle.es_units.proofs.counted_packets.CountedPackets.of_group.Goals as goal
+
+pub returns : goal.returns
+returns g c = λ id base0 us is.
+    c.max.ensures
+    ∙ group_is id base0 c.args.group c.self.inside.largest c.greatest_row.result us c.deref.result.now c.args.self.now
+    (c.deref.ensures.value ∙ ap (λ (v : CountedPacketsView). v.numbers) c.self.view_is) (ap (λ (v : CountedPacketsView). v.largest) c.self.view_is) is c.greatest_row.ensures

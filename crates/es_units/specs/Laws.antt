@@ -1,0 +1,86 @@
+-- What the laws of this crate say.
+use Rattle.std.specs.Prelude.{◌≡◌, ◌≤◌, ◌<◌, ℕ, ◌+◌, ◌-◌, ◌^◌, ◌++◌, Bool, false, Option, None, List, [], ◌∷◌, length, map, flat_map, All}
+use Rattle.std.specs.List.{list_any}
+use Rattle.pes_packet.specs.AccessUnits.{AccessUnit}
+use Rattle.pes_packet.specs.Encoding.{on_wire}
+use Rattle.unit_timing.specs.Allowances.{allowance_rows}
+use Rattle.unit_queue.specs.OwnedStreams.{OwnedStream}
+use Rattle.unit_queue.specs.Causes.{unit_cause}
+use Rattle.unit_queue.specs.Queues.{Kept}
+use Rattle.es_units.specs.Stamps.{distance, dts_after, moved, first_fault, min_distance, constant_of}
+use Rattle.demux.specs.Views.{FindingView}
+use Rattle.demux.specs.Laws.{found_of}
+use Rattle.es_units.specs.CarriedUnits.{RoleView, Ignored, Start, Continuation, Interruption, role_of, carried_units}
+use Rattle.es_units.specs.Damage.{is_left_out}
+use Rattle.es_units.specs.UnitWarnings.{unit_warnings}
+use Rattle.es_units.specs.declared.unit_warning.UnitWarning.{UnitWarning}
+use Rattle.es_units.specs.Declaration.{min_interval, max_unit_size, AllowsUnits}
+
+-- the units of a PID are those of its findings alone
+abbrev pub FindingsOfThePid : Type 0
+FindingsOfThePid = (pid : ℕ) (findings : List FindingView) → carried_units pid (found_of pid findings) ≡ carried_units pid findings
+
+-- the bytes that a finding has for the units of a PID: those of a PES packet that is not padding_stream
+unfoldable pub body_of : RoleView → List ℕ
+body_of Ignored = []
+body_of (Start u) = u.unit.bytes
+body_of (Continuation id body) = body
+body_of (Interruption unstamped) = []
+
+abbrev pub bodies : ℕ → List FindingView → List ℕ
+bodies pid findings = flat_map (λ finding. body_of (role_of pid finding)) findings
+
+-- a warning that something is in no unit: not that a unit without bytes is left out, nor that the end of a unit is not known
+unfoldable pub leaves_out : UnitWarning → Bool
+leaves_out w = is_left_out w.cause
+
+-- where no warning leaves out anything, the bytes of the PES packets of a PID, joined, are those of its units, joined
+abbrev pub NothingIsLost : Type 0
+NothingIsLost = (pid count : ℕ) (findings : List FindingView) → list_any leaves_out (unit_warnings pid count findings) ≡ false →
+    bodies pid findings ≡ flat_map (λ u. u.unit.bytes) (carried_units pid findings)
+
+-- units moved after others are moved as one list with them: what comes later changes no moment
+abbrev pub MovedInTurn : Type 0
+MovedInTurn = (base : ℕ) (before : Option ℕ) (us more : List AccessUnit) →
+    moved base before (us ++ more) ≡ moved base before us ++ moved base (dts_after base before us) more
+
+-- the stamps on the wire are the moments with one constant, and the bytes are the same
+abbrev pub MovedByOneConstant : Type 0
+MovedByOneConstant = (base : ℕ) (before : Option ℕ) (us : List AccessUnit) →
+    (map (λ u. on_wire (u.dts + base)) (moved base before us) ≡ map (λ u. on_wire u.dts) us)
+    × (map (λ u. on_wire (u.pts + base)) (moved base before us) ≡ map (λ u. on_wire u.pts) us)
+    × (map (λ u. u.marks) (moved base before us) ≡ map (λ u. u.marks) us)
+    × (map (λ u. u.bytes) (moved base before us) ≡ map (λ u. u.bytes) us)
+
+-- the first DTS of the streams on a clock, counted from half the range before the first stream's
+abbrev pub after_half : ℕ → ℕ → ℕ
+after_half first stamp = distance (first + 2 ^ 32) stamp
+
+-- each comes as long after `earliest` as it is after the least of them, where that is below the range
+abbrev pub ConstantIsLeast : Type 0
+ConstantIsLeast = (earliest first : ℕ) (others : List ℕ) (stamp : ℕ) → earliest < 2 ^ 33 →
+    min_distance (first + 2 ^ 32) (2 ^ 32) others ≤ after_half first stamp →
+    after_half first stamp - min_distance (first + 2 ^ 32) (2 ^ 32) others + earliest < 2 ^ 33 →
+    distance (constant_of earliest first others) stamp ≡ after_half first stamp - min_distance (first + 2 ^ 32) (2 ^ 32) others + earliest
+
+-- the first unit is due no earlier than a moment
+unfoldable pub FirstDue : ℕ → List AccessUnit → Type 0
+FirstDue from [] = Unit {0}
+FirstDue from (u ∷ us) = from ≤ u.dts
+
+-- a stream declares at least what its units need
+pub record Declares (l : OwnedStream) (us : List AccessUnit) : Type 0 where
+  pub interval : l.parameters.interval ≤ min_interval us
+  pub size : max_unit_size us ≤ l.parameters.size
+  pub lead : FirstDue l.parameters.lead us
+  pub allowance : AllowsUnits l.parameters.allowance l.parameters.stream_id l.parameters.base0 us
+
+-- units that have bytes, and stamps that can be moments, keep what is declared of them
+abbrev pub UnitsAreKept : Type 0
+UnitsAreKept = (l : OwnedStream) (base : ℕ) (wire : List AccessUnit) → first_fault base None 0 wire ≡ None → All (λ u. 1 ≤ length u.bytes) wire →
+    Declares l (moved base None wire) → Kept l (moved base None wire)
+
+-- each of them is then taken after those before it while no slot is written, if there is room for one
+abbrev pub TakenOneByOne : Type 0
+TakenOneByOne = (l : OwnedStream) (capacity : ℕ) (us : List AccessUnit) (u : AccessUnit) (more : List AccessUnit) → 0 < allowance_rows l.parameters.allowance →
+    Kept l (us ++ u ∷ more) → length us < capacity → unit_cause l 0 capacity us u ≡ None

@@ -1,0 +1,16 @@
+pub mod Merging
+pub mod CarriedUnits
+pub mod Shown
+pub mod UnitWarnings
+pub mod Damage
+pub mod StreamIds
+pub mod Stamps
+pub mod StampErrors
+pub mod MadeDts
+pub mod DtsErrors
+pub mod Declaration
+pub mod UnitRuns
+pub mod Laws
+pub mod UnitSteps
+pub mod UnitMoments
+pub mod TakenUnits

@@ -1,0 +1,61 @@
+//! The units of a PID in the findings of a stream.
+
+ghost use Rattle.std.specs.Prelude.{◌≡◌, IfOk, map};
+ghost use Rattle.demux.specs.Shown.{finding_view};
+ghost use Rattle.es_units.specs.CarriedUnits as spec;
+ghost use Rattle.es_units.specs.UnitSteps as steps;
+
+use crate::pes_role::{is_on, role_of};
+use crate::split_units::{cuts_any, is_split};
+use crate::taken::push_unit;
+use crate::unit_taker::UnitTaker;
+use crate::wire_unit::FoundUnit;
+use demux::Finding;
+use std::alloc::{AllocError, Allocator};
+
+// The units of a PID, where its units may have several PES packets if `split`, and whether one of them is cut.
+fn units_by<'f, A: Allocator + Clone>(
+    alloc: A,
+    split: bool,
+    pid: u16,
+    findings: &'f [Finding<'_, A>],
+) -> Result<(Vec<FoundUnit<'f, A>, A>, bool), AllocError>
+    ensures units { IfOk result (λ found. found.0.items ≡ spec.units_in split pid (map finding_view findings.now)) }
+    ensures cut { IfOk result (λ found. found.1 ≡ steps.has_cut pid (map finding_view findings.now)) }
+{
+    let mut taker = UnitTaker::new(pid, split);
+    let mut units = Vec::new(alloc.clone()?);
+    let mut cut = false;
+    for finding in findings {
+        if !is_on(pid, finding) {
+            continue;
+        }
+        let role = role_of(pid, finding);
+        cut = cuts_any(cut, taker.stream_id(), role);
+        let unit = taker.take_role(&alloc, role)?;
+        push_unit(&mut units, unit)?;
+    }
+    push_unit(&mut units, taker.finish())?;
+    Ok((units, cut))
+}
+
+/// Returns the units of a PID in the findings of a stream: each PES packet with a PTS is a unit, with the bytes of the PES
+/// packets without a PTS and with its stream_id that follow it, if the PID has only padding_stream in between. A unit that
+/// lost a part is left out, and so is a unit without bytes.
+#[tactic(auto, using(crate::proofs::UnitSteps::uncut))]
+pub fn found_units<'f, A: Allocator + Clone>(
+    alloc: A,
+    pid: u16,
+    findings: &'f [Finding<'_, A>],
+) -> Result<Vec<FoundUnit<'f, A>, A>, AllocError>
+    ensures { IfOk result (λ units. units.items ≡ spec.carried_units pid (map finding_view findings.now)) }
+{
+    // Where none is cut, it is all the same whether units have several PES packets, and this is not asked.
+    let (units, cut) = units_by(alloc.clone()?, false, pid, findings)?;
+    if !cut || !is_split(pid, findings) {
+        return Ok(units);
+    }
+    drop(units);
+    let (units, _) = units_by(alloc, true, pid, findings)?;
+    Ok(units)
+}

@@ -1,0 +1,150 @@
+//! Units that span several PES packets.
+
+ghost use Rattle.std.specs.Prelude.{◌≡◌, ◌&&◌, ◌||◌, map, option_map};
+ghost use Rattle.demux.specs.Shown.{finding_view};
+ghost use Rattle.es_units.specs.CarriedUnits as spec;
+ghost use Rattle.es_units.specs.UnitSteps as steps;
+ghost use Rattle.es_units.specs.Shown.{role_view};
+
+use crate::pes_role::{PesRole, is_on, role_of};
+use demux::Finding;
+use std::alloc::Allocator;
+
+// The bytes that a finding has for a unit of this stream_id; none where it ends the unit.
+#[tactic(auto, unfolding(crate::specs::CarriedUnits::more_bytes))]
+fn more_bytes<'f>(id: u8, role: PesRole<'f>) -> Option<&'f [u8]>
+    ensures { option_map (λ bytes. bytes.now) result ≡ spec.more_bytes id (role_view role.entry) }
+{
+    match role {
+        PesRole::Ignored => Some(&[]),
+        PesRole::Start(_) => None,
+        PesRole::Continuation(other, body) => { if other == id { Some(body) } else { None } }
+        PesRole::Interruption(_) => None,
+    }
+}
+
+/// Returns the same of a finding that may be of another PID.
+#[tactic(auto, unfolding(crate::specs::CarriedUnits::more_bytes))]
+pub(crate) fn more_bytes_on<'f, A: Allocator>(
+    id: u8,
+    pid: u16,
+    finding: &'f Finding<'_, A>,
+) -> Option<&'f [u8]>
+    ensures { option_map (λ bytes. bytes.now) result
+        ≡ spec.more_bytes id (spec.role_of pid (finding_view finding.now)) }
+{
+    if !is_on(pid, finding) {
+        return Some(&[]);
+    }
+    more_bytes(id, role_of(pid, finding))
+}
+
+// The stream_id of a unit that starts.
+#[tactic(auto, unfolding(crate::specs::CarriedUnits::start_id))]
+fn start_id(role: PesRole<'_>) -> Option<u8>
+    ensures { result ≡ spec.start_id (role_view role.entry) }
+{
+    match role {
+        PesRole::Start(first) => Some(first.stream_id),
+        PesRole::Ignored => None,
+        PesRole::Continuation(_, _) => None,
+        PesRole::Interruption(_) => None,
+    }
+}
+
+// The stream_id of the first unit.
+fn first_id<A: Allocator>(pid: u16, findings: &[Finding<'_, A>]) -> Option<u8>
+    ensures { result ≡ spec.first_id pid (map finding_view findings.now) }
+{
+    for finding in findings {
+        if let Some(id) = start_id(role_of(pid, finding)) {
+            return Some(id);
+        }
+    }
+    None
+}
+
+// Whether it is a PES packet that goes on with a unit, whole or cut short.
+#[tactic(auto, unfolding(crate::specs::CarriedUnits::is_part))]
+fn is_part(first: Option<u8>, role: PesRole<'_>) -> bool
+    ensures { result ≡ spec.is_part first (role_view role.entry) }
+{
+    match role {
+        PesRole::Ignored => false,
+        PesRole::Start(_) => false,
+        PesRole::Continuation(other, _) => first == Some(other),
+        PesRole::Interruption(unstamped) => unstamped,
+    }
+}
+
+/// Returns whether units of a PID have several PES packets: then something that is lost after one may be a part of
+/// its unit.
+#[tactic(auto, unfolding(crate::specs::CarriedUnits::is_split, crate::specs::CarriedUnits::is_part))]
+pub(crate) fn is_split<A: Allocator>(pid: u16, findings: &[Finding<'_, A>]) -> bool
+    ensures { result ≡ spec.is_split pid (map finding_view findings.now) }
+{
+    let first = first_id(pid, findings);
+    for finding in findings {
+        if !is_on(pid, finding) {
+            continue;
+        }
+        if is_part(first, role_of(pid, finding)) {
+            return true;
+        }
+    }
+    false
+}
+
+// How a role ends a unit of this stream_id, if it does: whether by something else than the start of the next one.
+#[tactic(auto, unfolding(crate::specs::CarriedUnits::end_of))]
+fn end_of(id: u8, role: PesRole<'_>) -> Option<bool>
+    ensures { result ≡ spec.end_of id (role_view role.entry) }
+{
+    match role {
+        PesRole::Ignored => None,
+        PesRole::Start(_) => Some(false),
+        PesRole::Continuation(other, _) => { if other == id { None } else { Some(true) } }
+        PesRole::Interruption(_) => Some(true),
+    }
+}
+
+// Whether a role cuts the unit of this stream_id that is under way, if there is one.
+#[tactic(auto, unfolding(crate::specs::UnitSteps::cuts))]
+fn cuts(current: Option<u8>, role: PesRole<'_>) -> bool
+    ensures { result ≡ steps.cuts current (role_view role.entry) }
+{
+    let Some(id) = current else {
+        return false;
+    };
+    match end_of(id, role) {
+        Some(cut) => cut,
+        None => false,
+    }
+}
+
+/// The same, or a unit was cut before.
+pub(crate) fn cuts_any(cut: bool, current: Option<u8>, role: PesRole<'_>) -> bool
+    ensures { result ≡ (cut || steps.cuts current (role_view role.entry)) }
+{
+    cut || cuts(current, role)
+}
+
+// Whether what follows ends a unit of this stream_id by something else than the start of the next one, or the end of
+// the input.
+fn is_cut<A: Allocator>(id: u8, pid: u16, later: &[Finding<'_, A>]) -> bool
+    ensures { result ≡ spec.is_cut id pid (map finding_view later.now) }
+{
+    for finding in later {
+        if let Some(cut) = end_of(id, role_of(pid, finding)) {
+            return cut;
+        }
+    }
+    false
+}
+
+/// Returns whether a part of a unit of this stream_id may be lost after its first PES packet.
+pub(crate) fn is_lost<A: Allocator>(split: bool, id: u8, pid: u16, later: &[Finding<'_, A>]) -> bool
+    ensures { result ≡ (split && spec.is_cut id pid (map finding_view later.now)) }
+{
+    split && is_cut(id, pid, later)
+}

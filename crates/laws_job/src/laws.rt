@@ -1,0 +1,82 @@
+//! Jobs made of a stream, multiplexed and demultiplexed. Each function does nothing: its contract is the law.
+ghost use Rattle.laws_job.specs.Laws.{AcceptedLaw, CarriedLaw, FoundAgainLaw, SameAgainLaw};
+ghost use Rattle.laws_job.specs.DeclaredBuffers.{DeclaredLaw, BuffersKeptLaw};
+ghost use Rattle.laws_job.specs.FirstUnits.{FirstUnitsLaw, TablesFirstLaw};
+ghost use Rattle.laws_job.specs.JoinedLaws.{JoinedAcceptedLaw, JoinedAgainLaw};
+
+/// States that no unit of such a job is refused, in the job's order and before the first slot: each stream's units keep
+/// what its description declares, and have room.
+pub fn accepted()
+    ensures { AcceptedLaw }
+{
+    mux_core::laws::room_for_all();
+}
+
+/// States that over a plan that serves the description, the bytes of n slots, 2^40 at most, give back the units of each
+/// stream, with nothing wrong; each unit has left its transport buffer by its DTS, no buffer overflows, and PCRs and
+/// tables recur within their limits; and the units are those that were found on the stream's PID, their stamps moved by
+/// one constant, their marks and bytes the same. Of video with a multiplexing buffer neither this buffer nor the
+/// elementary stream buffer overflows, and each due unit is whole in the second by its DTS; of units of several access
+/// units the main buffer does not overflow where each is removed at its own time.
+pub fn carried()
+    ensures { CarriedLaw }
+{
+    accepted();
+    laws_run::laws::jobs();
+    plan_timing::laws::accepted_plan();
+    mux_core::laws::headline();
+}
+
+/// States that the description of a job has for each stream the multiplexing buffer and the access units that were chosen
+/// for the stream of the input, if all its numbers are TOML's (`buffers`). So the bytes of such a job keep these buffers
+/// (`kept`).
+pub fn declared()
+    ensures buffers { DeclaredLaw }
+    ensures kept { BuffersKeptLaw }
+{
+    job_text::texts_are_read();
+    carried();
+}
+
+/// States that if the run ends no earlier than the DTS of each unit of a stream, what a demultiplexer finds in these
+/// bytes, with their end, are all these units and no other: on the stream's PID the units are those of the input, in
+/// order, their marks and bytes the same and their stamps later by one constant, modulo 2^33. If that constant is 0 they
+/// are the input's.
+pub fn found_again()
+    ensures moved { FoundAgainLaw }
+    ensures same { SameAgainLaw }
+{
+    carried();
+    plan_timing::laws::accepted_plan();
+}
+
+/// States that no unit of a job made of several inputs is refused either.
+pub fn joined_accepted()
+    ensures { JoinedAcceptedLaw }
+{
+    mux_core::laws::room_for_all();
+}
+
+/// States for a job made of several inputs: if the run ends no earlier than the DTS of each unit of a stream, a
+/// demultiplexer finds on its PID in these bytes, with their end, all units on the wire that made its units, and no other:
+/// in order, their bytes the same and their stamps later by one constant, modulo 2^33. `stream_jobs` says which units
+/// these are: the findings in the stream's own input, on the PID that it had there.
+pub fn joined_again()
+    ensures { JoinedAgainLaw }
+{
+    joined_accepted();
+    laws_run::laws::jobs();
+    plan_timing::laws::accepted_plan();
+}
+
+/// States that PAT and PMT precede the units of a job, if the streams on a clock begin near one another: a decoder that
+/// follows PAT and PMT (ISO/IEC 13818-1, 2.4.4.3 and 2.4.4.8) knows each program and its streams before a packet of a
+/// stream, since the units of each stream are due 2 s after the run's begin or later (`units`). The same is true of any
+/// units that are due as late (`tables`).
+pub fn tables_first()
+    ensures units { FirstUnitsLaw }
+    ensures tables { TablesFirstLaw }
+{
+    plan_timing::laws::accepted_plan();
+    laws_run::laws::tables_first();
+}

@@ -1,0 +1,282 @@
+-- What both ways of `tsjob units` write of a stream.
+use Rattle.std.proofs.Common.{◌≡◌, ◌∙◌, ◌<◌, ◌≤◌, ℕ, zero, suc, ◌+◌, ◌/◌, ◌++◌, Bool, true, false, if◌then◌else◌, Option, Some, None, List, [], ◌∷◌, All, length, map, slice_get, get_or, refl, sym, ap, subst, inl, inr, arith}
+use Rattle.std.specs.Io.KnownBytes.{Consumes, IsAtEnd}
+use Rattle.std.specs.Prelude.{option_map}
+use Rattle.std.proofs.lemmas.List.{append-nil, length-map}
+use Rattle.std.proofs.lemmas.Option.{get_or_from_slice_get, same_Some, slice_get_within, slice_get-map}
+use Rattle.pes_packet.specs.AccessUnits.{AccessUnit}
+use Rattle.pes_packet.specs.Units.{units_of}
+use Rattle.description.specs.Described.{Described, DescribedStream}
+use Rattle.description.specs.Ranges.{IsInRange}
+use Rattle.description.proofs.Pids.{pid_positions, pids_apart}
+use Rattle.description.specs.Tables.{table_count}
+use Rattle.demux.specs.Views.{FindingView}
+use Rattle.packet_sync.specs.Slips.{carried}
+use Rattle.es_units.specs.CarriedUnits.{wire_units}
+use Rattle.es_units.specs.Stamps.{distance, dts_at, moved, unit_at}
+use Rattle.es_feed.specs.EachStream.{AreFirst, fed_stream, have_fault, one_by_one}
+use Rattle.es_feed.specs.Feeding.{FedStreamView}
+use Rattle.es_feed.specs.StreamFeeding.{fed_of}
+use Rattle.es_feed.proofs.MovedApart.{fed_apart}
+use Rattle.es_feed.specs.MovedApart.{AreWhole, after_time}
+use Rattle.es_feed.specs.FedLines.{fed_records}
+use Rattle.es_feed.specs.Passing.{EndsStream}
+use Rattle.es_units.specs.Merging.{AreMerged}
+use Rattle.stream_jobs.specs.ClockConstants.{HasConstants, IsMovedBy, clock_of}
+use Rattle.stream_jobs.specs.FoundUnits.{AreMoved, source_of}
+use Rattle.stream_jobs.specs.JobInput.{JobInputView}
+use Rattle.stream_jobs.specs.JobStreams.{TimedStreamView}
+use Rattle.stream_jobs.specs.declared.program_clock.ProgramClock.{ProgramClock}
+use Rattle.stream_jobs.proofs.ClockConstants.{constants_of}
+use Rattle.devices.specs.Devices.{Device}
+use Rattle.job_run.specs.declared.job_arguments.Subcommand.{Subcommand}
+use Rattle.job_run.specs.declared.job_arguments.Subcommand.TheVariants.{Units}
+use Rattle.job_run.specs.JobArguments.{JobArgumentsView}
+use Rattle.job_run.specs.Outcomes.{Gives, GivesUnits}
+use Rattle.job_run.specs.Streams.{findings_of}
+use Rattle.tsjob_cli.specs.StreamedUnits.{GoesBy, earliest, feed_of, maps_of, pids_of, streams_from}
+use Rattle.laws_pipe.specs.StreamedUnits.{AreAlike, AreLaterByOne, TheSameUnits}
+use Rattle.laws_pipe.proofs.PipedRuns.{GivenOf, given_by_run, taken}
+
+-- 1. The streams of a description, before their first unit
+
+record Described_at (n k : ℕ) (ss : List DescribedStream) (t : FedStreamView) : Type 0 where
+  stream : DescribedStream
+  at : slice_get ss k ≡ Some stream
+  is : t ≡ fed_stream (n + k) stream.pid
+
+shifted : (n k : ℕ) (ss : List DescribedStream) (s : DescribedStream) (t : FedStreamView) → Described_at (n + 1) k ss t → Described_at n (suc k) (s ∷ ss) t
+shifted n k ss s t d =
+    let same : (n + 1) + k ≡ n + suc k = omega arith in
+    record { stream = d.stream; at = d.at; is = d.is ∙ ap (λ (m : ℕ). fed_stream m d.stream.pid) same }
+
+described_at : (n k : ℕ) (ss : List DescribedStream) (t : FedStreamView) → slice_get (streams_from n ss) k ≡ Some t → Described_at n k ss t
+unfolding streams_from
+described_at n k [] t at = absurd cc
+described_at n zero (s ∷ ss) t at =
+    let same : n ≡ n + 0 = omega arith in
+    let is : fed_stream n s.pid ≡ t = cc in
+    record { stream = s; at = refl; is = sym is ∙ ap (λ (m : ℕ). fed_stream m s.pid) same }
+described_at n (suc k) (s ∷ ss) t at = shifted n k ss s t (described_at (n + 1) k ss t at)
+
+fed_at : (n k : ℕ) (ss : List DescribedStream) (s : DescribedStream) → slice_get ss k ≡ Some s → slice_get (streams_from n ss) k ≡ Some (fed_stream (n + k) s.pid)
+unfolding streams_from
+fed_at n k [] s at = absurd cc
+fed_at n zero (x ∷ ss) s at =
+    let same : x ≡ s = cc in
+    let number : n ≡ n + 0 = omega arith in
+    ap (λ (y : DescribedStream). Some (fed_stream n y.pid)) same ∙ ap (λ (m : ℕ). Some (fed_stream m s.pid)) number
+fed_at n (suc k) (x ∷ ss) s at =
+    let same : (n + 1) + k ≡ n + suc k = omega arith in
+    fed_at (n + 1) k ss s at ∙ ap (λ (m : ℕ). Some (fed_stream m s.pid)) same
+
+count_from : (n : ℕ) (ss : List DescribedStream) → length (streams_from n ss) ≡ length ss
+unfolding streams_from
+count_from n [] = refl
+count_from n (s ∷ ss) = let rest = count_from (n + 1) ss in omega (arith, rest)
+
+streams_apart : (d : Described) (j k : ℕ) (s t : DescribedStream) → IsInRange d → slice_get d.streams j ≡ Some s → slice_get d.streams k ≡ Some t → s.pid ≡ t.pid → j ≡ k
+streams_apart d j k s t ranges one two same =
+    let places = pid_positions d in
+    let there = pids_apart d (table_count d + length d.programs + j) (table_count d + length d.programs + k) t.pid ranges
+    (places.stream j s one ∙ ap (λ (p : ℕ). Some p) same) (places.stream k t two) in
+    omega (arith, there)
+
+first_streams : (d : Described) → IsInRange d → AreFirst (streams_from 0 d.streams)
+first_streams d ranges = record {
+  each = λ k s at.
+      let x = described_at 0 k d.streams s at in
+      let number : 0 + k ≡ k = omega arith in
+      x.is ∙ ap (λ (m : ℕ). fed_stream m x.stream.pid) number ∙ ap (λ (p : ℕ). fed_stream k p) (sym (ap (λ (y : FedStreamView). y.units.pid) x.is));
+  own = λ j k s t one two same.
+      let x = described_at 0 j d.streams s one in
+      let y = described_at 0 k d.streams t two in
+      streams_apart d j k x.stream y.stream ranges x.at y.at
+      (sym (ap (λ (z : FedStreamView). z.units.pid) x.is) ∙ same ∙ ap (λ (z : FedStreamView). z.units.pid) y.is);
+  few = let count = count_from 0 d.streams in let most = ranges.most_streams in omega (arith, count, most);
+}
+
+-- 2. What was fed
+
+-- all that the bytes feed, and nothing of it is told
+record FedBy (d : Described) (bytes output : List ℕ) : Type 0 where
+  silent : have_fault (fed_of (feed_of d) bytes) ≡ false
+  output_is : output ≡ fed_records (fed_of (feed_of d) bytes)
+
+not_one : (status : ℕ) → status ≡ 0 → status ≡ 1 → ⊥
+not_one status good one = omega (arith, good, one)
+
+not_three : (status : ℕ) → status ≡ 0 → status ≡ 3 → ⊥
+not_three status good three = omega (arith, good, three)
+
+not_faulty : (faulty : Bool) (status : ℕ) → status ≡ 0 → status ≡ (if faulty then 1 else 0) → faulty ≡ false
+not_faulty true status good is = absurd (not_one status good is)
+not_faulty false status good is = refl
+
+-- an input that is read to its end has come as a whole
+all_came : (before after : Option (List ℕ)) (bytes came : List ℕ) → before ≡ Some bytes → Consumes before after came → IsAtEnd after → came ≡ bytes
+all_came None after bytes came known reads ends = absurd cc
+all_came (Some xs) None bytes came known reads ends = let no : ⊥ = reads in absurd no
+all_came (Some xs) (Some ys) bytes came known reads ends =
+    let all : xs ≡ bytes = cc in
+    let none : ys ≡ [] = ends in
+    let split : xs ≡ came ++ ys = reads in
+    sym (append-nil came) ∙ ap (λ (rest : List ℕ). came ++ rest) (sym none) ∙ sym split ∙ all
+
+ended : (d : Described) (bytes output : List ℕ) (stream records faults : Device) → stream.before.bytes ≡ Some bytes → records.before.bytes ≡ Some [] → records.after.bytes ≡ Some output →
+    EndsStream (feed_of d) (pids_of d) stream records faults 0 → FedBy d bytes output
+ended d bytes output stream records faults known empty output_is e =
+    let p = e.passes in
+    let came : p.came ≡ bytes = all_came stream.before.bytes stream.after.bytes bytes p.came known p.passes.read p.ends in
+    let quiet : e.faulty ≡ false = not_faulty e.faulty 0 refl e.status_is in
+    record {
+      silent = ap (λ (b : List ℕ). have_fault (fed_of (feed_of d) b)) (sym came) ∙ sym p.faulty_is ∙ quiet;
+      output_is = sym (taken records.before.bytes records.after.bytes (fed_records (fed_of (feed_of d) p.came)) output empty output_is p.passes.written)
+          ∙ ap (λ (b : List ℕ). fed_records (fed_of (feed_of d) b)) came;
+    }
+
+gone : (d : Described) (bytes output : List ℕ) (stream records faults : Device) → stream.before.bytes ≡ Some bytes → records.before.bytes ≡ Some [] → records.after.bytes ≡ Some output →
+    GoesBy d stream records faults 0 → FedBy d bytes output
+gone d bytes output stream records faults known empty output_is (inl (inl e)) = ended d bytes output stream records faults known empty output_is e
+gone d bytes output stream records faults known empty output_is (inl (inr stops)) = absurd (not_three 0 refl stops.status_is)
+gone d bytes output stream records faults known empty output_is (inr lacks) = absurd (not_three 0 refl lacks.status_is)
+
+-- 3. One stream, by both
+
+record Both (d : Described) (input : JobInputView) (k : ℕ) : Type 0 where
+  described : DescribedStream
+  described_is : slice_get d.streams k ≡ Some described
+  timed : TimedStreamView
+  timed_is : slice_get input.streams k ≡ Some timed
+  pid : described.pid ≡ timed.pid
+
+some_at : {A : Type 0} (xs : List A) (k : ℕ) → k < length xs → (x : A) × (slice_get xs k ≡ Some x)
+some_at [] k below = absurd (let no : ⊥ = omega (arith, below) in no)
+some_at (x ∷ xs) zero below = (x, refl)
+some_at (x ∷ xs) (suc k) below = let less : k < length xs = omega (arith, below) in some_at xs k less
+
+both_at : (a : JobArgumentsView) (d : Described) (findings : List FindingView) (input : JobInputView) (k : ℕ) → AreAlike a d findings input → k < length d.streams → Both d input k
+both_at a d findings input k alike below =
+    let s = some_at d.streams k below in
+    let count : length d.streams ≡ length input.streams =
+    sym (length-map d.streams (λ s. s.pid)) ∙ ap (length {A = ℕ}) alike.pids ∙ length-map input.streams (λ t. t.pid) in
+    let there : k < length input.streams = omega (arith, below, count) in
+    let t = some_at input.streams k there in
+    let one : slice_get (map (λ s. s.pid) d.streams) k ≡ Some s.0.pid = slice_get-map (λ s. s.pid) d.streams k ∙ ap (option_map (λ s. s.pid)) s.1 in
+    let two : slice_get (map (λ t. t.pid) input.streams) k ≡ Some t.0.pid = slice_get-map (λ t. t.pid) input.streams k ∙ ap (option_map (λ t. t.pid)) t.1 in
+    let same : Some s.0.pid ≡ Some t.0.pid = sym one ∙ ap (λ (ps : List ℕ). slice_get ps k) alike.pids ∙ two in
+    record { described = s.0; described_is = s.1; timed = t.0; timed_is = t.1; pid = cc }
+
+-- what holds of a list holds at each of its places
+at_place : {X : Type 0} (P : X → Type 0) (xs : List X) (i : ℕ) (x : X) → All P xs → slice_get xs i ≡ Some x → P x
+at_place P xs i x all at =
+    let within = slice_get_within xs i x at in
+    let same : get_or xs i x ≡ x = get_or_from_slice_get xs i x x at in
+    subst P same (all i x within)
+
+-- 4. All are moved by the constant of their clock
+
+with_own : (findings : List FindingView) (base : ℕ) (t : TimedStreamView) → IsMovedBy false findings base t → AreMoved (wire_units t.pid findings) base t.units
+unfolding source_of
+with_own findings base t moved = moved
+
+by_one : (a : JobArgumentsView) (d : Described) (findings : List FindingView) (input : JobInputView) (k : ℕ) (t : TimedStreamView) (constants : HasConstants a.options findings input)
+    (alike : AreAlike a d findings input) → slice_get input.streams k ≡ Some t → AreMoved (wire_units t.pid findings) (constants.constant alike.clock) t.units
+by_one a d findings input k t constants alike is =
+    let one = at_place (λ t. IsMovedBy a.options.make_dts findings (constants.constant (clock_of input.programs t)) t) input.streams k t constants.streams is in
+    let clock = at_place (λ t. clock_of input.programs t ≡ alike.clock) input.streams k t alike.one_clock is in
+    let same = subst (λ (c : ProgramClock). IsMovedBy a.options.make_dts findings (constants.constant c) t) clock one in
+    with_own findings (constants.constant alike.clock) t
+    (subst (λ (made : Bool). IsMovedBy made findings (constants.constant alike.clock) t) alike.own same)
+
+-- 5. So those that are fed are whole, and begin near one another
+
+-- the stream of a job that is fed as one of a description
+record JobStream (input : JobInputView) (k pid : ℕ) : Type 0 where
+  stream : TimedStreamView
+  at : slice_get input.streams k ≡ Some stream
+  pid_is : stream.pid ≡ pid
+
+job_stream : (a : JobArgumentsView) (d : Described) (findings : List FindingView) (input : JobInputView) (k : ℕ) (s : FedStreamView) → AreAlike a d findings input →
+    slice_get (streams_from 0 d.streams) k ≡ Some s → JobStream input k s.units.pid
+job_stream a d findings input k s alike at =
+    let x = described_at 0 k d.streams s at in
+    let b = both_at a d findings input k alike (slice_get_within d.streams k x.stream x.at) in
+    let same : b.described ≡ x.stream = same_Some b.described x.stream (sym b.described_is ∙ x.at) in
+    record {
+      stream = b.timed;
+      at = b.timed_is;
+      pid_is = sym b.pid ∙ ap (λ (y : DescribedStream). y.pid) same ∙ sym (ap (λ (y : FedStreamView). y.units.pid) x.is);
+    }
+
+first_moved : (base : ℕ) (wire us : List AccessUnit) (w : AccessUnit) (ws : List AccessUnit) → us ≡ moved base None wire → wire ≡ w ∷ ws → slice_get us 0 ≡ Some (unit_at base None w)
+unfolding moved
+first_moved base wire us w ws are is = ap (λ (xs : List AccessUnit). slice_get xs 0) (are ∙ ap (λ (xs : List AccessUnit). moved base None xs) is)
+
+near_on_wire : (base apart : ℕ) (u v : AccessUnit) → (unit_at base None u).dts ≤ (unit_at base None v).dts + apart → distance base u.dts ≤ distance base v.dts + apart
+unfolding unit_at dts_at
+near_on_wire base apart u v near = near
+
+whole_streams : (a : JobArgumentsView) (d : Described) (findings : List FindingView) (input : JobInputView) (constants : HasConstants a.options findings input)
+    (alike : AreAlike a d findings input) → AreWhole (constants.constant alike.clock) earliest (streams_from 0 d.streams) findings
+whole_streams a d findings input constants alike =
+    let base = constants.constant alike.clock in
+    record {
+      alone = λ k s at.
+          let x = job_stream a d findings input k s alike at in
+          subst (λ (p : ℕ). one_by_one p findings ≡ true) x.pid_is (at_place (λ t. one_by_one t.pid findings ≡ true) input.streams k x.stream alike.alone x.at);
+      near = λ j k s t at_s at_t u v us vs here there.
+          let x = job_stream a d findings input j s alike at_s in
+          let y = job_stream a d findings input k t alike at_t in
+          let one = first_moved base (wire_units x.stream.pid findings) x.stream.units u us (by_one a d findings input j x.stream constants alike x.at).are
+          (ap (λ (p : ℕ). wire_units p findings) x.pid_is ∙ here) in
+          let other = first_moved base (wire_units y.stream.pid findings) y.stream.units v vs (by_one a d findings input k y.stream constants alike y.at).are
+          (ap (λ (p : ℕ). wire_units p findings) y.pid_is ∙ there) in
+          near_on_wire base earliest u v (alike.near j k x.stream y.stream (unit_at base None u) (unit_at base None v) x.at y.at one other);
+    }
+
+-- 6. Both
+
+alike_units : (a : JobArgumentsView) (d : Described) (bytes : List ℕ) (input : JobInputView) (units : List (ℕ × AccessUnit)) → HasConstants a.options (findings_of (carried bytes)) input → IsInRange d →
+    have_fault (fed_of (feed_of d) bytes) ≡ false → AreMerged (map (λ t. t.units) input.streams) units → AreAlike a d (findings_of (carried bytes)) input →
+    AreLaterByOne (length d.streams) (fed_of (feed_of d) bytes) units
+alike_units a d bytes input units constants ranges silent merged alike =
+    let findings = findings_of (carried bytes) in
+    let base = constants.constant alike.clock in
+    let apart = fed_apart earliest base (maps_of d) (streams_from 0 d.streams) bytes (omega arith) (first_streams d ranges) silent
+    (whole_streams a d findings input constants alike) in
+    record {
+      here = apart.here;
+      there = apart.there;
+      are = λ k below.
+          let b = both_at a d findings input k alike below in
+          let t = b.timed in
+          let number : 0 + k ≡ k = omega arith in
+          let place : slice_get (streams_from 0 d.streams) k ≡ Some (fed_stream k b.described.pid) =
+          fed_at 0 k d.streams b.described b.described_is ∙ ap (λ (n : ℕ). Some (fed_stream n b.described.pid)) number in
+          let timed : t.units ≡ moved base None (wire_units t.pid findings) = (by_one a d findings input k t constants alike b.timed_is).are in
+          let whole : units_of k units ≡ moved base None (wire_units b.described.pid findings) =
+          merged.each k t.units (slice_get-map (λ t. t.units) input.streams k ∙ ap (option_map (λ t. t.units)) b.timed_is)
+          ∙ timed ∙ ap (λ (p : ℕ). moved base None (wire_units p findings)) (sym b.pid) in
+          apart.are k (fed_stream k b.described.pid) place ∙ sym (ap (λ (us : List AccessUnit). map (after_time apart.there) us) whole);
+    }
+
+given_units : (a : JobArgumentsView) (bytes output : List ℕ) (g : GivenOf a bytes output) → a.subcommand ≡ Units → GivesUnits g.input output
+given_units a bytes output g units = subst (λ (word : Subcommand). Gives word a.options (findings_of (carried bytes)) g.input output) units g.gives
+
+pub the_same_units : TheSameUnits
+the_same_units words a d bytes whole streamed one records told status other passed silent ranges w s =
+    let given = given_by_run a bytes whole one records told status w.known w.ends w.empty w.output_is w.some in
+    let units = given_units a bytes whole given w.units in
+    let fed = gone d bytes streamed other passed silent s.known s.empty s.output_is s.goes in
+    let constants = constants_of a.options (length (carried bytes) / 188) (findings_of (carried bytes)) given.input given.input_is in
+    record {
+      input = given.input;
+      input_is = given.input_is;
+      units = units.units;
+      merged = units.merged;
+      whole_is = units.is;
+      fed = fed_of (feed_of d) bytes;
+      streamed_is = fed.output_is;
+      same = λ alike. alike_units a d bytes given.input units.units constants ranges fed.silent units.merged alike;
+    }

@@ -1,0 +1,83 @@
+-- What `tsjob units --stream` writes of a stream while it comes, beside what `tsjob units` writes of the whole.
+use Rattle.std.specs.Prelude.{◌≡◌, ◌≤◌, ◌<◌, ℕ, ◌+◌, ◌/◌, true, false, List, [], length, map, slice_get, Some, Ok, All}
+use Rattle.clap.specs.Words.{Text}
+use Rattle.pes_packet.specs.AccessUnits.{AccessUnit}
+use Rattle.pes_packet.specs.Units.{units_of}
+use Rattle.description.specs.Described.{Described}
+use Rattle.description.specs.Ranges.{IsInRange}
+use Rattle.demux.specs.Views.{FindingView}
+use Rattle.packet_sync.specs.Slips.{carried}
+use Rattle.es_units.specs.Merging.{AreMerged}
+use Rattle.es_feed.specs.EachStream.{one_by_one, units_fed}
+use Rattle.es_feed.specs.Feeding.{Fed}
+use Rattle.es_feed.specs.MovedApart.{after_time}
+use Rattle.es_feed.specs.FedLines.{fed_records}
+use Rattle.es_feed.specs.Records.{records_of}
+use Rattle.stream_jobs.specs.ClockConstants.{clock_of}
+use Rattle.stream_jobs.specs.JobInput.{JobInputView, job_input}
+use Rattle.stream_jobs.specs.JobStreams.{TimedStreamView}
+use Rattle.stream_jobs.specs.declared.program_clock.ProgramClock.{ProgramClock}
+use Rattle.devices.specs.Devices.{Device}
+use Rattle.devices.specs.Runs.{Ends}
+use Rattle.job_run.specs.declared.job_arguments.Subcommand.TheVariants.{Units}
+use Rattle.job_run.specs.JobArguments.{JobArgumentsView}
+use Rattle.job_run.specs.Outcomes.{Leads}
+use Rattle.job_run.specs.Streams.{findings_of}
+use Rattle.tsjob_cli.specs.Arguments.{arguments_in}
+use Rattle.tsjob_cli.specs.StreamedUnits.{GoesBy, earliest}
+
+-- ---- both runs
+
+-- words ask `tsjob` for the units of a stream; it ran to its end over these bytes, and its writer, which held nothing, has these records, not none
+pub record WritesUnits (words : List Text) (a : JobArgumentsView) (bytes output : List ℕ) (stream records faults : Device) (status : ℕ) : Type 0 where
+  pub asked : arguments_in words ≡ Some a
+  pub units : a.subcommand ≡ Units
+  pub known : stream.before.bytes ≡ Some bytes
+  pub ends : Ends (Leads a) stream records faults status
+  pub empty : records.before.bytes ≡ Some []
+  pub output_is : records.after.bytes ≡ Some output
+  pub some : 0 < length output
+
+-- over these bytes it went by a description, to their end and with nothing to tell; its writer, which held nothing, has these records
+pub record StreamsUnits (d : Described) (bytes output : List ℕ) (stream records faults : Device) : Type 0 where
+  pub known : stream.before.bytes ≡ Some bytes
+  pub goes : GoesBy d stream records faults 0
+  pub empty : records.before.bytes ≡ Some []
+  pub output_is : records.after.bytes ≡ Some output
+
+-- ---- what they wrote
+
+-- the description is of the streams of the job, in their order
+pub record AreAlike (a : JobArgumentsView) (d : Described) (findings : List FindingView) (input : JobInputView) : Type 0 where
+  pub pids : map (λ s. s.pid) d.streams ≡ map (λ t. t.pid) input.streams
+  -- the DTS are the stream's own, and the programs of the streams are on one clock
+  pub own : a.options.make_dts ≡ false
+  pub clock : ProgramClock
+  pub one_clock : All (λ t. clock_of input.programs t ≡ clock) input.streams
+  -- each unit is one PES packet that nothing interrupts
+  pub alone : All (λ t. one_by_one t.pid findings ≡ true) input.streams
+  -- the first unit of a stream is due no later than three seconds after the first one of another
+  pub near : (j k : ℕ) (s t : TimedStreamView) (u v : AccessUnit) → slice_get input.streams j ≡ Some s → slice_get input.streams k ≡ Some t →
+      slice_get s.units 0 ≡ Some u → slice_get t.units 0 ≡ Some v → u.dts ≤ v.dts + earliest
+
+-- the units of each stream are the same, in the same order, and their stamps are apart by one time, that is one of all streams
+pub record AreLaterByOne (count : ℕ) (fed : List Fed) (units : List (ℕ × AccessUnit)) : Type 0 where
+  pub here : ℕ
+  pub there : ℕ
+  pub are : (k : ℕ) → k < count → map (after_time here) (units_fed k fed) ≡ map (after_time there) (units_of k units)
+
+pub record WriteTheSame (a : JobArgumentsView) (d : Described) (bytes whole streamed : List ℕ) : Type 0 where
+  -- what of the stream a job is made of, and its units, whose records `tsjob units` wrote
+  pub input : JobInputView
+  pub input_is : job_input a.options (length (carried bytes) / 188) (findings_of (carried bytes)) ≡ Ok input
+  pub units : List (ℕ × AccessUnit)
+  pub merged : AreMerged (map (λ t. t.units) input.streams) units
+  pub whole_is : whole ≡ records_of units
+  -- what was fed, whose records `tsjob units --stream` wrote
+  pub fed : List Fed
+  pub streamed_is : streamed ≡ fed_records fed
+  pub same : AreAlike a d (findings_of (carried bytes)) input → AreLaterByOne (length d.streams) fed units
+
+abbrev pub TheSameUnits : Type 0
+TheSameUnits = (words : List Text) (a : JobArgumentsView) (d : Described) (bytes whole streamed : List ℕ) (one records told : Device) (status : ℕ) (other passed silent : Device) → IsInRange d →
+    WritesUnits words a bytes whole one records told status → StreamsUnits d bytes streamed other passed silent → WriteTheSame a d bytes whole streamed

@@ -1,0 +1,59 @@
+//! One job, written and read. Each function does nothing: its contract is the law.
+ghost use Rattle.laws_pipe.specs.PipedFiles.{JoinedIsRead, TheFilePipe};
+ghost use Rattle.laws_pipe.specs.PipedJobs.{ThePipe, WrittenIsRead};
+ghost use Rattle.laws_pipe.specs.StreamedUnits.{TheSameUnits};
+
+/// States that a job that `tsjob` writes, whatever the stream and the options of its command line, `mux` reads as that
+/// description, that plan and these units: nothing is wrong with it, no record is refused as one, and no byte is left after
+/// the last.
+pub fn written_is_read()
+    ensures { WrittenIsRead }
+{}
+
+/// States that, if `tsjob` ran to its end and wrote a job, and `mux`, asked for all its packets over one plan, ran to its end
+/// over these bytes, `mux` refused nothing and reported nothing: its status is 0, and it wrote the packets of that job's
+/// units, which keep every promise. Where the DTS are the stream's own, what a demultiplexer finds in these packets on the PID
+/// of each stream of the job are all units that it finds there in the input, and no other: in order, their bytes the same,
+/// their stamps later by a constant, modulo 2^33, which is one for all programs of a clock of the input.
+///
+/// A device that fails, or memory that runs out, ends either program earlier, with status 3. The writer held nothing
+/// before, and its bytes are known; the last sentence is of jobs whose units are due within 2^40 units of 90 kHz.
+pub fn goes_through()
+    ensures { ThePipe }
+{
+    laws_job::laws::accepted();
+    laws_job::laws::found_again();
+}
+
+/// States that `mux` reads a job that `tsjob` writes of streams in files (one or several, whatever they are and whatever
+/// options precede their names) as that description, that plan and these units, as it reads a job of an input.
+pub fn joined_is_read()
+    ensures { JoinedIsRead }
+{}
+
+/// States that, if `tsjob -- FILE..` wrote a job of the streams in these files, and its status was not 3, and `mux`, asked for
+/// all its packets over one plan, ran to its end over these bytes, `mux` refused nothing and reported nothing: its status is
+/// 0, and it wrote the packets of that job's units, which keep every promise. Where the DTS are the streams' own, what a
+/// demultiplexer finds in these packets on the PID of each stream of the job are all units that it finds in the input where
+/// the stream was found, on the PID that it had there, and no other: in order, their bytes the same, their stamps later by a
+/// constant, modulo 2^33, which is one for all programs of a clock of that input.
+///
+/// A device that fails, a file that can't be opened or read, or memory that runs out, ends `tsjob` with status 3. The writer
+/// held nothing before, and its bytes are known, the files' need not be; the last sentence is of jobs whose units are due
+/// within 2^40 units of 90 kHz.
+pub fn joined_goes_through()
+    ensures { TheFilePipe }
+{
+    laws_job::laws::joined_accepted();
+    laws_job::laws::joined_again();
+}
+
+/// States that `tsjob units` and `tsjob units --stream` write the same units, stream by stream and in order, due later by one
+/// time for all streams: if `tsjob units` ran to its end over the bytes of a stream and wrote records, and `tsjob units
+/// --stream` went by a description of the job's streams over the same bytes to their end and reported nothing.
+///
+/// This is so for a job whose DTS are the stream's own and whose programs are on one clock, if its streams begin within
+/// three seconds of one another, and each of their units is one PES packet that nothing interrupts.
+pub fn streamed_as_whole()
+    ensures { TheSameUnits }
+{}

@@ -1,0 +1,151 @@
+-- Each section of each table that is not ready-made can be written.
+use Rattle.std.proofs.Common.{◌≡◌, ℕ, zero, suc, ◌+◌, ◌/◌, ◌<◌, ◌≤◌, Bool, true, false, List, [], ◌∷◌, ◌++◌, length, map, get_or, slice_get, Option, None, Some, refl, sym, subst, arith, All}
+use Rattle.std.specs.Option.{option_to_list}
+use Rattle.std.specs.List.{list_any}
+use Rattle.std.specs.Prelude.{is_some, ⊤}
+use Rattle.std.proofs.lemmas.List.Elements.{All-head, All-tail, All-nil, All-cons, All-append, All-filter, All-get_or}
+use Rattle.description.specs.Described.{Described, DescribedNetwork, DescribedProgram, DescribedEvent}
+use Rattle.description.specs.Ranges.{IsInRange, IsProgram, IsEvent}
+use Rattle.description.specs.Tables.{numbers_from, only_if, has_event, scheduled_programs, service_tables, table_kinds, table_kind, kind_lengths, section_lengths, section_count, pat_length, pmt_length, nit_length, sdt_length, eit_length, eit_lengths, longest_event}
+use Rattle.description.specs.SectionBytes.{kind_bytes, table_bytes}
+use Rattle.description.specs.declared.table_kind.TableKind.{TableKind}
+use Rattle.description.specs.declared.table_kind.TableKind.TheVariants.{Pat, Pmt, Nit, Sdt, Eit, Tdt, Private}
+use Rattle.description.proofs.SectionBounds.{table_bytes_fit}
+use Rattle.description.proofs.Pids.{at_place}
+use Rattle.laws_run.proofs.DescribedSections.{IsWritten, Fits4096, pat_written, pmt_written, nit_written, sdt_written, eit_written, tdt_written}
+use Rattle.description.proofs.SectionCounts.{eit_count}
+
+-- ---- an SDT is only among the tables where the description wants one
+
+abbrev pub IsThere : Described → TableKind → Type 0
+IsThere d Sdt = d.has_sdt ≡ true
+IsThere d Pat = ⊤
+IsThere d (Pmt p) = ⊤
+IsThere d Nit = ⊤
+IsThere d Eit = ⊤
+IsThere d Tdt = ⊤
+IsThere d (Private i) = ⊤
+
+numbered : (d : Described) {X : Type 0} (c : ℕ → TableKind) (n : ℕ) (xs : List X) → ((i : ℕ) → IsThere d (c i)) → All (IsThere d) (map c (numbers_from n xs))
+numbered d c n [] h = All-nil (IsThere d)
+numbered d c n (x ∷ xs) h = All-cons (IsThere d) (c n) (map c (numbers_from (n + 1) xs)) (h n) (numbered d c (n + 1) xs h)
+
+one_if : (d : Described) (b : Bool) (k : TableKind) → (b ≡ true → IsThere d k) → All (IsThere d) (only_if b k)
+one_if d true k h = All-cons (IsThere d) k [] (h refl) (All-nil (IsThere d))
+one_if d false k h = All-nil (IsThere d)
+
+pub kinds_there : (d : Described) → All (IsThere d) (table_kinds d)
+kinds_there d =
+    All-append (IsThere d) (Pat ∷ map Pmt (numbers_from 0 d.programs)) (service_tables d ++ map Private (numbers_from 0 d.tables))
+    (All-cons (IsThere d) Pat (map Pmt (numbers_from 0 d.programs)) tt (numbered d Pmt 0 d.programs (λ i. tt)))
+    (All-append (IsThere d) (service_tables d) (map Private (numbers_from 0 d.tables))
+    (All-append (IsThere d) (nit ++ sdt ++ eit) tdt
+    (All-append (IsThere d) (nit ++ sdt) eit
+    (All-append (IsThere d) nit sdt
+    (one_if d (is_some d.network) Nit (λ y. tt))
+    (one_if d d.has_sdt Sdt (λ y. y)))
+    (one_if d (list_any has_event d.programs) Eit (λ y. tt)))
+    (one_if d d.has_tdt Tdt (λ y. tt)))
+    (numbered d Private 0 d.tables (λ i. tt)))
+  where
+    nit : List TableKind
+    nit = only_if (is_some d.network) Nit
+
+    sdt : List TableKind
+    sdt = only_if d.has_sdt Sdt
+
+    eit : List TableKind
+    eit = only_if (list_any has_event d.programs) Eit
+
+    tdt : List TableKind
+    tdt = only_if d.has_tdt Tdt
+
+-- ---- no section is long
+
+abbrev Below4096 : ℕ → Type 0
+Below4096 l = l ≤ 4096
+
+events_short : (es : List DescribedEvent) → All IsEvent es → longest_event es ≤ 300
+events_short [] h = omega arith
+events_short (e ∷ es) h =
+    let first = All-head IsEvent e es h in
+    omega (arith, first.name.fits, first.text.fits, events_short es (All-tail IsEvent e es h))
+
+schedules_short : (ps : List DescribedProgram) → All IsProgram ps → All Below4096 (eit_lengths ps)
+schedules_short [] h = All-nil Below4096
+schedules_short (p ∷ ps) h =
+    let short : eit_length p ≤ 4096 = omega (arith, events_short p.events (All-head IsProgram p ps h).events) in
+    All-cons Below4096 (eit_length p) (eit_length p ∷ eit_lengths ps) short
+    (All-cons Below4096 (eit_length p) (eit_lengths ps) short (schedules_short ps (All-tail IsProgram p ps h)))
+
+one_short : (l : ℕ) → l ≤ 4096 → All Below4096 (l ∷ [])
+one_short l le = All-cons Below4096 l [] le (All-nil Below4096)
+
+mapped_short : {X : Type 0} (f : X → ℕ) (o : Option X) → All (λ x. f x ≤ 1024) (option_to_list o) → All Below4096 (map f (option_to_list o))
+mapped_short f None h = All-nil Below4096
+mapped_short {X} f (Some x) h = let le : f x ≤ 1024 = All-head (λ (y : X). f y ≤ 1024) x [] h in one_short (f x) (omega (arith, le))
+
+-- an element of a list, if there is one at this place
+pub at_most_one : {X : Type 0} (P : X → Type 0) (xs : List X) (i : ℕ) (o : Option X) → All P xs → slice_get xs i ≡ o → All P (option_to_list o)
+at_most_one P xs i None h e = All-nil P
+at_most_one P xs i (Some x) h e = All-cons P x [] (at_place P xs i x h e) (All-nil P)
+
+network_list : (o : Option DescribedNetwork) → length (option_to_list o) ≤ 1
+network_list None = omega arith
+network_list (Some n) = omega arith
+
+-- the kinds of tables that are not ready-made
+abbrev pub IsMade : TableKind → Type 0
+IsMade (Private i) = ⊥
+IsMade Pat = ⊤
+IsMade (Pmt p) = ⊤
+IsMade Nit = ⊤
+IsMade Sdt = ⊤
+IsMade Eit = ⊤
+IsMade Tdt = ⊤
+
+kind_short : (d : Described) (k : TableKind) → IsInRange d → IsThere d k → IsMade k → All Below4096 (kind_lengths d k)
+kind_short d Pat r there made = one_short (pat_length d) (omega (arith, r.most_programs, network_list d.network))
+kind_short d (Pmt p) r there made = mapped_short (pmt_length d) (slice_get d.programs p) (at_most_one (λ (x : DescribedProgram). pmt_length d x ≤ 1024) d.programs p (slice_get d.programs p) r.pmt_lengths refl)
+kind_short d Nit r there made = mapped_short nit_length d.network r.nit_length
+kind_short d Sdt r there made = let le = r.sdt_length there in one_short (sdt_length d) (omega (arith, le))
+kind_short d Eit r there made = schedules_short (scheduled_programs d) (All-filter has_event IsProgram d.programs r.programs)
+kind_short d Tdt r there made = one_short 8 (omega arith)
+kind_short d (Private i) r there made = absurd made
+
+-- ---- there is what is written
+
+pub some_there : {X : Type 0} (xs : List X) (i : ℕ) → i < length xs → is_some (slice_get xs i) ≡ true
+some_there [] i lt = absurd (omega (arith, lt))
+some_there (x ∷ xs) zero lt = refl
+some_there (x ∷ xs) (suc i) lt = some_there xs i (omega (arith, lt))
+
+kind_written : (d : Described) (k : TableKind) (section moment : ℕ) → IsInRange d → IsThere d k → IsMade k → section < length (kind_lengths d k) →
+    Fits4096 (kind_bytes d k section moment) → IsWritten (kind_bytes d k section moment)
+kind_written d Pat section moment r there made within le = pat_written d section moment r le
+kind_written d (Pmt p) section moment r there made within le =
+    pmt_written d (slice_get d.programs p) section (at_most_one IsProgram d.programs p (slice_get d.programs p) r.programs refl) within le
+kind_written d Nit section moment r there made within le = nit_written d d.network section r.network within le
+kind_written d Sdt section moment r there made within le = sdt_written d d.has_sdt r there le
+kind_written d Eit section moment r there made within le =
+    let lt : section / 2 < length (scheduled_programs d) = omega (arith, within, eit_count (scheduled_programs d)) in
+    let o : Option DescribedProgram = slice_get (scheduled_programs d) (section / 2) in
+    eit_written d o section moment
+    (at_most_one IsProgram (scheduled_programs d) (section / 2) o (All-filter has_event IsProgram d.programs r.programs) refl)
+    (some_there (scheduled_programs d) (section / 2) lt) le
+kind_written d Tdt section moment r there made within le = tdt_written d section moment
+kind_written d (Private i) section moment r there made within le = absurd made
+
+-- the section of a table that is not ready-made
+pub text_written : (d : Described) (t section moment : ℕ) (k : TableKind) → IsInRange d → table_kind d t ≡ Some k → IsMade k → section < section_count d t →
+    IsWritten (table_bytes d t section moment)
+text_written d t section moment k r is made within =
+    let there : IsThere d k = at_place (IsThere d) (table_kinds d) t k (kinds_there d) is in
+    let lengths : section_lengths d t ≡ kind_lengths d k = rw is refl in
+    let text : table_bytes d t section moment ≡ kind_bytes d k section moment = rw is refl in
+    let inside : section < length (kind_lengths d k) = subst (λ (ls : List ℕ). section < length ls) lengths within in
+    let size : length (kind_bytes d k section moment) ≤ get_or (kind_lengths d k) section 0 =
+    subst (λ (bytes : List ℕ). length bytes ≤ get_or (kind_lengths d k) section 0) text
+    (subst (λ (ls : List ℕ). length (table_bytes d t section moment) ≤ get_or ls section 0) lengths (table_bytes_fit d t section moment r within)) in
+    let short : get_or (kind_lengths d k) section 0 ≤ 4096 = All-get_or Below4096 (kind_lengths d k) section 0 inside (kind_short d k r there made) in
+    subst IsWritten (sym text) (kind_written d k section moment r there made inside (omega (arith, size, short)))

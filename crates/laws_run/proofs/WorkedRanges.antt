@@ -1,0 +1,87 @@
+-- The worked service is in its ranges.
+use Rattle.std.specs.Prelude.{Contains}
+use Rattle.std.specs.List.{IsDistinct}
+use Rattle.std.proofs.Common.{◌≡◌, ◌≤◌, ◌<◌, ℕ, [], refl, inr, arith}
+use Rattle.std.proofs.lemmas.List.Elements.{All-nil, All-cons}
+use Rattle.description.specs.Described.{DescribedNetwork, DescribedProgram, DescribedStream}
+use Rattle.description.specs.Tables.{pmt_length, nit_length}
+use Rattle.description.specs.Ranges.{IsPid, IsBytes, IsLanguage, IsNetwork, IsProgram, IsEvent, IsMultiplexingBuffer, IsFraming, IsStream, IsTable, IsListed, IsSharing, IsInRange, program_numbers, longest_section}
+use Rattle.laws_run.specs.WorkedService.{worked_stream, worked_program, worked_service}
+
+pid : (n : ℕ) → 32 ≤ n → n ≤ 8190 → IsPid n
+pid n low high = record { low = low; high = high }
+
+no_bytes : (most : ℕ) → IsBytes most []
+no_bytes most = record { fits = omega arith; octets = All-nil (λ (b : ℕ). b < 256) }
+
+stream_is : IsStream worked_stream
+stream_is = record {
+  pid = pid 256 (omega arith) (omega arith);
+  stream_id = inr (omega arith, omega arith);
+  stream_type = omega arith;
+  some_interval = omega arith;
+  most_interval = omega arith;
+  some_size = omega arith;
+  most_size = omega arith;
+  bounded_size = λ below. omega arith;
+  some_lead = omega arith;
+  most_lead = omega arith;
+  least_rx = omega arith;
+  most_rx = omega arith;
+  some_main = omega arith;
+  most_main = omega arith;
+  tag = All-nil (λ (t : ℕ). t ≤ 255);
+  language = All-nil IsLanguage;
+  descriptors = no_bytes 700;
+  allowance = record { some_units = omega arith; most_units = omega arith; some_packets = omega arith; most_packets = omega arith };
+  few_sharers = omega arith;
+  multiplexing = All-nil (IsMultiplexingBuffer 2000000);
+  framing = All-nil (IsFraming worked_stream.interval worked_stream.size);
+}
+
+program_is : IsProgram worked_program
+program_is = record {
+  some_number = omega arith;
+  most_number = omega arith;
+  pmt_pid = pid 4096 (omega arith) (omega arith);
+  pcr_pid = pid 257 (omega arith) (omega arith);
+  some_limit = omega arith;
+  most_limit = omega arith;
+  descriptors = no_bytes 700;
+  service_type = omega arith;
+  provider = no_bytes 100;
+  name = no_bytes 100;
+  events = All-nil IsEvent;
+}
+
+not_shared : IsSharing worked_service worked_stream
+unfolding IsDistinct
+not_shared = record { declared = All-nil (Contains (program_numbers worked_service)); others = All-nil (λ (n : ℕ). n ≡ 1 → ⊥); once = tt }
+
+pub worked_in_range : IsInRange worked_service
+unfolding IsDistinct
+worked_in_range = record {
+  least_rate = omega arith;
+  most_rate = omega arith;
+  start = omega arith;
+  base0 = omega arith;
+  transport_stream_id = omega arith;
+  original_network_id = omega arith;
+  network = All-nil IsNetwork;
+  some_programs = omega arith;
+  most_programs = omega arith;
+  programs = All-cons IsProgram worked_program [] program_is (All-nil IsProgram);
+  most_events = omega arith;
+  most_streams = omega arith;
+  streams = All-cons IsStream worked_stream [] stream_is (All-nil IsStream);
+  declared = All-cons (λ (s : DescribedStream). Contains (program_numbers worked_service) s.program) worked_stream [] (0, omega arith, refl) (All-nil (λ (s : DescribedStream). Contains (program_numbers worked_service) s.program));
+  sharing = All-cons (IsSharing worked_service) worked_stream [] not_shared (All-nil (IsSharing worked_service));
+  most_tables = omega arith;
+  tables = All-nil IsTable;
+  listed = All-nil (IsListed worked_service);
+  distinct_pids = ((refl, (refl, tt)), ((refl, tt), (tt, tt)));
+  distinct_numbers = (tt, tt);
+  pmt_lengths = All-cons (λ (p : DescribedProgram). pmt_length worked_service p ≤ longest_section) worked_program [] (omega arith) (All-nil (λ (p : DescribedProgram). pmt_length worked_service p ≤ longest_section));
+  nit_length = All-nil (λ (n : DescribedNetwork). nit_length n ≤ longest_section);
+  sdt_length = λ no. omega arith;
+}

@@ -1,0 +1,68 @@
+-- What comes back: what a demultiplexer finds in the finished bytes of a run, with their end.
+use Rattle.std.specs.Prelude.{◌≡◌, ◌⊎◌, ℕ, ◌-◌, ◌^◌, ◌<◌, ◌≤◌, List, map, slice_get, Some, All}
+use Rattle.pes_packet.specs.AccessUnits.{AccessUnit}
+use Rattle.slot_contents.specs.Contents.{run_bytes}
+use Rattle.description.specs.Described.{Described, DescribedStream}
+use Rattle.description.specs.Tables.{table_count, table_pid}
+use Rattle.description.specs.Ranges.{IsInRange}
+use Rattle.demux.specs.Views.{FindingView}
+use Rattle.demux.specs.Laws.{with_pid_at}
+use Rattle.laws_pid.specs.Sent.{each_found}
+use Rattle.laws_pid.specs.Units.{unit_found}
+use Rattle.laws_pid.specs.Sections.{section_found}
+use Rattle.laws_pid.specs.Laws.{all_found, found_on, InOrder}
+use Rattle.mux_core.specs.Scheduled.{Scheduled}
+use Rattle.mux_core.specs.Histories.{History, empty_history, owned_stream, table_of, content_at, bytes_of}
+use Rattle.mux_core.specs.Headline.{UnitsKept}
+use Rattle.mux_core.specs.MuxStates.{MuxState, Stands}
+use Rattle.mux_core.specs.Events.{Step, history_after}
+use Rattle.laws_run.specs.Placed.{sent_units, sent_sections}
+use Rattle.laws_run.specs.Distinguishable.{IsDistinguishable}
+
+-- ---- what is expected
+
+-- of a stream: one finding of each unit of which anything was sent, in order. A unit that was sent whole is there with its stream_id, its
+-- stamps as on the wire and its data; the last one may be cut short
+abbrev pub stream_findings : Scheduled → (ℕ → List AccessUnit) → ℕ → ℕ → DescribedStream → List FindingView
+stream_findings d units n k s = map (with_pid_at s.pid) (each_found (unit_found s.stream_id d.description.base0) n (sent_units (owned_stream d k s) n (units k)))
+
+-- of a table: one finding of each section of which anything was sent, in order
+abbrev pub table_findings : Scheduled → ℕ → ℕ → List FindingView
+table_findings d n t = map (with_pid_at (table_pid d.description t)) (each_found section_found n (sent_sections (table_of d t) n))
+
+-- ---- the law
+
+-- a PID of a stream, or of a table
+abbrev pub IsSentOn : Described → ℕ → Type 0
+IsSentOn d pid = ((k : ℕ) × (s : DescribedStream) × (slice_get d.streams k ≡ Some s) × (s.pid ≡ pid)) ⊎ ((t : ℕ) × (t < table_count d) × (table_pid d t ≡ pid))
+
+abbrev pub IsOfSent : Described → FindingView → Type 0
+IsOfSent d f = (pid : ℕ) × (f.pid ≡ Some pid) × IsSentOn d pid
+
+-- what is found in the bytes of the first n slots
+pub record GivenBack (d : Scheduled) (units : ℕ → List AccessUnit) (n : ℕ) (bytes : List ℕ) : Type 0 where
+  -- on a stream's PID exactly its units
+  pub streams : (k : ℕ) (s : DescribedStream) → slice_get d.description.streams k ≡ Some s → found_on s.pid bytes ≡ stream_findings d units n k s
+  -- on a table's PID exactly its sections, if these are distinguishable
+  pub tables : (t : ℕ) → t < table_count d.description → IsDistinguishable d.description t → found_on (table_pid d.description t) bytes ≡ table_findings d n t
+  -- and nothing else, on any PID or on none
+  pub nothing_else : All (IsOfSent d.description) (all_found bytes)
+  -- in the order of the packets; what the end decides comes last, with the number of packets
+  pub in_order : InOrder 0 n (all_found bytes)
+
+-- so of every run of fewer slots than a demultiplexer counts, over whatever schedule
+abbrev pub GivenBackLaw : Type 0
+GivenBackLaw = (d : Scheduled) (units : ℕ → List AccessUnit) (n : ℕ) → IsInRange d.description → UnitsKept d units → n < 2 ^ 64 - 1 →
+    GivenBack d units n (run_bytes (content_at d units) 0 n)
+
+-- so of what a multiplexer stands for, in each number of its slots
+abbrev pub StandingLaw : Type 0
+StandingLaw = (h : History) (m : MuxState) (n : ℕ) → IsInRange m.schedule.description → Stands h m → n ≤ 2 ^ 40 →
+    GivenBack m.schedule h.units n (run_bytes (content_at m.schedule h.units) 0 n)
+
+-- so of the history that any units and slots leave, in any order, where `capacity` units of a stream may wait: units that are refused are no
+-- part of it
+abbrev pub DrivenLaw : Type 0
+DrivenLaw = (d : Scheduled) (capacity : ℕ) (steps : List Step) → IsInRange d.description →
+    GivenBack d (history_after d capacity empty_history steps).units (history_after d capacity empty_history steps).slots
+    (bytes_of d (history_after d capacity empty_history steps))

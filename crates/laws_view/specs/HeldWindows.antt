@@ -1,0 +1,80 @@
+-- A line `held` of a whole window in a report: what its `main_least` is.
+use Rattle.std.specs.Prelude.{◌≡◌, ℕ, ◌+◌, ◌^◌, ◌<◌, ◌≤◌, ◌==◌, false, List, [], ◌∷◌, ◌++◌, length, slice_get, unwrap_or, Some, None}
+use Rattle.tstd_rows.specs.declared.arriving.Arriving.{Arriving}
+use Rattle.laws_arrival.specs.TimedPackets.{Timed}
+use Rattle.ts_report.specs.declared.view_options.ViewOptions.{ViewOptions}
+use Rattle.ts_report.specs.Choices.{RequestView}
+use Rattle.ts_report.specs.Clocks.{clock_of}
+use Rattle.ts_report.specs.Entries.{EntryState}
+use Rattle.ts_report.specs.Seen.{with_arrival}
+use Rattle.ts_report.specs.Views.{ViewState, after_all, start}
+use Rattle.ts_report.specs.WindowEvents.{window_of}
+use Rattle.laws_view.specs.StreamPackets.{Before, seen_among}
+use Rattle.laws_view.specs.TimedStreams.{Entering, entering, entering_among, followed_by, view_by}
+use Rattle.laws_view.specs.WholeStreams.{followed}
+use Rattle.laws_view.specs.WindowLows.{HasPayload, SaysLow}
+
+-- what a view knows of a stream before the packets that come next
+abbrev pub known_then : ViewState → EntryState → Before
+known_then s e = record { index = s.seen.packets; clock = clock_of s.seen.clocks e.clock_pid; counter = e.counter }
+
+-- 1. Packets that arrive in any way
+
+-- those of the stream among them, as its buffers see them
+abbrev pub window_entering : RequestView → List Timed → EntryState → List Timed → List Entering
+window_entering request before e packets = entering_among (followed_by (followed request e) before) (known_then (view_by (start request) before) e) packets
+
+-- each of these packets begins in one window, by how it arrives; the first of them has this index
+unfoldable pub BeginIn : ViewOptions → ℕ → ℕ → List Timed → Type 0
+BeginIn options window index [] = Unit {0}
+BeginIn options window index (p ∷ packets) =
+    (window_of (with_arrival options p.arrival) index ≡ window) × BeginIn (with_arrival options p.arrival) window (index + 1) packets
+
+-- how a stream is viewed once these have come
+abbrev pub options_then : RequestView → EntryState → List Timed → ViewOptions
+options_then request e before = (followed_by (followed request e) before).options
+
+-- of a stream whose buffers have begun before a window's first packet, and whose last packet then lies in another window: e once all packets
+-- before the window have come, e' once these of the window have too
+pub record OfWindow (request : RequestView) (before packets : List Timed) (window place : ℕ) (e e' : EntryState) : Type 0 where
+  pub few : length before + length packets < 2 ^ 64
+  pub begun : slice_get (view_by (start request) before).table.entries place ≡ Some e
+  pub come : slice_get (view_by (start request) (before ++ packets)).table.entries place ≡ Some e'
+  pub other : (e.tally.window == window) ≡ false
+  pub all : BeginIn (options_then request e before) window (length before) packets
+
+-- where one of these packets that is of the stream carries payload, its line `held` has the main buffer's least fullness while they come
+abbrev pub TimedWindowLaw : Type 0
+TimedWindowLaw = (request : RequestView) (before packets : List Timed) (window place : ℕ) (e e' : EntryState) →
+    OfWindow request before packets window place e e' → 0 < e.held.rate → HasPayload e.held (window_entering request before e packets) →
+    SaysLow e'.tally e.held (window_entering request before e packets)
+
+-- in the window in which a stream's buffers begin its line says 0: nothing is in them before their first byte
+abbrev pub FirstWindowLaw : Type 0
+FirstWindowLaw = (request : RequestView) (before packets : List Timed) (window place : ℕ) (e : EntryState) → length before + length packets < 2 ^ 64 →
+    slice_get (view_by (start request) before).table.entries place ≡ None →
+    slice_get (view_by (start request) (before ++ packets)).table.entries place ≡ Some e →
+    BeginIn (options_then request e before) window (length before) packets → unwrap_or e.tally.window_least 0 ≡ 0
+
+-- 2. At a constant rate
+
+abbrev pub window_packets : RequestView → List (List ℕ) → EntryState → List (List ℕ) → List Arriving
+window_packets request before e packets = seen_among (followed request e) (known_then (after_all (start request) before) e) packets
+
+-- all packets of these indices lie in one window
+abbrev pub LieIn : RequestView → ℕ → ℕ → ℕ → Type 0
+LieIn request window first count = (i : ℕ) → first ≤ i → i < first + count → window_of request.options i ≡ window
+
+-- the same of a stream and a window of packets that arrive so
+pub record OfRateWindow (request : RequestView) (before packets : List (List ℕ)) (window place : ℕ) (e e' : EntryState) : Type 0 where
+  pub few : length before + length packets < 2 ^ 64
+  pub begun : slice_get (after_all (start request) before).table.entries place ≡ Some e
+  pub come : slice_get (after_all (start request) (before ++ packets)).table.entries place ≡ Some e'
+  pub other : (e.tally.window == window) ≡ false
+  pub all : LieIn request window (length before) (length packets)
+
+abbrev pub HeldWindowLaw : Type 0
+HeldWindowLaw = (request : RequestView) (before packets : List (List ℕ)) (window place : ℕ) (e e' : EntryState) →
+    OfRateWindow request before packets window place e e' → 0 < e.held.rate →
+    HasPayload e.held (entering request.options.arrival (window_packets request before e packets)) →
+    SaysLow e'.tally e.held (entering request.options.arrival (window_packets request before e packets))

@@ -1,0 +1,12 @@
+use Rattle.std.proofs.Common.{◌≡◌, true, [], ◌∷◌, take}
+use Rattle.std.specs.List.{list_all}
+use Rattle.slot_plan.specs.Numbered.{numbered}
+use Rattle.slot_plan.specs.Planned.{is_small_program}
+use Rattle.plan_maker.specs.Certificates.{program_entry_of}
+use Rattle.plan_maker.proofs.certificates.program_entries.Given as goal
+
+abbrev pub invariant-loop-i : goal.invariant-loop-i
+invariant-loop-i g l = record {
+  entries : l.entries.items ≡ numbered (λ i _. program_entry_of l.description l.slots i ∷ []) 0 (take l.i l.description.programs);
+  small : list_all is_small_program l.entries.items ≡ true;
+}

@@ -1,0 +1,45 @@
+-- The load of a description: the least share of an output's slots that its items ask for, in parts of all slots, cut
+-- down.
+use Rattle.std.specs.Prelude.{ℕ, ◌+◌, ◌-◌, ◌*◌, ◌/◌, max, Bool, List, [], ◌∷◌, Option, option_map, nat_le}
+use Rattle.std.specs.List.{sum_by}
+use Rattle.clock27.specs.Units.{slot_ms_at_1bps}
+use Rattle.clock27.specs.declared.rate.TheConstants.{GREATEST_RATE}
+use Rattle.unit_timing.specs.Allowances.{steady_packets, steady_time}
+use Rattle.unit_timing.specs.Shares.{parts}
+use Rattle.description.specs.Described.{Described, DescribedStream}
+use Rattle.description.specs.Tables.{table_kinds, table_limit, round_packets}
+use Rattle.slot_plan.specs.Numbered.{numbered}
+use Rattle.plan_maker.specs.FirstNumbers.{first_of}
+
+-- of a stream: its packets come in the long run as it declares, those of a group of units in the time of a group
+abbrev pub stream_load : ℕ → DescribedStream → ℕ
+stream_load rate s = parts * steady_packets s.allowance / (steady_time s.allowance s.interval * rate)
+
+-- of what comes k packets at a time, each time within a limit in ms
+abbrev pub recurring_load : ℕ → ℕ → ℕ → ℕ
+recurring_load rate limit k = parts * k / max 1 (limit * rate / slot_ms_at_1bps)
+
+-- the sum of the numbers of the elements of a list, each made from the element and its number, from 0
+abbrev pub total : {A : Type 0} → (ℕ → A → ℕ) → List A → ℕ
+total f xs = sum_by (λ n. n) (numbered (λ i x. f i x ∷ []) 0 xs)
+
+abbrev pub streams_load : Described → ℕ → ℕ
+streams_load d rate = total (λ _ s. stream_load rate s) d.streams
+
+abbrev pub pcrs_load : Described → ℕ → ℕ
+pcrs_load d rate = total (λ _ p. recurring_load rate p.pcr_limit 1) d.programs
+
+abbrev pub tables_load : Described → ℕ → ℕ
+tables_load d rate = total (λ t _. recurring_load rate (table_limit d t) (round_packets d t)) (table_kinds d)
+
+-- that of all items, on an output of that rate
+abbrev pub load : Described → ℕ → ℕ
+load d rate = streams_load d rate + (pcrs_load d rate + tables_load d rate)
+
+-- whether such an output has slots enough
+abbrev pub has_slots : Described → ℕ → Bool
+has_slots d rate = nat_le (load d rate) parts
+
+-- the least rate above the description's own that has slots enough
+abbrev pub least_rate : Described → Option ℕ
+least_rate d = option_map (λ more. d.rate + 1 + more) (first_of (GREATEST_RATE - d.rate) (λ more. has_slots d (d.rate + 1 + more)))

@@ -1,9 +1,0 @@
-use Rattle.std.proofs.Common.{◌≡◌, [], ◌∷◌, ◌++◌, take}
-use Rattle.slot_plan.specs.Numbered.{numbered}
-use Rattle.slot_plan.specs.declared.slot.Slot.TheVariants.{Stream}
-use Rattle.plan_search.specs.Spacings.{spacing, stream_room}
-use Rattle.plan_search.proofs.spacing.push_streams.Given as goal
-
-abbrev pub invariant-loop-i : goal.invariant-loop-i
-invariant-loop-i g l =
-    l.items.items ≡ l.initial.items.items ++ numbered (λ i x. record { slot = Stream i; spacing = spacing (stream_room l.description x) } ∷ []) 0 (take l.i l.description.streams)

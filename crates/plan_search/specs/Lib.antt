@@ -1,6 +1,0 @@
-pub mod FirstNumbers
-pub mod Certificates
-pub mod Spacings
-pub mod PlainPlan
-pub mod Loads
-pub mod Reasons

@@ -1,5 +1,0 @@
-use Rattle.round_trip_pid.proofs.TablesAndStreams.{streams_carry}
-use Rattle.round_trip_pid.proofs.carried.streams_carry.Goals as goal
-
-pub returns : goal.returns
-returns c = streams_carry

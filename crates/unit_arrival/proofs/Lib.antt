@@ -1,2 +1,0 @@
-pub mod EntryPeaks
-pub mod UnitBytes

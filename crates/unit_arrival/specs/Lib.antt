@@ -1,2 +1,0 @@
-pub mod Removal
-pub mod Entry

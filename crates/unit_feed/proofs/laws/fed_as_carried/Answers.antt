@@ -1,5 +1,0 @@
-use Rattle.unit_feed.proofs.FedUnits.{as_carried}
-use Rattle.unit_feed.proofs.laws.fed_as_carried.Goals as goal
-
-pub returns : goal.returns
-returns c = as_carried

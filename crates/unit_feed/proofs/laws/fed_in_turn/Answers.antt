@@ -1,5 +1,0 @@
-use Rattle.unit_feed.proofs.FedUnits.{in_turn}
-use Rattle.unit_feed.proofs.laws.fed_in_turn.Goals as goal
-
-pub returns : goal.returns
-returns c = in_turn

@@ -1,9 +1,0 @@
-pub mod Clocks
-pub mod EachStream
-pub mod Feeding
-pub mod Laws
-pub mod Maps
-pub mod MovedApart
-pub mod Origins
-pub mod StreamFeeding
-pub mod Ticks

@@ -1,2 +1,0 @@
-mod NextStream
-mod MergedUnits

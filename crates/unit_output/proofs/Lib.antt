@@ -1,2 +1,0 @@
-pub mod PendingOutput
-pub mod PassedStreams

@@ -1,9 +1,0 @@
-use Rattle.viewed_streams.proofs.ClockedTables.{clocked_tables_law}
-use Rattle.viewed_streams.proofs.ClockedWindows.{clocked_window_law}
-use Rattle.viewed_streams.proofs.laws.clocked_windows.Goals as goal
-
-pub returns-clause-tables : goal.returns-clause-tables
-returns-clause-tables c = clocked_tables_law
-
-pub returns-clause-window : goal.returns-clause-window
-returns-clause-window c = clocked_window_law
