@@ -8,16 +8,16 @@ use Rattle.std.specs.Option.{option_map}
 use Rattle.ts_packet.specs.declared.packet.PacketError.{PacketError}
 use Rattle.ts_packet.specs.Reading.{packet_at}
 use Rattle.ts_packet.specs.Views.{PacketView}
-use Rattle.stream_arrival.specs.ArrivalClocks.{ArrivalClockState, line_to, no_reference, without_last}
-use Rattle.stream_arrival.specs.ArrivalClocks as clocks
-use Rattle.stream_arrival.specs.declared.arrival.Arrival.{Arrival}
-use Rattle.stream_arrival.specs.declared.arrival.Arrival.TheVariants.{Unknown, OnLines}
-use Rattle.packet_arrival.specs.declared.clock.PcrSample.{PcrSample}
-use Rattle.packet_arrival.specs.declared.line.Line.{Line}
-use Rattle.pcr_errors.specs.Samples.{pcr_sample}
+use Rattle.arrival.specs.ArrivalClocks.{ArrivalClockState, line_to, no_reference, without_last}
+use Rattle.arrival.specs.ArrivalClocks as clocks
+use Rattle.arrival.specs.declared.arrival.Arrival.{Arrival}
+use Rattle.arrival.specs.declared.arrival.Arrival.TheVariants.{Unknown, OnLines}
+use Rattle.arrival.specs.declared.clock.PcrSample.{PcrSample}
+use Rattle.arrival.specs.declared.line.Line.{Line}
+use Rattle.tr101290.specs.Samples.{pcr_sample}
 use Rattle.stream_programs.specs.Programs.{FoundProgramsView}
-use Rattle.named_streams.specs.NamedStreams.{NamedView, clock_in, none_taken}
-use Rattle.named_streams.specs.NamedStreams as naming
+use Rattle.ts_tables.specs.NamedStreams.{NamedView, clock_in, none_taken}
+use Rattle.ts_tables.specs.NamedStreams as naming
 use Rattle.clocked_packets.specs.declared.packet_queue.ClockPid.{ClockPid}
 use Rattle.clocked_packets.specs.declared.packet_queue.ClockPid.TheVariants.{OfFirst, OfProgram, Known}
 

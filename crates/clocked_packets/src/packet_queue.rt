@@ -3,16 +3,15 @@ ghost use Rattle.std.specs.Prelude.{◌≡◌, ◌∷◌, [], ◌++◌, IfOk, If
 ghost use Rattle.bit_fields.specs.Reading.{Gives};
 ghost use Rattle.ts_packet.specs.Views.{PacketView, packet_view};
 ghost use Rattle.ts_packet.specs.declared.packet.PacketError.{PacketError};
-ghost use Rattle.packet_arrival.specs.Clock.{IsInRange};
+ghost use Rattle.arrival.specs.Clock.{IsInRange};
 ghost use Rattle.clocked_packets.specs.Waiting as spec;
 
-use named_streams::NamedStreams;
-use packet_arrival::PcrSample;
-use pcr_errors::pcr_sample;
+use arrival::{Arrival, ArrivalClock, ClockLine, ClockLines, PcrSample};
 use std::alloc::{AllocError, Global};
 use std::marker::Model;
-use stream_arrival::{Arrival, ArrivalClock, ClockLine, ClockLines};
+use tr101290::pcr_sample;
 use ts_packet::{Packet, PacketError, read_packet};
+use ts_tables::NamedStreams;
 
 /// The most packets that wait.
 pub const MOST_WAITING: usize = 65_536;
@@ -88,7 +87,7 @@ fn reference_read(
 }
 
 // PCR_PID of a program, once the first tables are known.
-#[tactic(auto, unfolding(crate::specs::Waiting::program_pid_in, named_streams::specs::NamedStreams::clock_by))]
+#[tactic(auto, unfolding(crate::specs::Waiting::program_pid_in, ts_tables::specs::NamedStreams::clock_by))]
 fn program_pid(number: u16, named: &NamedStreams) -> ClockPid
     ensures { result ≡ spec.program_pid number named.now }
 {

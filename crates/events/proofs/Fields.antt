@@ -2,6 +2,16 @@
 use Rattle.std.proofs.Common.{◌≡◌, [], ◌∷◌, refl}
 use Rattle.events.specs.FieldViews.{FieldView}
 
+pub one : (a z : FieldView) → a ≡ z → a ∷ [] ≡ z ∷ []
+one a z p = rw p refl
+
+pub two : (a b y z : FieldView) → a ≡ y → b ≡ z → a ∷ b ∷ [] ≡ y ∷ z ∷ []
+two a b y z p q = rw (p, q) refl
+
+pub three : (a b c x y z : FieldView) → a ≡ x → b ≡ y → c ≡ z →
+    a ∷ b ∷ c ∷ [] ≡ x ∷ y ∷ z ∷ []
+three a b c x y z p q r = rw (p, q, r) refl
+
 pub four : (a b c d w x y z : FieldView) → a ≡ w → b ≡ x → c ≡ y → d ≡ z →
     a ∷ b ∷ c ∷ d ∷ [] ≡ w ∷ x ∷ y ∷ z ∷ []
 four a b c d w x y z p q r s = rw (p, q, r, s) refl

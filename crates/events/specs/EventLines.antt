@@ -4,7 +4,7 @@ use Rattle.events.specs.declared.event.BufferExcess.{BufferExcess}
 use Rattle.events.specs.declared.event.ClockFault.{ClockFault}
 use Rattle.events.specs.declared.event.ClockTotals.{ClockTotals}
 use Rattle.events.specs.declared.event.Event.{Event}
-use Rattle.events.specs.declared.event.Event.TheVariants.{Stream, Window, Held, Units, Excess, MainExcess, MultiplexingExcess, ElementaryExcess, SystemExcess, SystemMainExcess, Late, ElementaryLate, Ahead, PcrRepetition, PcrDiscontinuity, PcrAccuracy, TableRepetition, Unclocked, Transport, Main, Multiplexing, Elementary, System, Clock, Table, Pid, Unreferenced, Missing, End}
+use Rattle.events.specs.declared.event.Event.TheVariants.{Input, Stream, Window, Held, Units, Excess, MainExcess, MultiplexingExcess, ElementaryExcess, SystemExcess, SystemMainExcess, Late, ElementaryLate, Ahead, PcrRepetition, PcrDiscontinuity, PcrAccuracy, TableRepetition, Unclocked, Refused, Continuity, CheckWord, Transport, Main, Multiplexing, Elementary, System, Clock, Table, Pid, Unreferenced, Missing, Check, End}
 use Rattle.events.specs.declared.event.FarAhead.{FarAhead}
 use Rattle.events.specs.declared.event.HeldFigures.{HeldFigures}
 use Rattle.events.specs.declared.event.LateUnit.{LateUnit}
@@ -19,7 +19,9 @@ use Rattle.events.specs.declared.event.TableTotals.{TableTotals}
 use Rattle.events.specs.declared.event.TransportTotals.{TransportTotals}
 use Rattle.events.specs.declared.event.UnclockedPackets.{UnclockedPackets}
 use Rattle.events.specs.declared.event.UnitFigures.{UnitFigures}
+use Rattle.events.specs.FaultLines.{check_line, check_word_line, continuity_line, refused_line}
 use Rattle.events.specs.FieldViews.{FieldView}
+use Rattle.events.specs.InputLines.{input_line}
 use Rattle.events.specs.PidNames.{line_word}
 use Rattle.events.specs.ReportLines.{field_text, first_text, last_text, line_of, name_text, number_field, quoted, word_field}
 use Rattle.events.specs.VideoLines.{elementary_late_line, elementary_line, multiplexing_line}
@@ -142,6 +144,7 @@ reference_line json word pid = line_of json word (number_field (codes "pid") pid
 -- 3. Any event, and events one after another
 
 unfoldable pub event_line : Bool → Event → List ℕ
+event_line json (Input e) = input_line json e
 event_line json (Stream e) = stream_line json e
 event_line json (Window w) = window_line json w
 event_line json (Held e) = held_line json e
@@ -160,6 +163,9 @@ event_line json (PcrDiscontinuity e) = clock_fault_line json (codes "pcr_discont
 event_line json (PcrAccuracy e) = clock_fault_line json (codes "pcr_accuracy") e
 event_line json (TableRepetition e) = table_fault_line json e
 event_line json (Unclocked e) = unclocked_line json e
+event_line json (Refused e) = refused_line json e
+event_line json (Continuity e) = continuity_line json e
+event_line json (CheckWord e) = check_word_line json e
 event_line json (Transport e) = transport_line json e
 event_line json (Main e) = main_line json e
 event_line json (Multiplexing e) = multiplexing_line json e
@@ -170,6 +176,7 @@ event_line json (Table e) = table_line json e
 event_line json (Pid e) = pid_line json e
 event_line json (Unreferenced pid) = reference_line json (codes "unreferenced") pid
 event_line json (Missing pid) = reference_line json (codes "missing") pid
+event_line json (Check e) = check_line json e
 event_line json (End e) = end_line json e
 
 abbrev pub lines_of : Bool → List Event → List ℕ

@@ -3,4 +3,9 @@ pub mod Windows
 pub mod FieldViews
 pub mod ReportLines
 pub mod EventLines
+pub mod Checks
+pub mod CheckCounts
+pub mod FaultLines
 pub mod VideoLines
+pub mod FileForms
+pub mod InputLines

@@ -2,6 +2,9 @@
 //!
 //! Times are in ticks of 27 MHz, moments from the stream's first byte on; numbers of packets and of windows begin with 0; sizes and
 //! fullness are in bytes, rates in bits a second.
+use crate::check_counts::CheckTotals;
+use crate::input_event::InputEvent;
+use crate::packet_fault::{CheckWordFault, CounterFault, RefusedPacket};
 use crate::pid_name::PidName;
 use crate::video_event::{ElementaryLate, ElementaryTotals, MultiplexingTotals};
 use std::marker::Model;
@@ -233,6 +236,7 @@ pub struct ReportEnd {
 /// An event of a stream, by the word of its line.
 #[derive(Drop)]
 pub enum Event {
+    Input(InputEvent),
     Stream(StreamBegin),
     Window(WindowFigures),
     Held(HeldFigures),
@@ -252,6 +256,9 @@ pub enum Event {
     PcrAccuracy(ClockFault),
     TableRepetition(TableFault),
     Unclocked(UnclockedPackets),
+    Refused(RefusedPacket),
+    Continuity(CounterFault),
+    CheckWord(CheckWordFault),
     Transport(TransportTotals),
     Main(MainTotals),
     Multiplexing(MultiplexingTotals),
@@ -264,5 +271,6 @@ pub enum Event {
     Unreferenced(u16),
     /// A PID that a table names, and that has no packet.
     Missing(u16),
+    Check(CheckTotals),
     End(ReportEnd),
 }

@@ -3,10 +3,12 @@ ghost use Rattle.std.specs.Prelude.{◌≡◌, ◌++◌, OnOk, string_bytes};
 ghost use Rattle.events.specs.EventLines as spec;
 
 use crate::event::Event;
+use crate::fault_lines::{write_check, write_check_word, write_continuity, write_refused};
 use crate::figure_lines::{
     write_clock, write_end, write_held, write_main, write_pid, write_system, write_table,
     write_transport, write_units,
 };
+use crate::input_lines::write_input;
 use crate::lines::{number, write_line};
 use crate::packet_lines::{
     write_ahead, write_clock_fault, write_excess, write_late, write_program_excess, write_stream,
@@ -33,6 +35,7 @@ fn write_event(
     ensures { OnOk result (string_bytes text.new ≡ string_bytes text.old ++ spec.event_line json event.now) }
 {
     match event {
+        Event::Input(e) => write_input(text, json, e),
         Event::Stream(e) => write_stream(text, json, e),
         Event::Window(window) => write_window(alloc, text, json, window),
         Event::Held(e) => write_held(text, json, e),
@@ -51,6 +54,9 @@ fn write_event(
         Event::PcrAccuracy(e) => write_clock_fault(text, json, "pcr_accuracy", e),
         Event::TableRepetition(e) => write_table_fault(text, json, e),
         Event::Unclocked(e) => write_unclocked(text, json, e),
+        Event::Refused(e) => write_refused(text, json, e),
+        Event::Continuity(e) => write_continuity(text, json, e),
+        Event::CheckWord(e) => write_check_word(text, json, e),
         Event::Transport(e) => write_transport(text, json, e),
         Event::Main(e) => write_main(text, json, e),
         Event::Multiplexing(e) => write_multiplexing(text, json, e),
@@ -61,6 +67,7 @@ fn write_event(
         Event::Pid(e) => write_pid(text, json, e),
         Event::Unreferenced(pid) => write_reference(text, json, "unreferenced", *pid),
         Event::Missing(pid) => write_reference(text, json, "missing", *pid),
+        Event::Check(e) => write_check(text, json, e),
         Event::End(e) => write_end(text, json, e),
     }
 }

@@ -2,7 +2,7 @@
 use Rattle.std.proofs.Common.{◌≡◌, ◌≢◌, ◌∙◌, sym, ℕ, zero, suc, ◌+◌, ◌==◌, ◌<◌, ◌≤◌, Bool, true, false, cond, List, [], ◌∷◌, ◌++◌, length, set, take, drop, Option, Some, None, Result, Ok, Err, refl, ap, subst, arith}
 use Rattle.std.proofs.lemmas.Bool.Decides.{nat_tests}
 use Rattle.std.specs.Prelude.{slice_get, OnOk, ◌||◌, nat_le}
-use Rattle.page_curves.specs.Curves.{Sample, IsCurve}
+use Rattle.page_charts.specs.Curves.{Sample, IsCurve}
 use Rattle.page_charts.specs.declared.pid_curves.PidCurve.{PidCurve}
 use Rattle.events.specs.declared.pid_name.PidName.{PidName}
 use Rattle.page_charts.specs.PidCurves.{AreCurves, IsKept, KeptCurve, has_pid, is_closed, kept_name, opened, sampled, with_sample}

@@ -1,3 +1,7 @@
+pub mod Merging
+pub mod Neighbours
+pub mod Widening
+pub mod Values
 pub mod Backward
 pub mod Kept
 pub mod Scales

@@ -1,6 +1,6 @@
 -- A picture of curves: their key, their lines beside their limits, and their numbers.
 use Rattle.std.specs.Prelude.{ℕ, ◌%◌, ◌==◌, nat_lt, if◌then◌else◌, List, [], ◌++◌, length, codes, decimal}
-use Rattle.page_curves.specs.Slots as slots
+use Rattle.page_charts.specs.Slots as slots
 use Rattle.page_charts.specs.declared.frame.ChartUnit.{ChartUnit}
 use Rattle.page_charts.specs.declared.frame.Frame.{Frame}
 use Rattle.page_charts.specs.declared.pid_curves.PidCurve.{PidCurve}

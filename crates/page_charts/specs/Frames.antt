@@ -1,6 +1,6 @@
 -- The frame of a picture: its scales, and what is drawn of a slot.
 use Rattle.std.specs.Prelude.{ℕ, ◌+◌, ◌-◌, ◌*◌, ◌/◌, ◌^◌, min, max, nat_lt, if◌then◌else◌, List, ◌++◌, codes, decimal, flat_map, Option, Some, None}
-use Rattle.page_curves.specs.declared.bounds.Bounds.{Bounds}
+use Rattle.page_charts.specs.declared.bounds.Bounds.{Bounds}
 use Rattle.page_charts.specs.declared.frame.ChartUnit.{ChartUnit}
 use Rattle.page_charts.specs.declared.frame.ChartUnit.TheVariants.{BitRate, Bytes, Time}
 use Rattle.page_charts.specs.declared.frame.Frame.{Frame}

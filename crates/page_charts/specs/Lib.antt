@@ -1,3 +1,7 @@
+pub mod Bounds
+pub mod Slots
+pub mod Curves
+pub mod Laws
 pub mod Numbers
 pub mod PidLabels
 pub mod Scale

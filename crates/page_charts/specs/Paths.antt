@@ -1,6 +1,6 @@
 -- A curve as paths: what `d` of an SVG path says (SVG 2, 9.3).
 use Rattle.std.specs.Prelude.{ℕ, suc, nat_le, if◌then◌else◌, List, [], ◌∷◌, ◌++◌, codes, decimal, Option, Some, None}
-use Rattle.page_curves.specs.declared.bounds.Bounds.{Bounds}
+use Rattle.page_charts.specs.declared.bounds.Bounds.{Bounds}
 use Rattle.page_charts.specs.declared.frame.Frame.{Frame}
 use Rattle.page_charts.specs.Scale.{across, height_of}
 use Rattle.page_charts.specs.Frames.{shown, slots_of, top_value}

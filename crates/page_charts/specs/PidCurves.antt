@@ -1,7 +1,7 @@
 -- Curves by PID, by the values that have come and nothing else.
 use Rattle.std.specs.Prelude.{◌≡◌, ℕ, ◌==◌, ◌||◌, max, nat_le, Bool, true, false, if◌then◌else◌, List, [], ◌∷◌, ◌++◌, length, Option, Some, None}
-use Rattle.page_curves.specs.Curves.{IsCurve, Sample}
-use Rattle.page_curves.specs.Slots as slots
+use Rattle.page_charts.specs.Curves.{IsCurve, Sample}
+use Rattle.page_charts.specs.Slots as slots
 use Rattle.events.specs.declared.pid_name.PidName.{PidName}
 use Rattle.page_charts.specs.declared.pid_curves.PidCurve.{PidCurve}
 

@@ -1,6 +1,6 @@
 -- The numbers of curves as a table.
 use Rattle.std.specs.Prelude.{ℕ, ◌-◌, ◌*◌, ◌^◌, min, List, [], ◌++◌, codes, decimal, flat_map, Option, Some, None}
-use Rattle.page_curves.specs.declared.bounds.Bounds.{Bounds}
+use Rattle.page_charts.specs.declared.bounds.Bounds.{Bounds}
 use Rattle.page_charts.specs.declared.frame.Frame.{Frame}
 use Rattle.page_charts.specs.declared.pid_curves.PidCurve.{PidCurve}
 use Rattle.page_charts.specs.Numbers.{tenths}

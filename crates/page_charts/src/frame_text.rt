@@ -2,10 +2,10 @@
 ghost use Rattle.std.specs.Prelude.{◌≡◌, ◌++◌, ◌<◌, ◌≤◌, ◌^◌, OnOk, flat_map, string_bytes};
 ghost use Rattle.page_charts.specs.Frames as spec;
 
+use crate::bounds::Bounds;
 use crate::frame::{ChartUnit, Frame};
 use crate::numbers::write_tenths;
 use crate::scale::{GREATEST_VALUE, LEFT, WIDTH, height_of, scale_for, slots_in};
-use page_curves::Bounds;
 use std::alloc::AllocError;
 use std::fmt::Write;
 

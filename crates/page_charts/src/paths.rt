@@ -1,12 +1,12 @@
 //! A curve as paths: what `d` of an SVG path says.
 ghost use Rattle.std.specs.Prelude.{◌≡◌, ◌++◌, ◌<◌, ◌≤◌, OnOk, length, string_bytes};
-ghost use Rattle.page_curves.specs.Slots.{slot_at};
+ghost use Rattle.page_charts.specs.Slots.{slot_at};
 ghost use Rattle.page_charts.specs.Paths as spec;
 ghost use Rattle.page_charts.specs.Paths.{numbered, numbered_back};
 
+use crate::bounds::Bounds;
 use crate::frame::Frame;
 use crate::scale::{across, height_of};
-use page_curves::Bounds;
 use std::alloc::AllocError;
 use std::fmt::Write;
 

@@ -1,11 +1,11 @@
 //! Curves by PID.
 ghost use Rattle.std.specs.Prelude.{◌≡◌, ◌≤◌, length, List, [], OnOk};
-ghost use Rattle.page_curves.specs.Curves.{sample};
+ghost use Rattle.page_charts.specs.Curves.{sample};
 ghost use Rattle.page_charts.specs.PidCurves.{AreCurves, KeptCurve, opened, with_sample};
 ghost use Rattle.page_charts.specs.PidCurves as spec;
 
+use crate::curve::Curve;
 use events::PidName;
-use page_curves::Curve;
 use std::alloc::{AllocError, Global};
 
 /// The greatest number of curves: later PIDs have no curve.

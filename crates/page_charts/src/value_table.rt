@@ -3,11 +3,11 @@ ghost use Rattle.std.specs.Prelude.{◌≡◌, ◌++◌, ◌<◌, ◌≤◌, OnO
 ghost use Rattle.page_charts.specs.ValueTables as spec;
 ghost use Rattle.page_charts.specs.Paths.{numbered};
 
+use crate::bounds::Bounds;
 use crate::frame::Frame;
 use crate::frame_text::{unit_name, write_value};
 use crate::numbers::write_tenths;
 use crate::pid_curves::PidCurve;
-use page_curves::Bounds;
 use std::alloc::AllocError;
 use std::fmt::Write;
 

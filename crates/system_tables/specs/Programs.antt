@@ -3,16 +3,16 @@
 -- is drained at 80,000 bits a second, or at a constant rate R at R / 500, where that is more.
 use Rattle.std.specs.Prelude.{ℕ, ◌+◌, ◌-◌, ◌*◌, ◌^◌, ◌==◌, ◌&&◌, ◌||◌, min, nat_le, nat_lt, Bool, if◌then◌else◌, List, [], ◌++◌, length, map, flat_map, Option, Some, None}
 use Rattle.std.specs.Option.{option_map}
-use Rattle.decoder_buffers.specs.Queues.{bytes_within}
-use Rattle.transport_buffer.specs.declared.excess.Excess.{Excess}
-use Rattle.stream_arrival.specs.Arrivals.{has_times, lead_of, step_of, times_at}
-use Rattle.stream_arrival.specs.declared.arrival.Arrival.{Arrival}
-use Rattle.stream_arrival.specs.declared.arrival.Arrival.TheVariants.{Unknown, AtRate, OnLines}
-use Rattle.stream_view.specs.Limits.{bsys_size, last_index, most_bytes, tb_size}
-use Rattle.stream_view.specs.WatchedQueues.{all_entered, empty_queue, ended_by, left_at}
-use Rattle.stream_view.specs.declared.watched_queue.WatchedQueue.{WatchedQueue}
+use Rattle.tstd.specs.Queues.{bytes_within}
+use Rattle.tstd_rows.specs.declared.excess.Excess.{Excess}
+use Rattle.arrival.specs.Arrivals.{has_times, lead_of, step_of, times_at}
+use Rattle.arrival.specs.declared.arrival.Arrival.{Arrival}
+use Rattle.arrival.specs.declared.arrival.Arrival.TheVariants.{Unknown, AtRate, OnLines}
+use Rattle.tstd_rows.specs.Limits.{bsys_size, last_index, most_bytes, tb_size}
+use Rattle.tstd_rows.specs.WatchedQueues.{all_entered, empty_queue, ended_by, left_at}
+use Rattle.tstd_rows.specs.declared.watched_queue.WatchedQueue.{WatchedQueue}
 use Rattle.stream_programs.specs.Programs.{FoundProgramView}
-use Rattle.named_streams.specs.NamedStreams.{NamedView}
+use Rattle.ts_tables.specs.NamedStreams.{NamedView}
 use Rattle.system_tables.specs.declared.table_excess.TableBuffer.{TableBuffer}
 use Rattle.system_tables.specs.declared.table_excess.TableBuffer.TheVariants.{Transport, System}
 use Rattle.system_tables.specs.declared.table_excess.TableExcess.{TableExcess}

@@ -3,12 +3,11 @@ ghost use Rattle.std.specs.Prelude.{◌≡◌, ◌<◌, ◌≤◌, ◌++◌, ◌
 ghost use Rattle.system_tables.specs.Programs as spec;
 
 use crate::table_excess::{TableExcess, append_ended};
+use arrival::Arrival;
 use std::alloc::{AllocError, Global};
 use std::marker::Model;
-use stream_arrival::Arrival;
 use stream_programs::FoundProgram;
-use stream_view::{EndedExcesses, SystemView};
-use transport_buffer::Excess;
+use tstd_rows::{EndedExcesses, Excess, SystemView};
 
 // Packets from this one on enter no buffer: the stream is longer than 2^40 bytes.
 const LAST_INDEX: u64 = 5_848_000_000;

@@ -4,11 +4,11 @@ ghost use Rattle.system_tables.specs.Programs as spec;
 
 use crate::program_tables::ProgramTables;
 use crate::table_excess::TableExcess;
-use named_streams::NamedStreams;
+use arrival::Arrival;
 use std::alloc::{AllocError, Global};
 use std::marker::Model;
-use stream_arrival::Arrival;
 use stream_programs::FoundProgram;
+use ts_tables::NamedStreams;
 
 /// The programs of a stream's first tables, once these are known, and the buffers of their tables from then on.
 #[derive(Drop)]

@@ -3,8 +3,7 @@ ghost use Rattle.std.specs.Prelude.{◌≡◌, ◌++◌, OnOk};
 ghost use Rattle.system_tables.specs.Programs as spec;
 
 use std::alloc::AllocError;
-use stream_view::EndedExcesses;
-use transport_buffer::Excess;
+use tstd_rows::{EndedExcesses, Excess};
 
 /// A buffer of a program's tables.
 #[derive(Clone, Copy)]

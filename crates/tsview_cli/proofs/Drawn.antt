@@ -1,71 +1,81 @@
--- A page that is drawn of a stream piece by piece, whole packets in each but the last.
-use Rattle.std.proofs.Common.{◌≡◌, ℕ, ◌*◌, ◌/◌, ◌%◌, List, [], ◌∷◌, ◌++◌, length, refl, sym, subst, arith, Result, Ok, Err}
+-- A page that is drawn of a stream piece by piece.
+use Rattle.std.proofs.Common.{◌≡◌, ◌∙◌, ℕ, ◌%◌, Bool, List, [], ◌∷◌, ◌++◌, refl, sym, ap, subst, Result, Ok, Err, Option, append_assoc}
 use Rattle.std.specs.Prelude.{IfErr, IfOk, OnOk, if◌then◌else◌, string_bytes}
-use Rattle.ts_packet.specs.PidList.{cut_packets}
-use Rattle.stream_report.specs.Choices.{RequestView}
-use Rattle.stream_report.specs.ClockedViews.{ClockedState, after_all, after_packet, start}
-use Rattle.view_page.specs.Pages.{PageState}
+use Rattle.capture.specs.Captures.{Part, capture_of}
+use Rattle.events.specs.declared.event.Event.{Event}
+use Rattle.ts_report.specs.Choices.{RequestView}
+use Rattle.analysis.specs.Analysis.{AnalysisState, start}
+use Rattle.view_page.specs.Pages.{IsPage, PageState, after_event, after_events}
+use Rattle.view_page.specs.declared.page.Page.{Page}
 use Rattle.devices.specs.Devices.{Device}
 use Rattle.devices.specs.WholeInput.{ReadsInput, TakesAll}
 use Rattle.devices.specs.declared.halt.Halt.{Halt}
 use Rattle.devices.specs.declared.halt.Halt.TheVariants.{Memory}
+use Rattle.devices.specs.Outcomes.{printed}
+use Rattle.tsview_cli.specs.CapturedStreams.{IsEnded, IsMore, IsSoFar, after_parts, events_of, last_events, left_in, parts_in, rate_in}
+use Rattle.tsview_cli.specs.declared.captured.CapturedView.{CapturedView}
 use Rattle.tsview_cli.specs.declared.drawing.Drawing.{Drawing}
 use Rattle.tsview_cli.specs.declared.drawing.DrawnPage.{DrawnPage}
-use Rattle.tsview_cli.specs.Drawing.{Draws, IsDrawn, IsWritten, DrawsPage, TakesPackets, drawn, first_page, page_after, page_of}
-use Rattle.devices.specs.Outcomes.{printed}
-use Rattle.tsview_cli.specs.Viewing.{kept_of, left_in}
-use Rattle.tsview_cli.proofs.Pieces.{after_both, cut_both}
+use Rattle.tsview_cli.specs.Drawing.{Draws, DrawsPage, EndsDrawn, IsDrawn, IsWritten, TakesBytes, all_events, first_page, is_good_from}
+use Rattle.tsview_cli.proofs.CapturedParts.{events_both}
 
--- 1. Packets one after another
+-- 1. Events one after another
 
-pub takes_none : (drawing : Drawing) → TakesPackets [] drawing drawing
-unfolding after_all drawn
+pub page_both : (p : PageState) (found more : List Event) → after_events p (found ++ more) ≡ after_events (after_events p found) more
+unfolding after_events
+page_both p [] more = refl
+page_both p (event ∷ found) more = page_both (after_event p event) found more
+
+pub drawn_none : (stream : CapturedView) (page : Page) (s : AnalysisState) (p : PageState) → IsSoFar s stream [] [] → IsPage page p → IsDrawn (record { stream = stream; page = page }) s p []
+unfolding after_events events_of
+drawn_none stream page s p so_far is = record { found = []; so_far = so_far; page = is }
+
+-- the page takes the events that more bytes settle
+pub drawn_more : (s : AnalysisState) (p : PageState) (stream : CapturedView) (page : Page) (bytes : List ℕ) (found : List Part) (events : List Event) → IsMore s stream bytes found → events ≡ stream.parts.events.items →
+    IsPage page (after_events (after_events p (events_of s found)) events) → IsDrawn (record { stream = stream; page = page }) s p bytes
+drawn_more s p stream page bytes found events m is taken = record {
+  found = found ++ m.more;
+  so_far = m.so_far;
+  page = subst (IsPage page)
+      (ap (after_events (after_events p (events_of s found))) (is ∙ m.events)
+      ∙ sym (page_both p (events_of s found) (events_of (after_parts s found) m.more))
+      ∙ ap (after_events p) (sym (events_both s found m.more)))
+      taken;
+}
+
+pub drawn_end : (rate : Option ℕ) (s : AnalysisState) (p : PageState) (stream : CapturedView) (page : Page) (bytes : List ℕ) (found : List Part) (events : List Event) (good : Bool) →
+    IsEnded rate s stream bytes found good → events ≡ stream.parts.events.items → IsPage page (after_events (after_events p (events_of s found)) events) → EndsDrawn rate page s p bytes good
+drawn_end rate s p stream page bytes found events good e is taken =
+    let last = last_events rate (capture_of bytes).form (after_parts s (parts_in bytes)) (left_in bytes) in
+    let before = events_of s found in
+    let more = events_of (after_parts s found) e.more in
+    record {
+      is = subst (IsPage page)
+          (ap (after_events (after_events p before)) (is ∙ e.events)
+          ∙ sym (page_both p before (more ++ last))
+          ∙ ap (after_events p) (sym (append_assoc before more last) ∙ ap (λ (l : List Event). l ++ last) (sym (events_both s found e.more) ∙ ap (events_of s) (sym e.parts_are))))
+          taken;
+      good_is = e.good_is;
+    }
+
+pub takes_none : (drawing : Drawing) → TakesBytes [] drawing drawing
 takes_none drawing s p d = d
-
-drawn_both : (s : ClockedState) (p : PageState) (packets more : List (List ℕ)) → drawn s p (packets ++ more) ≡ drawn (after_all s packets) (drawn s p packets) more
-unfolding after_all drawn
-drawn_both s p [] more = refl
-drawn_both s p (packet ∷ packets) more = drawn_both (after_packet s packet) (page_after s p packet) packets more
-
-takes_both : (packets more : List (List ℕ)) (first mid now : Drawing) → TakesPackets packets first mid → TakesPackets more mid now → TakesPackets (packets ++ more) first now
-takes_both packets more first mid now a b s p d =
-    subst (λ (q : PageState). IsDrawn now (after_all s (packets ++ more)) q) (sym (drawn_both s p packets more))
-    (subst (λ (t : ClockedState). IsDrawn now t (drawn (after_all s packets) (drawn s p packets) more)) (sym (after_both s packets more))
-    (b (after_all s packets) (drawn s p packets) (a s p d)))
-
-pub takes_more : {V E : Type 0} (first before after : Drawing) (bytes piece : List ℕ) (r : Result V E) → length bytes % 188 ≡ 0 →
-    TakesPackets (cut_packets bytes) first before → OnOk r (TakesPackets (cut_packets piece) before after) → OnOk r (TakesPackets (cut_packets (bytes ++ piece)) first after)
-takes_more first before after bytes piece (Ok v) whole a b =
-    let count : length bytes ≡ 188 * (length bytes / 188) = omega (arith, whole) in
-    subst (λ (packets : List (List ℕ)). TakesPackets packets first after) (sym (cut_both (length bytes / 188) bytes piece count))
-    (takes_both (cut_packets bytes) (cut_packets piece) first before after a b)
-takes_more first before after bytes piece (Err e) whole a b = tt
-
--- a packet more
-takes_one : (packet : List ℕ) (before after : Drawing) → ((s : ClockedState) (p : PageState) → IsDrawn before s p → IsDrawn after (after_packet s packet) (page_after s p packet)) →
-    TakesPackets (packet ∷ []) before after
-unfolding after_all drawn
-takes_one packet before after b s p d = b s p d
-
-pub one_more : (packets : List (List ℕ)) (packet : List ℕ) (first before after : Drawing) → TakesPackets packets first before →
-    ((s : ClockedState) (p : PageState) → IsDrawn before s p → IsDrawn after (after_packet s packet) (page_after s p packet)) → TakesPackets (packets ++ packet ∷ []) first after
-one_more packets packet first before after a b = takes_both packets (packet ∷ []) first before after a (takes_one packet before after b)
 
 -- 2. The page of the whole input
 
-pub all_drawn : (request : RequestView) (input : Device) (first now : Drawing) (size : ℕ) (result : Result DrawnPage Halt) → IsDrawn first (start request) (first_page request) →
-    TakesAll (λ bytes. TakesPackets (cut_packets bytes) first now) input size →
-    ((s : ClockedState) (p : PageState) → IsDrawn now s p → IfOk result (λ page. IsWritten page s p (size % 188))) → IfErr result (λ halt. halt ≡ Memory) → Draws request input result
-all_drawn request input first now size (Ok page) d t written memory = record {
+pub all_drawn : (request : RequestView) (input : Device) (first now : Drawing) (size : ℕ) (result : Result DrawnPage Halt) (rate : Option ℕ) → IsDrawn first (start request) (first_page request) [] → rate ≡ rate_in request →
+    TakesAll (λ bytes. TakesBytes bytes first now) input size →
+    ((s : AnalysisState) (p : PageState) (bytes : List ℕ) → IsDrawn now s p bytes → IfOk result (IsWritten rate s p bytes)) → IfErr result (λ halt. halt ≡ Memory) → Draws request input result
+all_drawn request input first now size (Ok page) rate d is t written memory = record {
   bytes = t.bytes;
   read = t.read;
-  written = subst (λ (n : ℕ). IsWritten page (kept_of request t.bytes) (drawn (start request) (first_page request) (cut_packets t.bytes)) (n % 188)) t.size_is
-      (written (kept_of request t.bytes) (drawn (start request) (first_page request) (cut_packets t.bytes)) (t.taken (start request) (first_page request) d));
+  written = subst (λ (r : Option ℕ). IsWritten r (start request) (first_page request) t.bytes page) is
+      (written (start request) (first_page request) t.bytes (t.taken (start request) (first_page request) d));
 }
-all_drawn request input first now size (Err halt) d t written memory = subst (λ (h : Halt). ReadsInput input (Err h)) (sym memory) t.read.1.clean
+all_drawn request input first now size (Err halt) rate d is t written memory = subst (λ (h : Halt). ReadsInput input (Err h)) (sym memory) t.read.1.clean
 
 -- what is written of a page is the page
-pub draws : (request : RequestView) (bytes : List ℕ) (drawn : DrawnPage) → IsWritten drawn (kept_of request bytes) (page_of request bytes) (left_in bytes) →
+pub draws : (request : RequestView) (bytes : List ℕ) (drawn : DrawnPage) → IsWritten (rate_in request) (start request) (first_page request) bytes drawn →
     DrawsPage request bytes (printed (string_bytes drawn.text) (if drawn.good then 0 else 1))
 draws request bytes drawn w = record {
   page = w.page;

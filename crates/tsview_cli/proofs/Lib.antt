@@ -1,3 +1,4 @@
+pub mod CapturedParts
 pub mod Pieces
 pub mod Viewed
 pub mod Drawn

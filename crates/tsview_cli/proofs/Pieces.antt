@@ -1,16 +1,14 @@
--- A stream that is viewed piece by piece, whole packets in each but the last.
-use Rattle.std.proofs.Common.{◌≡◌, ℕ, zero, suc, ◌+◌, ◌*◌, ◌/◌, ◌%◌, ◌<◌, min, Bool, true, List, [], ◌∷◌, ◌++◌, length, take, drop, refl, sym, ap, subst, ◌∙◌, arith, append_assoc, length-append, Option, Some, None, Result, Ok, Err, inl, inr}
+-- A stream that is viewed piece by piece.
+use Rattle.std.proofs.Common.{◌≡◌, ℕ, zero, suc, ◌+◌, ◌*◌, ◌%◌, ◌<◌, min, Bool, true, List, [], ◌∷◌, ◌++◌, length, take, drop, refl, sym, ap, subst, ◌∙◌, arith, append_assoc, length-append, Option, Some, None, Result, Ok, Err, inl, inr}
 use Rattle.std.proofs.KnownBytes.{Appends-nil, Appends-trans}
 use Rattle.std.proofs.lemmas.Grind.{flat_map-append}
-use Rattle.std.proofs.lemmas.List.{length-drop, length-take-le, take-append-drop}
+use Rattle.std.proofs.lemmas.List.{take-append-drop}
 use Rattle.std.specs.Io.KnownBytes.{Appends}
-use Rattle.ts_packet.specs.PidList.{cut_packets}
-use Rattle.ts_packet.proofs.Listing.{first_cut}
-use Rattle.stream_report.specs.declared.clocked_view.ClockedView.{ClockedView}
+use Rattle.capture.specs.Captures.{Part}
 use Rattle.events.specs.EventLines.{event_line, lines_of}
 use Rattle.events.specs.declared.event.Event.{Event}
-use Rattle.stream_report.specs.ClockedViews.{IsClocked, ClockedState, after_all, after_packet, events_all, events_at}
-use Rattle.stream_report.specs.Crowding.{is_crowded}
+use Rattle.analysis.specs.Analysis.{AnalysisState}
+use Rattle.analysis.specs.Analysis.{is_crowded}
 use Rattle.counted_io.specs.Device.{Failed, IsFront}
 use Rattle.devices.specs.Devices.{Port, Device, between}
 use Rattle.devices.specs.Lines.{Stopped, WritesLine}
@@ -19,80 +17,42 @@ use Rattle.devices.specs.declared.halt.Halt.{Halt}
 use Rattle.std.specs.Prelude.{IfOk, IfErr}
 use Rattle.devices.specs.declared.halt.Halt.TheVariants.{Read, Write, Memory}
 use Rattle.devices.proofs.TakenInput.{IsAfter, TakesFront}
-use Rattle.tsview_cli.specs.Viewing.{BeginsWith, Breaks, Reaches, Seen, StopsNext, lines_all}
+use Rattle.tsview_cli.specs.CapturedStreams.{IsSoFar, after_part, after_parts, events_of, part_events}
+use Rattle.tsview_cli.specs.Viewing.{AreSettled, BeginsWith, Breaks, Reaches, Seen, Shows, StopsNext, lines_all}
+use Rattle.tsview_cli.specs.declared.captured.CapturedView.{CapturedView}
+use Rattle.tsview_cli.proofs.CapturedParts.{events_both}
 
--- 1. Bytes that are whole packets, and bytes after them
+-- 1. Lines of parts one after another
 
-pub cut_both : (count : ℕ) (bytes more : List ℕ) → length bytes ≡ 188 * count → cut_packets (bytes ++ more) ≡ cut_packets bytes ++ cut_packets more
-cut_both zero [] more e = refl
-cut_both zero (x ∷ bytes) more e = absurd (omega arith)
-cut_both (suc count) bytes more e =
-    let front = take 188 bytes in
-    let back = drop 188 bytes in
-    let joined : front ++ back ≡ bytes = take-append-drop 188 bytes in
-    let size : length front ≡ 188 = length-take-le 188 bytes (omega arith) in
-    let left : length back ≡ 188 * count = omega (arith, length-drop 188 bytes) in
-    ap (λ (x : List ℕ). cut_packets (x ++ more)) (sym joined)
-    ∙ ap (λ (x : List ℕ). cut_packets x) (append_assoc front back more)
-    ∙ first_cut front (back ++ more) size
-    ∙ ap (λ (x : List (List ℕ)). front ∷ x) (cut_both count back more left)
-    ∙ ap (λ (x : List (List ℕ)). x ++ cut_packets more) (sym (first_cut front back size))
-    ∙ ap (λ (x : List ℕ). cut_packets x ++ cut_packets more) joined
+pub lines_both : (json : Bool) (s : AnalysisState) (parts more : List Part) →
+    lines_all json s (parts ++ more) ≡ lines_all json s parts ++ lines_all json (after_parts s parts) more
+lines_both json s parts more =
+    ap (lines_of json) (events_both s parts more) ∙ flat_map-append (event_line json) (events_of s parts) (events_of (after_parts s parts) more)
 
-pub after_both : (s : ClockedState) (packets more : List (List ℕ)) → after_all s (packets ++ more) ≡ after_all (after_all s packets) more
-unfolding after_all
-after_both s [] more = refl
-after_both s (packet ∷ packets) more = after_both (after_packet s packet) packets more
-
-events_both : (s : ClockedState) (packets more : List (List ℕ)) → events_all s (packets ++ more) ≡ events_all s packets ++ events_all (after_all s packets) more
-unfolding after_all events_all
-events_both s [] more = refl
-events_both s (packet ∷ packets) more =
-    ap (λ (l : List Event). events_at s packet ++ l) (events_both (after_packet s packet) packets more)
-    ∙ sym (append_assoc (events_at s packet) (events_all (after_packet s packet) packets) (events_all (after_all (after_packet s packet) packets) more))
-
-lines_both : (json : Bool) (s : ClockedState) (packets more : List (List ℕ)) →
-    lines_all json s (packets ++ more) ≡ lines_all json s packets ++ lines_all json (after_all s packets) more
-lines_both json s packets more =
-    ap (lines_of json) (events_both s packets more) ∙ flat_map-append (event_line json) (events_all s packets) (events_all (after_all s packets) more)
-
--- the lines of both
-lines_joined : (json : Bool) (first : ClockedState) (bytes piece : List ℕ) → length bytes % 188 ≡ 0 →
-    lines_all json first (cut_packets (bytes ++ piece)) ≡ lines_all json first (cut_packets bytes) ++ lines_all json (after_all first (cut_packets bytes)) (cut_packets piece)
-lines_joined json first bytes piece whole =
-    let count : length bytes ≡ 188 * (length bytes / 188) = omega (arith, whole) in
-    ap (lines_all json first) (cut_both (length bytes / 188) bytes piece count) ∙ lines_both json first (cut_packets bytes) (cut_packets piece)
-
-kept_joined : (first : ClockedState) (bytes piece : List ℕ) → length bytes % 188 ≡ 0 →
-    after_all first (cut_packets (bytes ++ piece)) ≡ after_all (after_all first (cut_packets bytes)) (cut_packets piece)
-kept_joined first bytes piece whole =
-    let count : length bytes ≡ 188 * (length bytes / 188) = omega (arith, whole) in
-    ap (after_all first) (cut_both (length bytes / 188) bytes piece count) ∙ after_both first (cut_packets bytes) (cut_packets piece)
+pub settled_by : (first : AnalysisState) (now : CapturedView) (bytes : List ℕ) (found : List Part) → IsSoFar first now bytes found → AreSettled bytes found
+settled_by first now bytes found s = record { reader = now.reader; left = s.left; few = s.few }
 
 -- 2. Pieces that were viewed
 
-pub seen_none : (json : Bool) (first : ClockedState) (view : ClockedView) (port : Port) → IsClocked view first → Seen json first (between port port) view []
-unfolding after_all events_all
-seen_none json first view port k = record { kept = k; written = Appends-nil port.bytes; clean = refl }
-
-pub seen_more : (json : Bool) (first : ClockedState) (before now : ClockedView) (old mid new : Port) (bytes piece : List ℕ) → ((s : ClockedState) → IsClocked before s → IsClocked now (after_all s (cut_packets piece))) →
-    ((s : ClockedState) → IsClocked before s → Appends mid.bytes new.bytes (lines_all json s (cut_packets piece))) → new.failed ≡ mid.failed → length bytes % 188 ≡ 0 →
-    Seen json first (between old mid) before bytes → Seen json first (between old new) now (bytes ++ piece)
-seen_more json first before now old mid new bytes piece kept written clean whole s =
-    let t : ClockedState = after_all first (cut_packets bytes) in
-    record {
-      kept = subst (IsClocked now) (sym (kept_joined first bytes piece whole)) (kept t s.kept);
-      written = subst (Appends old.bytes new.bytes) (sym (lines_joined json first bytes piece whole))
-          (Appends-trans old.bytes mid.bytes new.bytes (lines_all json first (cut_packets bytes)) (lines_all json t (cut_packets piece)) s.written (written t s.kept));
-      clean = clean ∙ s.clean;
-    }
+pub seen_none : (json : Bool) (first : AnalysisState) (now : CapturedView) (port : Port) → IsSoFar first now [] [] → Seen json first (between port port) now []
+unfolding events_of
+seen_none json first now port s = record { found = []; so_far = s; written = Appends-nil port.bytes; clean = refl }
 
 -- with the lines of a piece that were written
-pub seen_then : (json : Bool) (first : ClockedState) (before now : ClockedView) (begin middle end : Port) (text piece : List ℕ) → ((s : ClockedState) → IsClocked before s → text ≡ lines_all json s (cut_packets piece)) →
-    ((s : ClockedState) → IsClocked before s → IsClocked now (after_all s (cut_packets piece))) → Appends middle.bytes end.bytes text → end.failed ≡ middle.failed → (bytes : List ℕ) →
+pub seen_then : (json : Bool) (first : AnalysisState) (before now : CapturedView) (begin middle end : Port) (text piece : List ℕ) →
+    ((bytes : List ℕ) (found : List Part) → IsSoFar first before bytes found → Shows json first now (bytes ++ piece) found text) →
+    Appends middle.bytes end.bytes text → end.failed ≡ middle.failed → (bytes : List ℕ) →
     length bytes % 188 ≡ 0 → Seen json first (between begin middle) before bytes → Seen json first (between begin end) now (bytes ++ piece)
-seen_then json first before now begin middle end text piece is kept written clean bytes whole s =
-    seen_more json first before now begin middle end bytes piece kept (λ t k. subst (Appends middle.bytes end.bytes) (is t k) written) clean whole s
+seen_then json first before now begin middle end text piece shows written clean bytes whole s =
+    let m : Shows json first now (bytes ++ piece) s.found text = shows bytes s.found s.so_far in
+    record {
+      found = s.found ++ m.more;
+      so_far = m.so_far;
+      written = subst (Appends begin.bytes end.bytes) (sym (lines_both json first s.found m.more))
+          (Appends-trans begin.bytes middle.bytes end.bytes (lines_all json first s.found) (lines_all json (after_parts first s.found) m.more) s.written
+          (subst (Appends middle.bytes end.bytes) m.text_is written));
+      clean = clean ∙ s.clean;
+    }
 
 -- 3. Where it ends early
 
@@ -110,25 +70,29 @@ begins : (old mid : Port) (bytes : List ℕ) → IsAfter old mid bytes → Begin
 begins old mid bytes after xs e = let h = after xs e in (h.0, h.1)
 
 -- the reader failed
-pub read_failed : (json : Bool) (first : ClockedState) (before : ClockedView) (old mid new : Port) (output : Device) (size : ℕ) → TakesFront (Seen json first output before) 188 old mid size →
+pub read_failed : (json : Bool) (first : AnalysisState) (before : CapturedView) (old mid new : Port) (output : Device) (size : ℕ) → TakesFront (Seen json first output before) 188 old mid size →
     Failed mid.failed new.failed → Breaks json first (between old new) output Read
 read_failed json first before old mid new output size f failed = record {
   bytes = f.bytes;
   front = begins old mid f.bytes f.known;
+  found = f.taken.found;
+  are = settled_by first before f.bytes f.taken.found f.taken.so_far;
   at = (f.taken.written, inl (subst (λ (n : ℕ). Failed n new.failed) f.clean failed));
 }
 
 -- there was no memory for the lines of a piece
-pub no_memory : (json : Bool) (first : ClockedState) (before : ClockedView) (old mid new : Port) (output : Device) (size : ℕ) → TakesFront (Seen json first output before) 188 old mid size →
+pub no_memory : (json : Bool) (first : AnalysisState) (before : CapturedView) (old mid new : Port) (output : Device) (size : ℕ) → TakesFront (Seen json first output before) 188 old mid size →
     new.failed ≡ mid.failed → Breaks json first (between old new) output Memory
 no_memory json first before old mid new output size f clean = record {
   bytes = f.bytes;
   front = begins old mid f.bytes f.known;
+  found = f.taken.found;
+  are = settled_by first before f.bytes f.taken.found f.taken.so_far;
   at = (f.taken.written, clean ∙ f.clean);
 }
 
 -- no next piece was viewed
-pub next_stopped : (json : Bool) (first : ClockedState) (before : ClockedView) (old mid new : Port) (output : Device) (size : ℕ) (halt : Halt) →
+pub next_stopped : (json : Bool) (first : AnalysisState) (before : CapturedView) (old mid new : Port) (output : Device) (size : ℕ) (halt : Halt) →
     TakesFront (Seen json first output before) 188 old mid size → StopsNext (between mid new) halt → Breaks json first (between old new) output halt
 next_stopped json first before old mid new output size Read f failed = read_failed json first before old mid new output size f failed
 next_stopped json first before old mid new output size Write f never = absurd never
@@ -142,20 +106,24 @@ long_if (Some xs) bytes s h =
     let all : length xs ≡ length bytes + length k.0 = ap length k.1 ∙ length-append bytes k.0 in
     omega (arith, all, s)
 
-pub too_long : (json : Bool) (first : ClockedState) (before : ClockedView) (old mid : Port) (output : Device) (size : ℕ) → TakesFront (Seen json first output before) 188 old mid size → longest_input < size →
+pub too_long : (json : Bool) (first : AnalysisState) (before : CapturedView) (old mid : Port) (output : Device) (size : ℕ) → TakesFront (Seen json first output before) 188 old mid size → longest_input < size →
     Breaks json first (between old mid) output Read
 too_long json first before old mid output size f long = record {
   bytes = f.bytes;
   front = begins old mid f.bytes f.known;
+  found = f.taken.found;
+  are = settled_by first before f.bytes f.taken.found f.taken.so_far;
   at = (f.taken.written, inr (long_if old.bytes f.bytes (subst (λ (n : ℕ). longest_input < n) f.size_is long) (begins old mid f.bytes f.known)));
 }
 
 -- and within its last piece
-pub too_long_then : (json : Bool) (first : ClockedState) (now : ClockedView) (old mid new : Port) (output : Device) (bytes piece : List ℕ) (n : ℕ) → IsAfter old mid bytes → ReadsFront (between mid new) piece n →
+pub too_long_then : (json : Bool) (first : AnalysisState) (now : CapturedView) (old mid new : Port) (output : Device) (bytes piece : List ℕ) (n : ℕ) → IsAfter old mid bytes → ReadsFront (between mid new) piece n →
     Seen json first output now (bytes ++ take n piece) → ReadsInput (between old new) (Err Read) → Breaks json first (between old new) output Read
 too_long_then json first now old mid new output bytes piece n known r s why = record {
   bytes = bytes ++ take n piece;
   front = after_more old mid new bytes piece n known r.known;
+  found = s.found;
+  are = settled_by first now (bytes ++ take n piece) s.found s.so_far;
   at = (s.written, why);
 }
 
@@ -166,20 +134,23 @@ take_past (x ∷ xs) ys n =
     let e : length (x ∷ xs) + n ≡ suc (length xs + n) = omega arith in
     rw e (ap (λ (l : List ℕ). x ∷ l) (take_past xs ys n))
 
-pub write_failed : (json : Bool) (first : ClockedState) (before : ClockedView) (old mid new : Port) (begin middle end : Port) (size n : ℕ) (text piece : List ℕ) →
+pub write_failed : (json : Bool) (first : AnalysisState) (before now : CapturedView) (old mid new : Port) (begin middle end : Port) (size n : ℕ) (text piece : List ℕ) →
     TakesFront (Seen json first (between begin middle) before) 188 old mid size → ReadsFront (between mid new) piece n →
-    ((s : ClockedState) → IsClocked before s → text ≡ lines_all json s (cut_packets (take n piece))) → Stopped text (between middle end) → Failed middle.failed end.failed →
+    ((bytes : List ℕ) (found : List Part) → IsSoFar first before bytes found → Shows json first now (bytes ++ take n piece) found text) → Stopped text (between middle end) → Failed middle.failed end.failed →
     Breaks json first (between old new) (between begin end) Write
-write_failed json first before old mid new begin middle end size n text piece f r is stopped failed =
+write_failed json first before now old mid new begin middle end size n text piece f r shows stopped failed =
     let bytes = f.bytes ++ take n piece in
-    let a = lines_all json first (cut_packets f.bytes) in
-    let lines : a ++ text ≡ lines_all json first (cut_packets bytes) =
-    ap (λ (l : List ℕ). a ++ l) (is (after_all first (cut_packets f.bytes)) f.taken.kept) ∙ sym (lines_joined json first f.bytes (take n piece) f.whole) in
-    let front : a ++ take stopped.taken text ≡ take (length a + stopped.taken) (lines_all json first (cut_packets bytes)) =
+    let m : Shows json first now bytes f.taken.found text = shows f.bytes f.taken.found f.taken.so_far in
+    let a = lines_all json first f.taken.found in
+    let lines : a ++ text ≡ lines_all json first (f.taken.found ++ m.more) =
+    ap (λ (l : List ℕ). a ++ l) m.text_is ∙ sym (lines_both json first f.taken.found m.more) in
+    let front : a ++ take stopped.taken text ≡ take (length a + stopped.taken) (lines_all json first (f.taken.found ++ m.more)) =
     sym (take_past a text stopped.taken) ∙ ap (take (length a + stopped.taken)) lines in
     record {
       bytes = bytes;
       front = after_more old mid new f.bytes piece n f.known r.known;
+      found = f.taken.found ++ m.more;
+      are = settled_by first now bytes (f.taken.found ++ m.more) m.so_far;
       at = (
         record {
           taken = length a + stopped.taken;
@@ -189,14 +160,14 @@ write_failed json first before old mid new begin middle end size n text piece f 
       );
     }
 
-pub write_stopped : (V : Type 0) (json : Bool) (first : ClockedState) (before : ClockedView) (old mid new begin middle end : Port) (size n : ℕ) (text piece : List ℕ) (halt : Halt) →
+pub write_stopped : (V : Type 0) (json : Bool) (first : AnalysisState) (before now : CapturedView) (old mid new begin middle end : Port) (size n : ℕ) (text piece : List ℕ) (halt : Halt) →
     TakesFront (Seen json first (between begin middle) before) 188 old mid size → ReadsFront (between mid new) piece n →
-    ((s : ClockedState) → IsClocked before s → text ≡ lines_all json s (cut_packets (take n piece))) →
+    ((bytes : List ℕ) (found : List Part) → IsSoFar first before bytes found → Shows json first now (bytes ++ take n piece) found text) →
     WritesLine {V = V} text (between middle end) (Err halt) → Breaks json first (between old new) (between begin end) halt
-write_stopped V json first before old mid new begin middle end size n text piece Read f r is w = absurd w
-write_stopped V json first before old mid new begin middle end size n text piece Write f r is w =
-    write_failed json first before old mid new begin middle end size n text piece f r is w.0 w.1
-write_stopped V json first before old mid new begin middle end size n text piece Memory f r is w = absurd w
+write_stopped V json first before now old mid new begin middle end size n text piece Read f r shows w = absurd w
+write_stopped V json first before now old mid new begin middle end size n text piece Write f r shows w =
+    write_failed json first before now old mid new begin middle end size n text piece f r shows w.0 w.1
+write_stopped V json first before now old mid new begin middle end size n text piece Memory f r shows w = absurd w
 
 -- 4. The end of the input
 
@@ -204,7 +175,7 @@ pub if_ok : (HasTaken : List ℕ → Type 0) (input : Device) (r : Result ℕ Ha
 if_ok HasTaken input (Ok size) t = t
 if_ok HasTaken input (Err halt) t = tt
 
-pub if_err : (HasTaken : List ℕ → Type 0) (json : Bool) (first : ClockedState) (now : ClockedView) (old mid new : Port) (output : Device) (size n : ℕ) (piece : List ℕ) (before : ClockedView) (middle : Device) (r : Result ℕ Halt) →
+pub if_err : (HasTaken : List ℕ → Type 0) (json : Bool) (first : AnalysisState) (now : CapturedView) (old mid new : Port) (output : Device) (size n : ℕ) (piece : List ℕ) (before : CapturedView) (middle : Device) (r : Result ℕ Halt) →
     TakesFront (Seen json first middle before) 188 old mid size → ReadsFront (between mid new) piece n →
     ((bytes : List ℕ) → length bytes % 188 ≡ 0 → Seen json first middle before bytes → Seen json first output now (bytes ++ take n piece)) →
     IfErr r (λ halt. (halt ≡ Read) × (longest_input < size + n)) → TakesInput HasTaken (between old new) r → IfErr r (Breaks json first (between old new) output)
@@ -215,12 +186,12 @@ if_err HasTaken json first now old mid new output size n piece before middle (Er
 
 -- 5. All of it, or a front after which so many units of a stream wait that no more is viewed
 
-pub if_whole : (json : Bool) (first : ClockedState) (input output : Device) (now : ClockedView) (r : Result ℕ Halt) → IfOk r (λ size. TakesInput (Seen json first output now) input (Ok size)) →
+pub if_whole : (json : Bool) (first : AnalysisState) (input output : Device) (now : CapturedView) (r : Result ℕ Halt) → IfOk r (λ size. TakesInput (Seen json first output now) input (Ok size)) →
     IfOk r (Reaches json first input output now)
 if_whole json first input output now (Ok size) t = inl t
 if_whole json first input output now (Err halt) t = tt
 
-pub crowds : (json : Bool) (first : ClockedState) (now : ClockedView) (old new : Port) (output : Device) (size : ℕ) → TakesFront (Seen json first output now) 188 old new size → is_crowded now ≡ true →
+pub crowds : (json : Bool) (first : AnalysisState) (now : CapturedView) (old new : Port) (output : Device) (size : ℕ) → TakesFront (Seen json first output now) 188 old new size → is_crowded now.parts.view ≡ true →
     Reaches json first (between old new) output now size
 crowds json first now old new output size f crowded =
     inr (record { bytes = f.bytes; size_is = f.size_is; front = begins old new f.bytes f.known; seen = f.taken; clean = f.clean; crowded = crowded })

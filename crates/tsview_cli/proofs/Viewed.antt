@@ -1,11 +1,15 @@
 -- All lines of an input, or those of a front of it.
-use Rattle.std.proofs.Common.{◌≡◌, ℕ, ◌+◌, ◌%◌, Bool, true, false, cond, List, [], ◌++◌, length, take, refl, sym, ap, subst, ◌∙◌, inl, inr, append-nil, Option, Some, None, Ok, Err}
+use Rattle.std.proofs.Common.{◌≡◌, ℕ, ◌+◌, ◌%◌, Bool, true, false, cond, List, [], ◌++◌, length, take, refl, sym, ap, subst, ◌∙◌, inl, inr, append-nil, append_assoc, Option, Some, None, Ok, Err, arith}
 use Rattle.std.proofs.KnownBytes.{Appends-nil, Appends-trans}
+use Rattle.std.proofs.lemmas.Grind.{flat_map-append}
 use Rattle.std.specs.Io.KnownBytes.{Appends}
-use Rattle.stream_report.specs.Choices.{RequestView}
-use Rattle.stream_report.specs.Crowding.{is_crowded}
-use Rattle.stream_report.specs.declared.clocked_view.ClockedView.{ClockedView}
-use Rattle.stream_report.specs.ClockedViews.{IsClocked, ClockedState, start, events_all, is_good}
+use Rattle.capture.specs.Captures.{Part, capture_of}
+use Rattle.capture.specs.Reading.{capture_by, no_bytes}
+use Rattle.events.specs.EventLines.{event_line, lines_of}
+use Rattle.events.specs.declared.event.Event.{Event}
+use Rattle.ts_report.specs.Choices.{RequestView}
+use Rattle.analysis.specs.Analysis.{is_crowded}
+use Rattle.analysis.specs.Analysis.{AnalysisState, start}
 use Rattle.counted_io.specs.Device.{Failed}
 use Rattle.devices.specs.Devices.{Port, Device, IsClean, IsUntouched, between}
 use Rattle.devices.specs.Lines.{Stopped, WritesLine}
@@ -13,86 +17,112 @@ use Rattle.devices.specs.WholeInput.{IsWhole, TakesAll}
 use Rattle.devices.specs.declared.halt.Halt.{Halt}
 use Rattle.devices.specs.declared.halt.Halt.TheVariants.{Read, Write, Memory}
 use Rattle.devices.proofs.Performances.{reports_none}
-use Rattle.tsview_cli.proofs.Pieces.{take_past}
+use Rattle.tsview_cli.proofs.Pieces.{lines_both, settled_by, take_past}
+use Rattle.tsview_cli.specs.CapturedStreams.{IsSoFar, after_parts, events_last, events_of, has_slips, is_good_input, is_whole, last_events, left_in, parts_in, rate_in}
+use Rattle.tsview_cli.specs.declared.captured.CapturedView.{CapturedView}
 use Rattle.tsview_cli.specs.declared.viewing.Viewed.{Viewed}
 use Rattle.tsview_cli.specs.declared.viewing.Viewed.TheVariants.{Whole, Crowded}
-use Rattle.tsview_cli.specs.Viewing.{AreViewed, BeginsWith, Breaks, BreaksOff, Concludes, Reaches, Seen, Sees, SeesAll, Views, all_lines, as_viewed, end_lines, kept_of, settled, viewed}
+use Rattle.tsview_cli.specs.Viewing.{AreSettled, AreViewed, BeginsWith, Breaks, BreaksOff, Concludes, EndShows, Reaches, Seen, Sees, SeesAll, Views, all_lines, as_viewed, lines_all, settled, viewed}
 
 -- before the first byte
+none_settled : AreSettled [] []
+unfolding capture_by
+none_settled = record { reader = no_bytes; left = λ more. refl; few = omega arith }
+
 pub none_seen : (request : RequestView) (json : Bool) (input output : Port) (halt : Halt) → halt ≡ Memory → BreaksOff request json (between input input) (between output output) halt
-unfolding events_all
+unfolding events_of
 none_seen request json input output halt is = subst (BreaksOff request json (between input input) (between output output)) (sym is) (record {
   bytes = [];
   front = λ xs e. (xs, refl);
   text = [];
-  text_is = inl refl;
+  text_is = inl ([], none_settled, refl);
   at = (Appends-nil output.bytes, refl);
 })
 
 -- within the stream
 pub broken : (request : RequestView) (json : Bool) (input output : Device) (halt : Halt) → Breaks json (start request) input output halt → BreaksOff request json input output halt
-broken request json input output halt b = record { bytes = b.bytes; front = b.front; text = settled request json b.bytes; text_is = inl refl; at = b.at }
+broken request json input output halt b = record {
+  bytes = b.bytes;
+  front = b.front;
+  text = settled request json b.found;
+  text_is = inl (b.found, b.are, refl);
+  at = b.at;
+}
 
 whole_front : (known : Option (List ℕ)) (bytes : List ℕ) → IsWhole known bytes → BeginsWith known bytes
 whole_front None bytes w xs e = absurd cc
 whole_front (Some ys) bytes w xs e = let same : ys ≡ xs = cc in ([], sym same ∙ sym w ∙ sym (append-nil bytes))
 
 -- what was viewed of an input, all of it or a front
-record Reached (request : RequestView) (json : Bool) (input output : Device) (now : ClockedView) (size : ℕ) : Type 0 where
+record Reached (request : RequestView) (json : Bool) (input output : Device) (now : CapturedView) (size : ℕ) : Type 0 where
   pub bytes : List ℕ
-  pub size_is : size ≡ length bytes
   pub front : BeginsWith input.before.bytes bytes
   pub seen : Seen json (start request) output now bytes
   pub clean : IsClean input
-  pub all : AreViewed request input bytes
+  pub all : ((later : List Part) → parts_in bytes ≡ seen.found ++ later → AreViewed request input bytes)
 
-reached : (request : RequestView) (json : Bool) (input output : Device) (now : ClockedView) (size : ℕ) → Reaches json (start request) input output now size → Reached request json input output now size
+reached : (request : RequestView) (json : Bool) (input output : Device) (now : CapturedView) (size : ℕ) → Reaches json (start request) input output now size → Reached request json input output now size
 reached request json input output now size (inl t) = record {
   bytes = t.bytes;
-  size_is = t.size_is;
   front = whole_front input.before.bytes t.bytes t.read.0;
   seen = t.taken;
   clean = t.read.1.clean;
-  all = inl t.read;
+  all = λ later e. inl t.read;
 }
 reached request json input output now size (inr c) = record {
   bytes = c.bytes;
-  size_is = c.size_is;
   front = c.front;
   seen = c.seen;
   clean = c.clean;
-  all = inr (record { now = now; kept = c.seen.kept; crowded = c.crowded });
+  all = λ later e. inr (record { found = c.seen.found; later = later; parts_are = e; now = now.parts.view; kept = c.seen.so_far.view; crowded = c.crowded });
 }
 
 -- before its last lines
-pub no_end : (request : RequestView) (json : Bool) (input output : Device) (now : ClockedView) (size : ℕ) (halt : Halt) → halt ≡ Memory → Reaches json (start request) input output now size →
+pub no_end : (request : RequestView) (json : Bool) (input output : Device) (now : CapturedView) (size : ℕ) (halt : Halt) → halt ≡ Memory → Reaches json (start request) input output now size →
     BreaksOff request json input output halt
 no_end request json input output now size halt is t =
     let r : Reached request json input output now size = reached request json input output now size t in
-    subst (BreaksOff request json input output) (sym is) (record { bytes = r.bytes; front = r.front; text = settled request json r.bytes; text_is = inl refl; at = (r.seen.written, r.clean) })
+    subst (BreaksOff request json input output) (sym is) (record {
+      bytes = r.bytes;
+      front = r.front;
+      text = settled request json r.seen.found;
+      text_is = inl (r.seen.found, settled_by (start request) now r.bytes r.seen.found r.seen.so_far, refl);
+      at = (r.seen.written, r.clean);
+    })
 
--- the last lines
-last_lines : (request : RequestView) (json : Bool) (now : ClockedView) (size : ℕ) (bytes text : List ℕ) → IsClocked now (kept_of request bytes) → size ≡ length bytes →
-    ((s : ClockedState) → IsClocked now s → text ≡ end_lines json s (size % 188)) → settled request json bytes ++ text ≡ all_lines request json bytes
-last_lines request json now size bytes text kept count is =
-    ap (λ (t : List ℕ). settled request json bytes ++ t) (is (kept_of request bytes) kept ∙ ap (λ (n : ℕ). end_lines json (kept_of request bytes) (n % 188)) count)
+-- the last lines, whatever was viewed before
+abbrev pub EndsWith : Option ℕ → Bool → CapturedView → List ℕ → Bool → Type 0
+EndsWith rate json now text good = (first : AnalysisState) (bytes : List ℕ) (found : List Part) → IsSoFar first now bytes found → EndShows rate json first bytes found text good
+
+last_lines : (request : RequestView) (json : Bool) (bytes : List ℕ) (found : List Part) (text : List ℕ) (rate : Option ℕ) (good : Bool) → rate ≡ rate_in request → EndShows rate json (start request) bytes found text good →
+    settled request json found ++ text ≡ all_lines request json bytes
+last_lines request json bytes found text rate good is e =
+    let s = start request in
+    let more = events_of (after_parts s found) e.more in
+    let last = last_events rate (capture_of bytes).form (after_parts s (parts_in bytes)) (left_in bytes) in
+    let same : last ≡ events_last request bytes = ap (λ (r : Option ℕ). last_events r (capture_of bytes).form (after_parts s (parts_in bytes)) (left_in bytes)) is in
+    ap (λ (t : List ℕ). settled request json found ++ t) (e.text_is ∙ flat_map-append (event_line json) more last)
+    ∙ sym (append_assoc (settled request json found) (lines_of json more) (lines_of json last))
+    ∙ ap (λ (t : List ℕ). t ++ lines_of json last) (sym (lines_both json s found e.more) ∙ ap (λ (p : List Part). lines_all json s p) (sym e.parts_are))
+    ∙ ap (λ (l : List Event). lines_all json s (parts_in bytes) ++ lines_of json l) same
 
 -- within them
-pub not_ended : (V : Type 0) (request : RequestView) (json : Bool) (input : Device) (begin mid end : Port) (now : ClockedView) (size : ℕ) (text : List ℕ) (halt : Halt) →
-    Reaches json (start request) input (between begin mid) now size → ((s : ClockedState) → IsClocked now s → text ≡ end_lines json s (size % 188)) → WritesLine {V = V} text (between mid end) (Err halt) →
+pub not_ended : (V : Type 0) (request : RequestView) (json : Bool) (input : Device) (begin mid end : Port) (now : CapturedView) (size : ℕ) (text : List ℕ) (halt : Halt) (rate : Option ℕ) (good : Bool) → rate ≡ rate_in request →
+    Reaches json (start request) input (between begin mid) now size → EndsWith rate json now text good → WritesLine {V = V} text (between mid end) (Err halt) →
     BreaksOff request json input (between begin end) halt
-not_ended V request json input begin mid end now size text Read t is w = absurd w
-not_ended V request json input begin mid end now size text Write t is w =
+not_ended V request json input begin mid end now size text Read rate good same t is w = absurd w
+not_ended V request json input begin mid end now size text Write rate good same t is w =
     let r : Reached request json input (between begin mid) now size = reached request json input (between begin mid) now size t in
-    let a = settled request json r.bytes in
+    let e : EndShows rate json (start request) r.bytes r.seen.found text good = is (start request) r.bytes r.seen.found r.seen.so_far in
+    let a = settled request json r.seen.found in
     let stopped : Stopped text (between mid end) = w.0 in
     let front : a ++ take stopped.taken text ≡ take (length a + stopped.taken) (all_lines request json r.bytes) =
-    sym (take_past a text stopped.taken) ∙ ap (take (length a + stopped.taken)) (last_lines request json now size r.bytes text r.seen.kept r.size_is is) in
+    sym (take_past a text stopped.taken) ∙ ap (take (length a + stopped.taken)) (last_lines request json r.bytes r.seen.found text rate good same e) in
     record {
       bytes = r.bytes;
       front = r.front;
       text = all_lines request json r.bytes;
-      text_is = inr (refl, r.all);
+      text_is = inr (refl, r.all e.more e.parts_are);
       at = (
         record {
           taken = length a + stopped.taken;
@@ -101,45 +131,55 @@ not_ended V request json input begin mid end now size text Write t is w =
         subst (λ (k : ℕ). Failed k end.failed) r.seen.clean w.1,
       );
     }
-not_ended V request json input begin mid end now size text Memory t is w = absurd w
+not_ended V request json input begin mid end now size text Memory rate good same t is w = absurd w
 
 -- to its end
-all_written : (request : RequestView) (json : Bool) (input : Device) (begin mid end : Port) (now : ClockedView) (size : ℕ) (text bytes : List ℕ) → Seen json (start request) (between begin mid) now bytes → size ≡ length bytes →
-    ((s : ClockedState) → IsClocked now s → text ≡ end_lines json s (size % 188)) → Appends mid.bytes end.bytes text → Appends begin.bytes end.bytes (all_lines request json bytes)
-all_written request json input begin mid end now size text bytes seen count is written =
-    subst (Appends begin.bytes end.bytes) (last_lines request json now size bytes text seen.kept count is)
-    (Appends-trans begin.bytes mid.bytes end.bytes (settled request json bytes) text seen.written written)
+all_written : (request : RequestView) (json : Bool) (begin mid end : Port) (now : CapturedView) (text bytes : List ℕ) (rate : Option ℕ) (good : Bool) → rate ≡ rate_in request →
+    (seen : Seen json (start request) (between begin mid) now bytes) → EndShows rate json (start request) bytes seen.found text good → Appends mid.bytes end.bytes text →
+    Appends begin.bytes end.bytes (all_lines request json bytes)
+all_written request json begin mid end now text bytes rate good same seen e written =
+    subst (Appends begin.bytes end.bytes) (last_lines request json bytes seen.found text rate good same e)
+    (Appends-trans begin.bytes mid.bytes end.bytes (settled request json seen.found) text seen.written written)
 
-all_seen : (request : RequestView) (json : Bool) (input : Device) (begin mid end : Port) (now : ClockedView) (size : ℕ) (text : List ℕ) (good : Bool) →
-    TakesAll (Seen json (start request) (between begin mid) now) input size → ((s : ClockedState) → IsClocked now s → text ≡ end_lines json s (size % 188)) → Appends mid.bytes end.bytes text →
-    end.failed ≡ mid.failed → ((s : ClockedState) → IsClocked now s → good ≡ is_good s (size % 188)) → SeesAll request json input (between begin end) good
-all_seen request json input begin mid end now size text good t is written clean g = record {
-  bytes = t.bytes;
-  read = t.read;
-  written = all_written request json input begin mid end now size text t.bytes t.taken t.size_is is written;
-  clean = clean ∙ t.taken.clean;
-  good_is = g (kept_of request t.bytes) t.taken.kept ∙ ap (λ (n : ℕ). is_good (kept_of request t.bytes) (n % 188)) t.size_is;
-}
+good_is : (request : RequestView) (json : Bool) (bytes : List ℕ) (found : List Part) (text : List ℕ) (rate : Option ℕ) (good : Bool) → rate ≡ rate_in request → EndShows rate json (start request) bytes found text good →
+    good ≡ is_good_input request bytes
+good_is request json bytes found text rate good same e =
+    e.good_is ∙ ap (λ (r : Option ℕ). is_whole r (capture_of bytes).form (after_parts (start request) (parts_in bytes)) (left_in bytes) (has_slips (parts_in bytes))) same
+
+all_seen : (request : RequestView) (json : Bool) (input : Device) (begin mid end : Port) (now : CapturedView) (size : ℕ) (text : List ℕ) (rate : Option ℕ) (good : Bool) → rate ≡ rate_in request →
+    TakesAll (Seen json (start request) (between begin mid) now) input size → EndsWith rate json now text good → Appends mid.bytes end.bytes text →
+    end.failed ≡ mid.failed → SeesAll request json input (between begin end) good
+all_seen request json input begin mid end now size text rate good same t is written clean =
+    let e : EndShows rate json (start request) t.bytes t.taken.found text good = is (start request) t.bytes t.taken.found t.taken.so_far in
+    record {
+      bytes = t.bytes;
+      read = t.read;
+      written = all_written request json begin mid end now text t.bytes rate good same t.taken e written;
+      clean = clean ∙ t.taken.clean;
+      good_is = good_is request json t.bytes t.taken.found text rate good same e;
+    }
 
 not_both : (b : Bool) → b ≡ true → b ≡ false → ⊥
 not_both b e f = let both : true ≡ false = sym e ∙ f in absurd cc
 
 -- or to where the view is crowded
-pub viewed_so : (request : RequestView) (json : Bool) (input : Device) (begin mid end : Port) (now : ClockedView) (size : ℕ) (text : List ℕ) (crowded good : Bool) → crowded ≡ is_crowded now →
-    Reaches json (start request) input (between begin mid) now size → ((s : ClockedState) → IsClocked now s → text ≡ end_lines json s (size % 188)) → Appends mid.bytes end.bytes text →
-    end.failed ≡ mid.failed → ((s : ClockedState) → IsClocked now s → good ≡ is_good s (size % 188)) → Sees request json input (between begin end) (Ok (as_viewed crowded good))
-viewed_so request json input begin mid end now size text true good so t is written clean g =
+pub viewed_so : (request : RequestView) (json : Bool) (input : Device) (begin mid end : Port) (now : CapturedView) (size : ℕ) (text : List ℕ) (rate : Option ℕ) (crowded good : Bool) → rate ≡ rate_in request →
+    crowded ≡ is_crowded now.parts.view → Reaches json (start request) input (between begin mid) now size → EndsWith rate json now text good → Appends mid.bytes end.bytes text →
+    end.failed ≡ mid.failed → Sees request json input (between begin end) (Ok (as_viewed crowded good))
+viewed_so request json input begin mid end now size text rate true good same so t is written clean =
     let r : Reached request json input (between begin mid) now size = reached request json input (between begin mid) now size t in
+    let e : EndShows rate json (start request) r.bytes r.seen.found text good = is (start request) r.bytes r.seen.found r.seen.so_far in
     record {
       bytes = r.bytes;
       front = r.front;
       read = r.clean;
-      crowded = record { now = now; kept = r.seen.kept; crowded = sym so };
-      written = all_written request json input begin mid end now size text r.bytes r.seen r.size_is is written;
+      crowded = record { found = r.seen.found; later = e.more; parts_are = e.parts_are; now = now.parts.view; kept = r.seen.so_far.view; crowded = sym so };
+      written = all_written request json begin mid end now text r.bytes rate good same r.seen e written;
       clean = clean ∙ r.seen.clean;
     }
-viewed_so request json input begin mid end now size text false good so (inl t) is written clean g = all_seen request json input begin mid end now size text good t is written clean g
-viewed_so request json input begin mid end now size text false good so (inr c) is written clean g = absurd (not_both (is_crowded now) c.crowded (sym so))
+viewed_so request json input begin mid end now size text rate false good same so (inl t) is written clean =
+    all_seen request json input begin mid end now size text rate good same t is written clean
+viewed_so request json input begin mid end now size text rate false good same so (inr c) is written clean = absurd (not_both (is_crowded now.parts.view) c.crowded (sym so))
 
 whole_is : (bytes : Option (List ℕ)) (read xs : List ℕ) → IsWhole bytes read → bytes ≡ Some xs → read ≡ xs
 whole_is None read xs w e = absurd cc

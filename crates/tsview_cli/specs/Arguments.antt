@@ -4,12 +4,12 @@ use Rattle.std.specs.Borrow.{Bor}
 use Rattle.std.specs.Str.{bytes_eq}
 use Rattle.clap.specs.Words.{Row, Text, first_of}
 use Rattle.devices.specs.Options.{is_given}
-use Rattle.stream_arrival.specs.declared.arrival.Arrival.{Arrival}
-use Rattle.stream_arrival.specs.declared.arrival.Arrival.TheVariants.{Unknown, AtRate}
+use Rattle.arrival.specs.declared.arrival.Arrival.{Arrival}
+use Rattle.arrival.specs.declared.arrival.Arrival.TheVariants.{Unknown, AtRate}
 use Rattle.option_lists.specs.Lists.{buffer_list}
 use Rattle.stream_coding.specs.declared.buffers.PidBuffers.{PidBuffers}
-use Rattle.stream_report.specs.declared.view_options.ViewOptions.{ViewOptions}
-use Rattle.stream_report.specs.Choices.{RequestView}
+use Rattle.ts_report.specs.declared.view_options.ViewOptions.{ViewOptions}
+use Rattle.ts_report.specs.Choices.{RequestView}
 use Rattle.word_faults.specs.GivenOptions.{given_options, number_if, number_of, numbers_of}
 use Rattle.tsview_cli.specs.declared.request.Request.{Request}
 use Rattle.tsview_cli.specs.declared.request.Request.TheVariants.{Lines, Page}

@@ -1,5 +1,7 @@
 pub mod Options
 pub mod Arguments
+pub mod CapturedStreams
+pub mod Laws
 pub mod Viewing
 pub mod Drawing
 pub mod PlanDrawing

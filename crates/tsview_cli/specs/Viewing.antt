@@ -1,10 +1,11 @@
 -- A stream that is viewed as it comes: the lines of the events that each piece of it settles are written before the next is read.
-use Rattle.std.specs.Prelude.{◌≡◌, ◌⊎◌, ℕ, ◌%◌, ◌*◌, Bool, true, if◌then◌else◌, List, [], ◌++◌, codes, length, Option, Some, Result, Ok, Err}
-use Rattle.ts_packet.specs.PidList.{cut_packets}
-use Rattle.stream_report.specs.Choices.{RequestView}
-use Rattle.stream_report.specs.Crowding.{is_crowded}
-use Rattle.stream_report.specs.declared.clocked_view.ClockedView.{ClockedView}
-use Rattle.stream_report.specs.ClockedViews.{IsClocked, ClockedState, start, after_all, end_events, events_all, is_good}
+use Rattle.std.specs.Prelude.{◌≡◌, ◌⊎◌, ◌<◌, ℕ, ◌%◌, ◌*◌, Bool, true, if◌then◌else◌, List, [], ◌++◌, codes, length, Option, Some, Result, Ok, Err}
+use Rattle.capture.specs.Captures.{Part, capture_of, with_parts}
+use Rattle.capture.specs.Reading.{ReaderView, capture_left}
+use Rattle.ts_report.specs.Choices.{RequestView}
+use Rattle.analysis.specs.Analysis.{is_crowded}
+use Rattle.analysis.specs.declared.analyser.Analyser.{Analyser}
+use Rattle.analysis.specs.Analysis.{IsAnalysed, AnalysisState, start}
 use Rattle.events.specs.EventLines.{lines_of}
 use Rattle.devices.specs.Devices.{Device, HasFailed, IsClean, IsUntouched, Takes}
 use Rattle.devices.specs.Lines.{Reports, Stopped, line_text}
@@ -13,42 +14,37 @@ use Rattle.devices.specs.Runs.{Ends}
 use Rattle.devices.specs.WholeInput.{IsLong, ReadsInput, TakesInput}
 use Rattle.devices.specs.declared.halt.Halt.{Halt}
 use Rattle.devices.specs.declared.halt.Halt.TheVariants.{Read, Write, Memory}
+use Rattle.tsview_cli.specs.CapturedStreams.{IsSoFar, after_parts, events_last, events_of, has_slips, is_good_input, is_whole, last_events, left_in, parts_in}
+use Rattle.tsview_cli.specs.declared.captured.CapturedView.{CapturedView}
 use Rattle.tsview_cli.specs.declared.viewing.Viewed.{Viewed}
 use Rattle.tsview_cli.specs.declared.viewing.Viewed.TheVariants as is_viewed
 
 -- 1. The lines of a stream, plain or as JSON objects
 
--- what is kept of a stream, and the lines of the events that its packets settle
-abbrev pub kept_of : RequestView → List ℕ → ClockedState
-kept_of request bytes = after_all (start request) (cut_packets bytes)
+-- the lines of the events that parts settle
+abbrev pub lines_all : Bool → AnalysisState → List Part → List ℕ
+lines_all json s parts = lines_of json (events_of s parts)
 
-abbrev pub lines_all : Bool → ClockedState → List (List ℕ) → List ℕ
-lines_all json s packets = lines_of json (events_all s packets)
-
-abbrev pub settled : RequestView → Bool → List ℕ → List ℕ
-settled request json bytes = lines_all json (start request) (cut_packets bytes)
-
--- the bytes that are left after the last whole packet
-abbrev pub left_in : List ℕ → ℕ
-left_in bytes = length bytes % 188
+abbrev pub settled : RequestView → Bool → List Part → List ℕ
+settled request json parts = lines_all json (start request) parts
 
 -- all lines, with those at its end; the status 1 where something is wrong
-abbrev pub end_lines : Bool → ClockedState → ℕ → List ℕ
-end_lines json s left = lines_of json (end_events s left)
-
 abbrev pub all_lines : RequestView → Bool → List ℕ → List ℕ
-all_lines request json bytes = settled request json bytes ++ end_lines json (kept_of request bytes) (left_in bytes)
+all_lines request json bytes = settled request json (parts_in bytes) ++ lines_of json (events_last request bytes)
 
 abbrev pub viewed : RequestView → Bool → List ℕ → Outcome
-viewed request json bytes = printed (all_lines request json bytes) (if is_good (kept_of request bytes) (left_in bytes) then 0 else 1)
+viewed request json bytes = printed (all_lines request json bytes) (if is_good_input request bytes then 0 else 1)
 
 abbrev pub Leads : RequestView → Bool → List ℕ → Outcome → Type 0
 Leads request json bytes outcome = outcome ≡ viewed request json bytes
 
--- a view of these bytes is crowded: so many units of a stream wait
+-- a view of the first parts of these bytes is crowded: so many units of a stream wait
 pub record IsCrowdedAfter (request : RequestView) (bytes : List ℕ) : Type 0 where
-  pub now : ClockedView
-  pub kept : IsClocked now (kept_of request bytes)
+  pub found : List Part
+  pub later : List Part
+  pub parts_are : parts_in bytes ≡ found ++ later
+  pub now : Analyser
+  pub kept : IsAnalysed now (after_parts (start request) found)
   pub crowded : is_crowded now ≡ true
 
 -- 2. As far as it came
@@ -67,23 +63,44 @@ StopsNext input Memory = IsClean input
 abbrev pub BeginsWith : Option (List ℕ) → List ℕ → Type 0
 BeginsWith known bytes = (xs : List ℕ) → known ≡ Some xs → (rest : List ℕ) × (xs ≡ bytes ++ rest)
 
+-- these parts of the first bytes of an input are settled, all but those that less than 1,128 bytes hold, however the input goes on
+pub record AreSettled (bytes : List ℕ) (found : List Part) : Type 0 where
+  pub reader : ReaderView
+  pub left : (more : List ℕ) → capture_of (bytes ++ more) ≡ with_parts found (capture_left reader more)
+  pub few : length reader.kept < 1128
+
 -- these bytes were viewed, and the lines that they settle were written
-pub record Seen (json : Bool) (first : ClockedState) (output : Device) (now : ClockedView) (bytes : List ℕ) : Type 0 where
-  pub kept : IsClocked now (after_all first (cut_packets bytes))
-  pub written : Takes output (lines_all json first (cut_packets bytes))
+pub record Seen (json : Bool) (first : AnalysisState) (output : Device) (now : CapturedView) (bytes : List ℕ) : Type 0 where
+  pub found : List Part
+  pub so_far : IsSoFar first now bytes found
+  pub written : Takes output (lines_all json first found)
   pub clean : IsClean output
 
+-- the lines of more parts, those that these bytes settle
+pub record Shows (json : Bool) (first : AnalysisState) (now : CapturedView) (bytes : List ℕ) (found : List Part) (text : List ℕ) : Type 0 where
+  pub more : List Part
+  pub so_far : IsSoFar first now bytes (found ++ more)
+  pub text_is : text ≡ lines_all json (after_parts first found) more
+
+-- the lines of all that is left, and those at the end
+pub record EndShows (rate : Option ℕ) (json : Bool) (first : AnalysisState) (bytes : List ℕ) (found : List Part) (text : List ℕ) (good : Bool) : Type 0 where
+  pub more : List Part
+  pub parts_are : parts_in bytes ≡ found ++ more
+  pub text_is : text ≡ lines_of json (events_of (after_parts first found) more
+      ++ last_events rate (capture_of bytes).form (after_parts first (parts_in bytes)) (left_in bytes))
+  pub good_is : good ≡ is_whole rate (capture_of bytes).form (after_parts first (parts_in bytes)) (left_in bytes) (has_slips (parts_in bytes))
+
 -- a front of the input, of `size` bytes, was viewed, and then so many units of a stream waited that no more of the input is viewed
-pub record Crowds (json : Bool) (first : ClockedState) (input output : Device) (now : ClockedView) (size : ℕ) : Type 0 where
+pub record Crowds (json : Bool) (first : AnalysisState) (input output : Device) (now : CapturedView) (size : ℕ) : Type 0 where
   pub bytes : List ℕ
   pub size_is : size ≡ length bytes
   pub front : BeginsWith input.before.bytes bytes
   pub seen : Seen json first output now bytes
   pub clean : IsClean input
-  pub crowded : is_crowded now ≡ true
+  pub crowded : is_crowded now.parts.view ≡ true
 
 -- the whole input was viewed, or that front of it
-abbrev pub Reaches : Bool → ClockedState → Device → Device → ClockedView → ℕ → Type 0
+abbrev pub Reaches : Bool → AnalysisState → Device → Device → CapturedView → ℕ → Type 0
 Reaches json first input output now size = TakesInput (Seen json first output now) input (Ok size) ⊎ Crowds json first input output now size
 
 -- where the view is crowded the input may have more than was viewed
@@ -98,18 +115,24 @@ BreaksAt text input output Write = Stopped text output × HasFailed output
 BreaksAt text input output Memory = Takes output text × IsClean input
 
 -- the lines that the first bytes of the input settle
-pub record Breaks (json : Bool) (first : ClockedState) (input output : Device) (halt : Halt) : Type 0 where
+pub record Breaks (json : Bool) (first : AnalysisState) (input output : Device) (halt : Halt) : Type 0 where
   pub bytes : List ℕ
   pub front : BeginsWith input.before.bytes bytes
-  pub at : BreaksAt (lines_all json first (cut_packets bytes)) input output halt
+  pub found : List Part
+  pub are : AreSettled bytes found
+  pub at : BreaksAt (lines_all json first found) input output halt
 
 -- these bytes of the input are all of it, or so many units of a stream wait after them that no more is viewed
 abbrev pub AreViewed : RequestView → Device → List ℕ → Type 0
 AreViewed request input bytes = ReadsInput input (Ok bytes) ⊎ IsCrowdedAfter request bytes
 
+-- the lines of parts that these bytes settle
+abbrev pub IsSettledText : RequestView → Bool → List ℕ → List ℕ → Type 0
+IsSettledText request json bytes text = (found : List Part) × AreSettled bytes found × (text ≡ settled request json found)
+
 -- the same, or all lines of these bytes where no more of the input is viewed
 abbrev pub IsText : RequestView → Bool → Device → List ℕ → List ℕ → Type 0
-IsText request json input bytes text = (text ≡ settled request json bytes) ⊎ ((text ≡ all_lines request json bytes) × AreViewed request input bytes)
+IsText request json input bytes text = IsSettledText request json bytes text ⊎ ((text ≡ all_lines request json bytes) × AreViewed request input bytes)
 
 pub record BreaksOff (request : RequestView) (json : Bool) (input output : Device) (halt : Halt) : Type 0 where
   pub bytes : List ℕ
@@ -126,7 +149,7 @@ pub record SeesAll (request : RequestView) (json : Bool) (input output : Device)
   pub read : ReadsInput input (Ok bytes)
   pub written : Takes output (all_lines request json bytes)
   pub clean : IsClean output
-  pub good_is : good ≡ is_good (kept_of request bytes) (left_in bytes)
+  pub good_is : good ≡ is_good_input request bytes
 
 -- or those of the front of it after which so many units of a stream wait that no more is viewed, with the lines at its end
 pub record SeesFront (request : RequestView) (json : Bool) (input output : Device) : Type 0 where

@@ -6,13 +6,13 @@ ghost use Rattle.tsview_cli.specs.Arguments as spec;
 
 use crate::options::OPTIONS;
 use crate::request::{Asked, Request};
+use arrival::Arrival;
 use clap::ArgMatches;
 use clock27::Rate;
 use devices::{is_given, text_of};
 use option_lists::buffer_list;
 use std::alloc::{AllocError, Global};
-use stream_arrival::Arrival;
-use stream_report::{ViewChoice, ViewOptions, ViewRequest};
+use ts_report::{ViewChoice, ViewOptions, ViewRequest};
 use word_faults::{given_options, number_if, number_of, numbers_of};
 
 // How packets arrive: at this rate, or else by clock references.

@@ -1,86 +1,77 @@
 //! A page of the events of a stream, written at its end.
-ghost use Rattle.std.specs.Prelude.{◌≡◌, ◌%◌, if◌then◌else◌, IfErr, IfOk, OnOk};
+ghost use Rattle.std.specs.Prelude.{◌≡◌, ◌++◌, ℕ, List, [], if◌then◌else◌, IfErr, IfOk, OnOk};
 ghost use Rattle.devices.specs.Devices.{reads, writes};
 ghost use Rattle.devices.specs.Runs.{Performs};
-ghost use Rattle.ts_packet.specs.PidList.{cut_packets};
-ghost use Rattle.stream_report.specs.Choices.{RequestView};
-ghost use Rattle.stream_report.specs.ClockedViews.{ClockedState, after_packet, end_events, is_good, start};
-ghost use Rattle.view_page.specs.Pages.{IsPage, PageState, after_events};
-ghost use Rattle.tsview_cli.specs.Drawing.{Draws, DrawsPage, IsDrawn, IsWritten, TakesPackets, first_page, page_after};
+ghost use Rattle.ts_report.specs.Choices.{RequestView};
+ghost use Rattle.analysis.specs.Analysis.{AnalysisState, start};
+ghost use Rattle.view_page.specs.Pages.{PageState};
+ghost use Rattle.tsview_cli.specs.CapturedStreams.{rate_in};
+ghost use Rattle.tsview_cli.specs.Drawing.{Draws, DrawsPage, EndsDrawn, IsDrawn, IsWritten, TakesBytes, first_page};
 
+use crate::captured::{CapturedView, rate_of};
 use counted_io::{Sink, Source};
 use devices::{Halt, PieceTaker, report_halt, take_input, write_text};
-use events::Event;
 use std::alloc::{AllocError, Global};
-use stream_report::{ClockedView, ViewRequest};
+use ts_report::ViewRequest;
 use view_page::Page;
 
 /// The size of a piece in bytes: 349 packets, somewhat more than 64 KiB, so that it is read past the buffer of standard input.
 const PIECE: usize = 349 * 188;
 
-/// A stream that is viewed, the page of the events that its packets have settled, and room for the events of one packet.
+/// A stream that is viewed, and the page of the events that its bytes have settled.
 #[derive(Drop)]
 pub struct Drawing {
-    pub view: ClockedView,
+    pub stream: CapturedView,
     pub page: Page,
-    events: Vec<Event>,
+}
+
+// The length of a window in ms.
+fn window_of(request: &ViewRequest) -> u32
+    ensures { result ≡ request.now.options.window }
+{
+    request.options.window
 }
 
 impl Drawing {
-    // Before the first packet.
+    // Before the first byte.
     fn new(alloc: Global, request: ViewRequest) -> Drawing
-        ensures { IsDrawn result (start request) (first_page request) }
+        ensures { IsDrawn result (start request) (first_page request) [] }
     {
-        let page = Page::new(alloc, request.options.window);
+        let page = Page::new(alloc, window_of(&request));
         Drawing {
-            view: ClockedView::new(alloc, request),
+            stream: CapturedView::new(alloc, request),
             page,
-            events: Vec::new(alloc),
         }
     }
 
-    // The next packet: the page takes the events that it settles.
-    fn take(&mut self, packet: &[u8; 188]) -> Result<(), AllocError>
-        ensures { (s : ClockedState) (p : PageState) → IsDrawn self.old s p →
-            OnOk result (IsDrawn self.new (after_packet s packet.now) (page_after s p packet.now)) }
+    // The next bytes: the page takes the events that they settle.
+    fn take(&mut self, piece: &[u8]) -> Result<(), AllocError>
+        ensures { (s : AnalysisState) (p : PageState) (bytes : List ℕ) → IsDrawn self.old s p bytes →
+            OnOk result (IsDrawn self.new s p (bytes ++ piece.now)) }
     {
-        self.events.clear();
-        self.view.take(packet, &mut self.events)?;
-        self.page.take_all(&self.events)
+        self.stream.take(piece)?;
+        self.page.take_all(&self.stream.parts.events)
     }
 
-    // The next packets.
-    fn take_all(&mut self, packets: &[[u8; 188]]) -> Result<(), AllocError>
-        ensures { OnOk result (TakesPackets packets.now self.old self.new) }
-    {
-        for packet in packets {
-            self.take(packet)?;
-        }
-        Ok(())
-    }
-
-    // The packets of the next piece. A view that is crowded is refused as if there were no memory: a page of a part is not drawn.
-    fn take_packets(&mut self, piece: &[u8]) -> Result<(), Halt>
-        ensures taken { OnOk result (TakesPackets (cut_packets piece.now) self.old self.new) }
+    // The bytes of the next piece. A view that is crowded is refused as if there were no memory: a page of a part is not drawn.
+    fn take_bytes(&mut self, piece: &[u8]) -> Result<(), Halt>
+        ensures taken { (s : AnalysisState) (p : PageState) (bytes : List ℕ) → IsDrawn self.old s p bytes →
+            OnOk result (IsDrawn self.new s p (bytes ++ piece.now)) }
         ensures memory { IfErr result (λ halt. halt ≡ Halt.Memory) }
     {
-        let (packets, _) = piece.as_chunks::<188>();
-        match self.take_all(packets) {
-            Ok(()) if !self.view.is_crowded() => Ok(()),
+        match self.take(piece) {
+            Ok(()) if !self.stream.is_crowded() => Ok(()),
             _ => Err(Halt::Memory),
         }
     }
 
-    // The events at the end of a stream, `left` bytes after its last whole packet. Whether nothing is wrong in it.
-    fn end(&mut self, left: usize) -> Result<bool, AllocError>
-        ensures page { (s : ClockedState) (p : PageState) → IsDrawn self.old s p →
-            OnOk result (IsPage self.new.page (after_events p (end_events s left))) }
-        ensures good { (s : ClockedState) (p : PageState) → IsDrawn self.old s p →
-            IfOk result (λ good. good ≡ is_good s left) }
+    // The events at the end of the input. Whether nothing is wrong in it.
+    fn end(&mut self, rate: Option<u64>) -> Result<bool, AllocError>
+        ensures { (s : AnalysisState) (p : PageState) (bytes : List ℕ) → IsDrawn self.old s p bytes →
+            IfOk result (EndsDrawn rate self.new.page s p bytes) }
     {
-        self.events.clear();
-        let good = self.view.end(left, &mut self.events)?;
-        self.page.take_all(&self.events)?;
+        let good = self.stream.end(rate)?;
+        self.page.take_all(&self.stream.parts.events)?;
         Ok(good)
     }
 }
@@ -88,10 +79,10 @@ impl Drawing {
 impl PieceTaker for Drawing {
     ghost unit = { 188 };
 
-    ghost has_taken = { λ first bytes now. TakesPackets (cut_packets bytes) first now };
+    ghost has_taken = { λ first bytes now. TakesBytes bytes first now };
 
     fn take_piece(&mut self, piece: &[u8]) -> Result<(), Halt> {
-        self.take_packets(piece)
+        self.take_bytes(piece)
     }
 }
 
@@ -102,38 +93,43 @@ pub struct DrawnPage {
     pub good: bool,
 }
 
-// The page of a stream that has come whole, `left` bytes after its last packet.
-fn write_drawn(alloc: Global, drawing: &mut Drawing, left: usize) -> Result<DrawnPage, AllocError>
-    ensures { (s : ClockedState) (p : PageState) → IsDrawn drawing.old s p → IfOk result (λ page. IsWritten page s p left) }
+// The page of a stream that has come whole.
+fn write_drawn(
+    alloc: Global,
+    rate: Option<u64>,
+    drawing: &mut Drawing,
+) -> Result<DrawnPage, AllocError>
+    ensures { (s : AnalysisState) (p : PageState) (bytes : List ℕ) → IsDrawn drawing.old s p bytes → IfOk result (IsWritten rate s p bytes) }
 {
-    let good = drawing.end(left)?;
+    let good = drawing.end(rate)?;
     let mut text = String::new(alloc);
     drawing.page.write(&mut text)?;
     Ok(DrawnPage { text, good })
 }
 
 // The same, if there is memory for it.
-fn drawn(alloc: Global, drawing: &mut Drawing, left: usize) -> Result<DrawnPage, Halt>
-    ensures ok { (s : ClockedState) (p : PageState) → IsDrawn drawing.old s p → IfOk result (λ page. IsWritten page s p left) }
+fn drawn(alloc: Global, rate: Option<u64>, drawing: &mut Drawing) -> Result<DrawnPage, Halt>
+    ensures ok { (s : AnalysisState) (p : PageState) (bytes : List ℕ) → IsDrawn drawing.old s p bytes → IfOk result (IsWritten rate s p bytes) }
     ensures err { IfErr result (λ halt. halt ≡ Halt.Memory) }
 {
-    match write_drawn(alloc, drawing, left) {
+    match write_drawn(alloc, rate, drawing) {
         Ok(page) => Ok(page),
         Err(_) => Err(Halt::Memory),
     }
 }
 
-// The page of the input, by a drawing of no packet.
+// The page of the input, by a drawing of no byte.
 fn draw_whole<R: Source>(
     alloc: Global,
+    rate: Option<u64>,
     input: &mut R,
     drawing: &mut Drawing,
 ) -> Result<DrawnPage, Halt>
-    ensures { (r : RequestView) → IsDrawn drawing.old (start r) (first_page r) →
+    ensures { (r : RequestView) → IsDrawn drawing.old (start r) (first_page r) [] → rate ≡ rate_in r →
         Draws r (reads R.Source input.old input.new) result }
 {
     match take_input(alloc, input, PIECE, drawing) {
-        Ok(size) => drawn(alloc, drawing, size % 188),
+        Ok(_) => drawn(alloc, rate, drawing),
         Err(halt) => Err(halt),
     }
 }
@@ -146,8 +142,9 @@ fn draw_input<R: Source>(
 ) -> Result<DrawnPage, Halt>
     ensures { Draws request (reads R.Source input.old input.new) result }
 {
+    let rate = rate_of(&request);
     let mut drawing = Drawing::new(alloc, request);
-    let result = draw_whole(alloc, input, &mut drawing);
+    let result = draw_whole(alloc, rate, input, &mut drawing);
     // By a call: at the end of a function the drop of each part would be a step of its proof.
     drop(drawing);
     result

@@ -6,7 +6,7 @@ ghost use Rattle.devices.specs.Devices.{Device, IsUntouched, reads, writes};
 ghost use Rattle.devices.specs.Files.{files_of};
 ghost use Rattle.devices.specs.Lines.{Reports};
 ghost use Rattle.devices.specs.Runs.{Performs};
-ghost use Rattle.stream_report.specs.Choices.{RequestView};
+ghost use Rattle.ts_report.specs.Choices.{RequestView};
 ghost use Rattle.tsview_cli.specs.Answers.{Answers};
 ghost use Rattle.tsview_cli.specs.Arguments.{asked, asked_for};
 ghost use Rattle.tsview_cli.specs.Drawing.{DrawsPage};
@@ -25,7 +25,7 @@ use crate::viewing::{Viewed, view_input};
 use counted_io::{Sink, Source};
 use devices::{Halt, NamedFiles, report_halt, report_line, report_text};
 use std::alloc::Global;
-use stream_report::ViewRequest;
+use ts_report::ViewRequest;
 use word_faults::answer_words;
 
 /// Writes the usage, and returns the status.

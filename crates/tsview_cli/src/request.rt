@@ -1,7 +1,7 @@
 //! The request of the words.
 
 use std::marker::Model;
-use stream_report::ViewRequest;
+use ts_report::ViewRequest;
 
 /// The lines of events, each a JSON object on request, or the page that is drawn of them.
 #[derive(Drop)]

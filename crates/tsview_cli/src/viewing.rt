@@ -1,20 +1,22 @@
 //! The input, read piece by piece, and the lines of the events that each piece settles.
-ghost use Rattle.std.specs.Prelude.{◌≡◌, ◌%◌, ◌<◌, ◌≤◌, ◌++◌, [], IfOk, IfErr, OnOk, Ok, false, length, take, string_bytes};
-ghost use Rattle.ts_packet.specs.PidList.{cut_packets};
-ghost use Rattle.stream_report.specs.ClockedViews.{ClockedState, IsClocked, after_all, is_good, start};
+ghost use Rattle.std.specs.Prelude.{◌≡◌, ◌%◌, ◌<◌, ◌≤◌, ◌++◌, ℕ, List, [], IfOk, IfErr, OnOk, Ok, false, length, take, string_bytes};
+ghost use Rattle.capture.specs.Captures.{Part};
+ghost use Rattle.analysis.specs.Analysis.{AnalysisState, start};
 ghost use Rattle.devices.specs.Devices.{reads, writes};
 ghost use Rattle.devices.specs.Lines.{WritesLine};
 ghost use Rattle.devices.specs.WholeInput.{ReadsFront};
-ghost use Rattle.stream_report.specs.Choices.{RequestView};
-ghost use Rattle.stream_report.specs.Crowding.{is_crowded};
-ghost use Rattle.tsview_cli.specs.Viewing.{Breaks, Reaches, Sees, StopsNext, end_lines, lines_all, longest_piece};
+ghost use Rattle.ts_report.specs.Choices.{RequestView};
+ghost use Rattle.analysis.specs.Analysis.{is_crowded};
+ghost use Rattle.tsview_cli.specs.CapturedStreams.{IsSoFar, rate_in};
+ghost use Rattle.tsview_cli.specs.Viewing.{Breaks, EndShows, Reaches, Sees, Shows, StopsNext, longest_piece};
 ghost use Rattle.tsview_cli.specs.Viewing as spec;
 
+use crate::captured::{CapturedView, rate_of};
 use counted_io::{Sink, Source};
 use devices::{Halt, LONGEST_INPUT, new_piece, read_piece, size_within, write_text};
 use events::write_events;
 use std::alloc::{AllocError, Global};
-use stream_report::{ClockedView, ViewRequest};
+use ts_report::ViewRequest;
 
 /// The size of a piece in bytes: 349 packets, somewhat more than 64 KiB, so that it is read past the buffer of standard input.
 const PIECE: usize = 349 * 188;
@@ -28,40 +30,36 @@ pub(crate) enum Viewed {
     Crowded,
 }
 
-// Views packets: the lines of the events that they settle are appended to the text.
-fn view_packets(
+// Views the next piece: the text has the lines of the events that it settles.
+fn view_lines(
     alloc: Global,
     json: bool,
-    view: &mut ClockedView,
-    packets: &[[u8; 188]],
+    stream: &mut CapturedView,
+    piece: &[u8],
     text: &mut String,
 ) -> Result<(), AllocError>
-    ensures view { (s : ClockedState) → IsClocked view.old s →
-        OnOk result (IsClocked view.new (after_all s packets.now)) }
-    ensures lines { (s : ClockedState) → IsClocked view.old s → OnOk result (string_bytes text.new
-        ≡ string_bytes text.old ++ lines_all json s packets.now) }
+    requires out { string_bytes text.old ≡ [] }
+    ensures { (first : AnalysisState) (bytes : List ℕ) (found : List Part) → IsSoFar first stream.old bytes found →
+        OnOk result (Shows json first stream.new (bytes ++ piece.now) found (string_bytes text.new)) }
 {
-    let mut events = Vec::new(alloc);
-    view.take_all(packets, &mut events)?;
-    write_events(alloc, text, json, &events)
+    stream.take(piece)?;
+    write_events(alloc, text, json, &stream.parts.events)
 }
 
-// Views the next piece: the lines that it settles are appended to the text.
+// The same, if there is memory for it.
 fn view_piece(
     alloc: Global,
     json: bool,
-    view: &mut ClockedView,
+    stream: &mut CapturedView,
     piece: &[u8],
     text: &mut String,
 ) -> Result<(), Halt>
-    ensures view { (s : ClockedState) → IsClocked view.old s →
-        OnOk result (IsClocked view.new (after_all s (cut_packets piece.now))) }
-    ensures lines { (s : ClockedState) → IsClocked view.old s → OnOk result (string_bytes text.new
-        ≡ string_bytes text.old ++ lines_all json s (cut_packets piece.now)) }
+    requires out { string_bytes text.old ≡ [] }
+    ensures shown { (first : AnalysisState) (bytes : List ℕ) (found : List Part) → IsSoFar first stream.old bytes found →
+        OnOk result (Shows json first stream.new (bytes ++ piece.now) found (string_bytes text.new)) }
     ensures memory { IfErr result (λ halt. halt ≡ Halt.Memory) }
 {
-    let (packets, _) = piece.as_chunks::<188>();
-    match view_packets(alloc, json, view, packets, text) {
+    match view_lines(alloc, json, stream, piece, text) {
         Ok(()) => Ok(()),
         Err(_) => Err(Halt::Memory),
     }
@@ -73,23 +71,21 @@ fn view_next<R: Source>(
     json: bool,
     input: &mut R,
     piece: &mut [u8],
-    view: &mut ClockedView,
+    stream: &mut CapturedView,
     text: &mut String,
 ) -> Result<usize, Halt>
     requires bound { length piece.old ≤ longest_piece }
     // No line that is settled waits to be written.
     requires out { string_bytes text.old ≡ [] }
     // Of no stream so many units wait that no more is viewed.
-    requires calm { is_crowded view.old ≡ false }
+    requires calm { is_crowded stream.old.parts.view ≡ false }
     ensures read { IfOk result (λ n. ReadsFront (reads R.Source input.old input.new) piece.new n) }
-    ensures view { (s : ClockedState) → IsClocked view.old s →
-        IfOk result (λ n. IsClocked view.new (after_all s (cut_packets (take n piece.new)))) }
-    ensures lines { (s : ClockedState) → IsClocked view.old s →
-        IfOk result (λ n. string_bytes text.new ≡ lines_all json s (cut_packets (take n piece.new))) }
+    ensures shown { (first : AnalysisState) (bytes : List ℕ) (found : List Part) → IsSoFar first stream.old bytes found →
+        IfOk result (λ n. Shows json first stream.new (bytes ++ take n piece.new) found (string_bytes text.new)) }
     ensures err { IfErr result (StopsNext (reads R.Source input.old input.new)) }
 {
     let n = read_piece(input, piece)?;
-    view_piece(alloc, json, view, &piece[..n], text)?;
+    view_piece(alloc, json, stream, &piece[..n], text)?;
     Ok(n)
 }
 
@@ -110,23 +106,23 @@ fn view_pieces<R: Source, W: Sink>(
     input: &mut R,
     output: &mut W,
     piece: &mut [u8],
-    view: &mut ClockedView,
+    stream: &mut CapturedView,
     text: &mut String,
 ) -> Result<usize, Halt>
     requires some { 0 < length piece.old }
     requires bound { length piece.old ≤ longest_piece }
     requires whole { length piece.old % 188 ≡ 0 }
     requires text { string_bytes text.old ≡ [] }
-    requires calm { is_crowded view.old ≡ false }
-    ensures ok { (s : ClockedState) → IsClocked view.old s →
-        IfOk result (Reaches json s (reads R.Source input.old input.new) (writes W.Sink output.old output.new) view.new) }
-    ensures err { (s : ClockedState) → IsClocked view.old s → IfErr result (Breaks json s (reads R.Source input.old input.new)
+    requires calm { is_crowded stream.old.parts.view ≡ false }
+    ensures ok { (s : AnalysisState) → IsSoFar s stream.old [] [] →
+        IfOk result (Reaches json s (reads R.Source input.old input.new) (writes W.Sink output.old output.new) stream.new) }
+    ensures err { (s : AnalysisState) → IsSoFar s stream.old [] [] → IfErr result (Breaks json s (reads R.Source input.old input.new)
         (writes W.Sink output.old output.new)) }
     ensures text { OnOk result (string_bytes text.new ≡ []) }
 {
     let mut size = 0;
     while size <= LONGEST_INPUT {
-        let n = view_next(alloc, json, input, piece, view, text)?;
+        let n = view_next(alloc, json, input, piece, stream, text)?;
         match write_settled(text, output) {
             Ok(()) => {}
             Err(halt) => return Err(halt),
@@ -135,28 +131,27 @@ fn view_pieces<R: Source, W: Sink>(
         if n < piece.len() {
             return size_within(size);
         }
-        if view.is_crowded() {
+        if stream.is_crowded() {
             return Ok(size);
         }
     }
     Err(Halt::Read)
 }
 
-// Appends the lines at the end of a stream. Whether nothing is wrong in it.
+// Ends the input: the text has the last lines. Whether nothing is wrong in it.
 fn write_end(
     alloc: Global,
     json: bool,
-    view: &mut ClockedView,
-    left: usize,
+    rate: Option<u64>,
+    stream: &mut CapturedView,
     text: &mut String,
 ) -> Result<bool, AllocError>
-    ensures lines { (s : ClockedState) → IsClocked view.old s →
-        OnOk result (string_bytes text.new ≡ string_bytes text.old ++ end_lines json s left) }
-    ensures good { (s : ClockedState) → IsClocked view.old s → IfOk result (λ good. good ≡ is_good s left) }
+    requires out { string_bytes text.old ≡ [] }
+    ensures { (first : AnalysisState) (bytes : List ℕ) (found : List Part) → IsSoFar first stream.old bytes found →
+        IfOk result (EndShows rate json first bytes found (string_bytes text.new)) }
 {
-    let mut events = Vec::new(alloc);
-    let good = view.end(left, &mut events)?;
-    write_events(alloc, text, json, &events)?;
+    let good = stream.end(rate)?;
+    write_events(alloc, text, json, &stream.parts.events)?;
     Ok(good)
 }
 
@@ -164,16 +159,16 @@ fn write_end(
 fn end_view(
     alloc: Global,
     json: bool,
-    view: &mut ClockedView,
-    left: usize,
+    rate: Option<u64>,
+    stream: &mut CapturedView,
     text: &mut String,
 ) -> Result<bool, Halt>
-    ensures lines { (s : ClockedState) → IsClocked view.old s →
-        OnOk result (string_bytes text.new ≡ string_bytes text.old ++ end_lines json s left) }
-    ensures good { (s : ClockedState) → IsClocked view.old s → IfOk result (λ good. good ≡ is_good s left) }
+    requires out { string_bytes text.old ≡ [] }
+    ensures shown { (first : AnalysisState) (bytes : List ℕ) (found : List Part) → IsSoFar first stream.old bytes found →
+        IfOk result (EndShows rate json first bytes found (string_bytes text.new)) }
     ensures memory { IfErr result (λ halt. halt ≡ Halt.Memory) }
 {
-    match write_end(alloc, json, view, left, text) {
+    match write_end(alloc, json, rate, stream, text) {
         Ok(good) => Ok(good),
         Err(_) => Err(Halt::Memory),
     }
@@ -194,26 +189,27 @@ fn as_viewed(crowded: bool, good: bool) -> Viewed
 fn view_whole<R: Source, W: Sink>(
     alloc: Global,
     json: bool,
+    rate: Option<u64>,
     input: &mut R,
     output: &mut W,
     piece: &mut [u8],
-    view: &mut ClockedView,
+    stream: &mut CapturedView,
     text: &mut String,
 ) -> Result<Viewed, Halt>
     requires some { 0 < length piece.old }
     requires bound { length piece.old ≤ longest_piece }
     requires whole { length piece.old % 188 ≡ 0 }
     requires text { string_bytes text.old ≡ [] }
-    requires calm { is_crowded view.old ≡ false }
-    ensures { (r : RequestView) → IsClocked view.old (start r) →
+    requires calm { is_crowded stream.old.parts.view ≡ false }
+    ensures { (r : RequestView) → IsSoFar (start r) stream.old [] [] → rate ≡ rate_in r →
         Sees r json (reads R.Source input.old input.new) (writes W.Sink output.old output.new) result }
 {
-    let size = match view_pieces(alloc, json, input, output, piece, view, text) {
-        Ok(size) => size,
+    match view_pieces(alloc, json, input, output, piece, stream, text) {
+        Ok(_) => {}
         Err(halt) => return Err(halt),
-    };
-    let crowded = view.is_crowded();
-    let good = match end_view(alloc, json, view, size % 188, text) {
+    }
+    let crowded = stream.is_crowded();
+    let good = match end_view(alloc, json, rate, stream, text) {
         Ok(good) => good,
         Err(halt) => return Err(halt),
     };
@@ -237,10 +233,20 @@ pub(crate) fn view_input<R: Source, W: Sink>(
         Ok(piece) => piece,
         Err(halt) => return Err(halt),
     };
-    let mut view = ClockedView::new(alloc, request);
+    let rate = rate_of(&request);
+    let mut stream = CapturedView::new(alloc, request);
     let mut text = String::new(alloc);
-    let result = view_whole(alloc, json, input, output, &mut piece, &mut view, &mut text);
+    let result = view_whole(
+        alloc,
+        json,
+        rate,
+        input,
+        output,
+        &mut piece,
+        &mut stream,
+        &mut text,
+    );
     // By a call: at the end of a function the drop of each part would be a step of its proof.
-    drop(view);
+    drop(stream);
     result
 }

@@ -1,13 +1,15 @@
 -- The cells of a row.
 use Rattle.std.specs.Prelude.{ℕ, ◌-◌, ◌*◌, ◌/◌, ◌^◌, ◌==◌, min, max, nat_lt, Bool, false, if◌then◌else◌, List, ◌++◌, codes, decimal, flat_map, Option, Some, None}
+use Rattle.events.specs.FileForms.{words}
+use Rattle.events.specs.Checks.{name_of, number_of}
 use Rattle.page_charts.specs.Numbers.{tenths}
 use Rattle.page_charts.specs.PidLabels.{LabelsState, label_text}
 use Rattle.view_page.specs.declared.cells.CellUnit.{CellUnit}
 use Rattle.view_page.specs.declared.cells.CellUnit.TheVariants.{Same, Ticks}
 use Rattle.view_page.specs.declared.cells.CellWord.{CellWord}
-use Rattle.view_page.specs.declared.cells.CellWord.TheVariants.{Transport, Main, Multiplexing, Elementary, TransportExcess, MainExcess, MultiplexingExcess, ElementaryExcess, SystemExcess, SystemMainExcess, LateUnit, ElementaryLate, FarAhead, PcrRepetition, PcrDiscontinuity, PcrAccuracy, TableRepetition, Unclocked, Bytes, Packets, Millis, Nanos, Unreferenced, Missing, Nothing}
+use Rattle.view_page.specs.declared.cells.CellWord.TheVariants.{Transport, Main, Multiplexing, Elementary, TransportExcess, MainExcess, MultiplexingExcess, ElementaryExcess, SystemExcess, SystemMainExcess, LateUnit, ElementaryLate, FarAhead, PcrRepetition, PcrDiscontinuity, PcrAccuracy, TableRepetition, Unclocked, SyncByte, RefusedHeader, TransportError, Continuity, CheckWord, Slip, PacketSize, EmptyInput, NoStream, OtherRate, Bytes, Packets, Millis, Nanos, BitRate, Unreferenced, Missing, Nothing}
 use Rattle.view_page.specs.declared.cells.Cell.{Cell}
-use Rattle.view_page.specs.declared.cells.Cell.TheVariants.{Number, Checked, Bar, Word, Carried, Program}
+use Rattle.view_page.specs.declared.cells.Cell.TheVariants.{Number, Checked, Bar, Word, CheckNumber, CheckName, Carried, Program, Form}
 
 unfoldable pub word_text : CellWord → List ℕ
 word_text Transport = codes "transport"
@@ -28,10 +30,21 @@ word_text PcrDiscontinuity = codes "clock reference that jumps"
 word_text PcrAccuracy = codes "inaccurate clock reference"
 word_text TableRepetition = codes "section too late"
 word_text Unclocked = codes "packets without a moment"
+word_text SyncByte = codes "packet without its sync byte"
+word_text RefusedHeader = codes "packet with a header that can't be read"
+word_text TransportError = codes "packet with a transport error"
+word_text Continuity = codes "continuity counter that does not follow"
+word_text CheckWord = codes "section with a wrong check word"
+word_text Slip = codes "bytes in no packet"
+word_text PacketSize = codes "bytes from one packet to the next; 188 of them are viewed"
+word_text EmptyInput = codes "the input is empty"
+word_text NoStream = codes "the input is no transport stream"
+word_text OtherRate = codes "rate given, and another by the clock references"
 word_text Bytes = codes "bytes"
 word_text Packets = codes "packets"
 word_text Millis = codes "ms"
 word_text Nanos = codes "ns"
+word_text BitRate = codes "bit/s"
 word_text Unreferenced = codes "has packets, and the first tables do not name it"
 word_text Missing = codes "has no packet, and the first tables name it"
 word_text Nothing = codes ""
@@ -91,8 +104,11 @@ cell labels (Number number unit) = checked number None unit
 cell labels (Checked number limit unit) = checked number limit unit
 cell labels (Bar number limit) = bar number limit
 cell labels (Word word) = word_cell (word_text word)
+cell labels (CheckNumber check) = word_cell (number_of check)
+cell labels (CheckName check) = word_cell (name_of check)
 cell labels (Carried pid) = carried_cell labels pid
 cell labels (Program number) = program_cell number
+cell labels (Form form) = word_cell (words form)
 
 abbrev pub row : LabelsState → List Cell → List ℕ
 row labels cells = codes "<tr>" ++ (flat_map (cell labels) cells ++ codes "\n")

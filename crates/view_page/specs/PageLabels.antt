@@ -1,7 +1,7 @@
 -- What PIDs carry, by what comes of them in windows: the last of a PID that has a program counts, and the last name of a program's service.
 use Rattle.std.specs.Prelude.{ℕ, ◌==◌, if◌then◌else◌, unwrap_or, List, Option, Some, None}
 use Rattle.events.specs.declared.event.Event.{Event}
-use Rattle.events.specs.declared.event.Event.TheVariants.{Stream, Window, Held, Units, Excess, MainExcess, MultiplexingExcess, ElementaryExcess, SystemExcess, SystemMainExcess, Late, ElementaryLate, Ahead, PcrRepetition, PcrDiscontinuity, PcrAccuracy, TableRepetition, Unclocked, Transport, Main, Multiplexing, Elementary, System, Clock, Table, Pid, Unreferenced, Missing, End}
+use Rattle.events.specs.declared.event.Event.TheVariants.{Input, Stream, Window, Held, Units, Excess, MainExcess, MultiplexingExcess, ElementaryExcess, SystemExcess, SystemMainExcess, Late, ElementaryLate, Ahead, PcrRepetition, PcrDiscontinuity, PcrAccuracy, TableRepetition, Unclocked, Refused, Continuity, CheckWord, Transport, Main, Multiplexing, Elementary, System, Clock, Table, Pid, Unreferenced, Missing, Check, End}
 use Rattle.events.specs.Windows.{WindowView}
 use Rattle.page_charts.specs.PidLabels.{LabelsState, with_program, with_service}
 use Rattle.view_page.specs.HtmlTexts.{html_text}
@@ -19,6 +19,7 @@ with_window l w = if unwrap_or w.program 0 == 0 then l else with_named l w (unwr
 
 unfoldable pub with_event : LabelsState → Event → LabelsState
 with_event l (Window w) = with_window l w
+with_event l (Input e) = l
 with_event l (Stream e) = l
 with_event l (Held e) = l
 with_event l (Units e) = l
@@ -36,6 +37,9 @@ with_event l (PcrDiscontinuity e) = l
 with_event l (PcrAccuracy e) = l
 with_event l (TableRepetition e) = l
 with_event l (Unclocked e) = l
+with_event l (Refused e) = l
+with_event l (Continuity e) = l
+with_event l (CheckWord e) = l
 with_event l (Transport e) = l
 with_event l (Main e) = l
 with_event l (Multiplexing e) = l
@@ -46,4 +50,5 @@ with_event l (Table e) = l
 with_event l (Pid e) = l
 with_event l (Unreferenced e) = l
 with_event l (Missing e) = l
+with_event l (Check e) = l
 with_event l (End e) = l

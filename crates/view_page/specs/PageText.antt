@@ -8,7 +8,7 @@ use Rattle.page_charts.specs.Frames.{frame}
 use Rattle.page_charts.specs.PidCurves.{greatest_value}
 use Rattle.view_page.specs.declared.page.Page.{Page}
 use Rattle.events.specs.declared.event.ReportEnd.{ReportEnd}
-use Rattle.view_page.specs.declared.page_text.TheConstants.{APART, BACK, BUFFERS, CLOCKS, FAULTS, FRONT, MAINS, PIDS, RATES, SLACKS, STREAMS, SYSTEMS, TABLES, TRANSPORTS}
+use Rattle.view_page.specs.declared.page_text.TheConstants.{APART, BACK, BUFFERS, CHECKS, CLOCKS, FAULTS, FRONT, MAINS, PIDS, RATES, SLACKS, STREAMS, SYSTEMS, TABLES, TRANSPORTS}
 use Rattle.page_charts.specs.PidLabels.{LabelsState}
 use Rattle.view_page.specs.Cells.{carried_cell}
 use Rattle.view_page.specs.RowTexts.{RowTexts, StreamText}
@@ -28,6 +28,9 @@ transports_text = TRANSPORTS.now
 
 unfoldable pub mains_text : List ℕ
 mains_text = MAINS.now
+
+unfoldable pub checks_text : List ℕ
+checks_text = CHECKS.now
 
 unfoldable pub faults_text : List ℕ
 faults_text = FAULTS.now
@@ -83,7 +86,8 @@ unfoldable pub stream_row : LabelsState → StreamText → List ℕ
 stream_row labels r = row_head r.pid ++ (carried_cell labels r.pid ++ (r.cells ++ codes "\n"))
 
 unfoldable pub measures : LabelsState → RowTexts → List ℕ
-measures labels r = (faults_text ++ r.faults) ++ ((streams_text ++ flat_map (stream_row labels) r.streams) ++ ((buffers_text ++ r.buffers) ++ ((systems_text ++ r.systems) ++ (clocks_text ++ r.clocks))))
+measures labels r = (checks_text ++ r.checks) ++ ((faults_text ++ r.faults) ++ ((streams_text ++ flat_map (stream_row labels) r.streams)
+    ++ ((buffers_text ++ r.buffers) ++ ((systems_text ++ r.systems) ++ (clocks_text ++ r.clocks)))))
 
 unfoldable pub lists : RowTexts → List ℕ
 lists r = (tables_text ++ r.tables) ++ ((pids_text ++ r.pids) ++ (apart_text ++ r.apart))

@@ -1,7 +1,7 @@
 -- What a page keeps of a stream, by its events and nothing else.
 use Rattle.std.specs.Prelude.{◌≡◌, ℕ, List, [], ◌∷◌}
 use Rattle.events.specs.declared.event.Event.{Event}
-use Rattle.events.specs.declared.event.Event.TheVariants.{Stream, Window, Held, Units, Excess, MainExcess, MultiplexingExcess, ElementaryExcess, SystemExcess, SystemMainExcess, Late, ElementaryLate, Ahead, PcrRepetition, PcrDiscontinuity, PcrAccuracy, TableRepetition, Unclocked, Transport, Main, Multiplexing, Elementary, System, Clock, Table, Pid, Unreferenced, Missing, End}
+use Rattle.events.specs.declared.event.Event.TheVariants.{Input, Stream, Window, Held, Units, Excess, MainExcess, MultiplexingExcess, ElementaryExcess, SystemExcess, SystemMainExcess, Late, ElementaryLate, Ahead, PcrRepetition, PcrDiscontinuity, PcrAccuracy, TableRepetition, Unclocked, Refused, Continuity, CheckWord, Transport, Main, Multiplexing, Elementary, System, Clock, Table, Pid, Unreferenced, Missing, Check, End}
 use Rattle.events.specs.declared.event.ReportEnd.{ReportEnd}
 use Rattle.view_page.specs.declared.page.Page.{Page}
 use Rattle.page_charts.specs.PidLabels.{LabelsState, no_labels}
@@ -31,6 +31,7 @@ no_events millis = record { millis = millis; rows = rows.no_rows; values = value
 
 unfoldable pub end_after : ReportEnd → Event → ReportEnd
 end_after end (End e) = e
+end_after end (Input e) = end
 end_after end (Stream e) = end
 end_after end (Window e) = end
 end_after end (Held e) = end
@@ -49,6 +50,9 @@ end_after end (PcrDiscontinuity e) = end
 end_after end (PcrAccuracy e) = end
 end_after end (TableRepetition e) = end
 end_after end (Unclocked e) = end
+end_after end (Refused e) = end
+end_after end (Continuity e) = end
+end_after end (CheckWord e) = end
 end_after end (Transport e) = end
 end_after end (Main e) = end
 end_after end (Multiplexing e) = end
@@ -59,6 +63,7 @@ end_after end (Table e) = end
 end_after end (Pid e) = end
 end_after end (Unreferenced e) = end
 end_after end (Missing e) = end
+end_after end (Check e) = end
 
 abbrev pub with_end : PageState → Event → PageState
 with_end s event = record s { end = end_after s.end event }

@@ -1,5 +1,6 @@
 -- The cells of the row of each event that has one.
 use Rattle.std.specs.Prelude.{ℕ, List, [], ◌∷◌, Some}
+use Rattle.events.specs.declared.check_counts.CheckTotals.{CheckTotals}
 use Rattle.events.specs.declared.event.BufferExcess.{BufferExcess}
 use Rattle.events.specs.declared.event.ClockFault.{ClockFault}
 use Rattle.events.specs.declared.event.ClockTotals.{ClockTotals}
@@ -14,11 +15,16 @@ use Rattle.events.specs.declared.event.TableFault.{TableFault}
 use Rattle.events.specs.declared.event.TableTotals.{TableTotals}
 use Rattle.events.specs.declared.event.TransportTotals.{TransportTotals}
 use Rattle.events.specs.declared.event.UnclockedPackets.{UnclockedPackets}
+use Rattle.events.specs.declared.packet_fault.CheckWordFault.{CheckWordFault}
+use Rattle.events.specs.declared.packet_fault.CounterFault.{CounterFault}
+use Rattle.events.specs.declared.packet_fault.RefusalCause.{RefusalCause}
+use Rattle.events.specs.declared.packet_fault.RefusalCause.TheVariants as causes
+use Rattle.events.specs.declared.packet_fault.RefusedPacket.{RefusedPacket}
 use Rattle.events.specs.declared.video_event.ElementaryLate.{ElementaryLate}
 use Rattle.events.specs.declared.video_event.ElementaryTotals.{ElementaryTotals}
 use Rattle.events.specs.declared.video_event.MultiplexingTotals.{MultiplexingTotals}
 use Rattle.view_page.specs.declared.cells.Cell.{Cell}
-use Rattle.view_page.specs.declared.cells.Cell.TheVariants.{Number, Checked, Bar, Word, Carried, Program}
+use Rattle.view_page.specs.declared.cells.Cell.TheVariants.{Number, Checked, Bar, Word, CheckNumber, CheckName, Carried, Program}
 use Rattle.view_page.specs.declared.cells.CellUnit.TheVariants.{Same, Ticks}
 use Rattle.view_page.specs.declared.cells.CellWord.{CellWord}
 use Rattle.view_page.specs.declared.cells.CellWord.TheVariants as words
@@ -126,3 +132,28 @@ unclocked_cells e =
 -- of a PID and a word
 abbrev pub reference_cells : CellWord → ℕ → List Cell
 reference_cells word pid = Number pid Same ∷ Word word ∷ []
+
+-- of a packet that counts for nothing
+unfoldable pub cause_word : RefusalCause → CellWord
+cause_word causes.SyncByte = words.SyncByte
+cause_word causes.Header = words.RefusedHeader
+cause_word causes.TransportError = words.TransportError
+
+abbrev pub refused_cells : RefusedPacket → List Cell
+refused_cells e =
+    Word (cause_word e.cause) ∷ Word words.Nothing ∷ Number e.packet Same ∷ Word words.Nothing ∷ Word words.Nothing ∷ Word words.Nothing ∷ []
+
+-- of a continuity_counter that does not follow
+abbrev pub continuity_cells : CounterFault → List Cell
+continuity_cells e =
+    Word words.Continuity ∷ Number e.pid Same ∷ Number e.packet Same ∷ Number e.found Same ∷ Number e.expected Same ∷ Word words.Nothing ∷ []
+
+-- of a section with a wrong check word
+abbrev pub check_word_cells : CheckWordFault → List Cell
+check_word_cells e =
+    Word words.CheckWord ∷ Number e.pid Same ∷ Number e.packet Same ∷ Word words.Nothing ∷ Word words.Nothing ∷ Word words.Nothing ∷ []
+
+-- of a check: any fault is marked
+abbrev pub check_cells : CheckTotals → List Cell
+check_cells e =
+    CheckNumber e.check ∷ CheckName e.check ∷ Checked e.count.faults (Some 0) Same ∷ Number e.count.first Same ∷ Number e.count.last Same ∷ []

@@ -7,6 +7,7 @@ pub record StreamText : Type 0 where
   pub cells : List ℕ
 
 pub record RowTexts : Type 0 where
+  pub checks : List ℕ
   pub streams : List StreamText
   pub buffers : List ℕ
   pub systems : List ℕ

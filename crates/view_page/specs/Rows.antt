@@ -1,18 +1,21 @@
 -- The rows that an event adds.
 use Rattle.std.specs.Prelude.{ℕ, ◌+◌, ◌-◌, ◌^◌, min, nat_lt, if◌then◌else◌, List, [], ◌∷◌, ◌++◌, flat_map}
 use Rattle.events.specs.declared.event.Event.{Event}
-use Rattle.events.specs.declared.event.Event.TheVariants.{Stream, Window, Held, Units, Excess, MainExcess, MultiplexingExcess, ElementaryExcess, SystemExcess, SystemMainExcess, Late, ElementaryLate, Ahead, PcrRepetition, PcrDiscontinuity, PcrAccuracy, TableRepetition, Unclocked, Transport, Main, Multiplexing, Elementary, System, Clock, Table, Pid, Unreferenced, Missing, End}
+use Rattle.events.specs.declared.event.Event.TheVariants.{Input, Stream, Window, Held, Units, Excess, MainExcess, MultiplexingExcess, ElementaryExcess, SystemExcess, SystemMainExcess, Late, ElementaryLate, Ahead, PcrRepetition, PcrDiscontinuity, PcrAccuracy, TableRepetition, Unclocked, Refused, Continuity, CheckWord, Transport, Main, Multiplexing, Elementary, System, Clock, Table, Pid, Unreferenced, Missing, Check, End}
 use Rattle.events.specs.declared.event.StreamBegin.{StreamBegin}
+use Rattle.events.specs.declared.input_event.InputEvent.{InputEvent}
+use Rattle.events.specs.declared.input_event.InputEvent.TheVariants as inputs
 use Rattle.view_page.specs.declared.cells.Cell.{Cell}
 use Rattle.view_page.specs.declared.cells.CellWord.TheVariants as words
 use Rattle.view_page.specs.declared.rows.TheConstants.{MOST_FAULTS}
 use Rattle.view_page.specs.Cells.{cell, row}
-use Rattle.view_page.specs.RowCells.{ahead_cells, clock_cells, clock_place_cells, clock_time_cells, elementary_cells, elementary_late_cells, excess_cells, late_cells, main_cells, multiplexing_cells, pid_cells, program_excess_cells, reference_cells, stream_cells, system_cells, table_cells, table_fault_cells, transport_cells, unclocked_cells}
+use Rattle.view_page.specs.RowCells.{ahead_cells, check_cells, check_word_cells, clock_cells, clock_place_cells, clock_time_cells, continuity_cells, elementary_cells, elementary_late_cells, excess_cells, late_cells, main_cells, multiplexing_cells, pid_cells, program_excess_cells, reference_cells, refused_cells, stream_cells, system_cells, table_cells, table_fault_cells, transport_cells, unclocked_cells}
+use Rattle.view_page.specs.InputCells.{empty_cells, no_stream_cells, other_rate_cells, packet_size_cells, slip_cells}
 use Rattle.page_charts.specs.PidLabels.{LabelsState}
 use Rattle.view_page.specs.RowTexts.{RowTexts}
 
 abbrev pub no_rows : RowTexts
-no_rows = record { streams = []; buffers = []; systems = []; clocks = []; tables = []; pids = []; apart = []; faults = []; count = 0 }
+no_rows = record { checks = []; streams = []; buffers = []; systems = []; clocks = []; tables = []; pids = []; apart = []; faults = []; count = 0 }
 
 -- a fault has a row if fewer than 100 have come before it; their number stops at 2^64 - 1
 abbrev pub with_fault : LabelsState → RowTexts → List Cell → RowTexts
@@ -22,6 +25,7 @@ with_fault labels r cells = record r {
 }
 
 unfoldable pub with_fault_event : LabelsState → RowTexts → Event → RowTexts
+with_fault_event labels r (Input e) = r
 with_fault_event labels r (Stream e) = r
 with_fault_event labels r (Window e) = r
 with_fault_event labels r (Held e) = r
@@ -40,6 +44,9 @@ with_fault_event labels r (PcrDiscontinuity e) = with_fault labels r (clock_time
 with_fault_event labels r (PcrAccuracy e) = with_fault labels r (clock_place_cells e)
 with_fault_event labels r (TableRepetition e) = with_fault labels r (table_fault_cells e)
 with_fault_event labels r (Unclocked e) = with_fault labels r (unclocked_cells e)
+with_fault_event labels r (Refused e) = with_fault labels r (refused_cells e)
+with_fault_event labels r (Continuity e) = with_fault labels r (continuity_cells e)
+with_fault_event labels r (CheckWord e) = with_fault labels r (check_word_cells e)
 with_fault_event labels r (Transport e) = r
 with_fault_event labels r (Main e) = r
 with_fault_event labels r (Multiplexing e) = r
@@ -50,7 +57,16 @@ with_fault_event labels r (Table e) = r
 with_fault_event labels r (Pid e) = r
 with_fault_event labels r (Unreferenced e) = r
 with_fault_event labels r (Missing e) = r
+with_fault_event labels r (Check e) = r
 with_fault_event labels r (End e) = r
+
+-- how the bytes of the input are packets: packets of another size are no fault
+unfoldable pub with_input : LabelsState → RowTexts → InputEvent → RowTexts
+with_input labels r (inputs.Slip e) = with_fault labels r (slip_cells e)
+with_input labels r (inputs.PacketSize size) = record r { apart = r.apart ++ row labels (packet_size_cells size) }
+with_input labels r inputs.Empty = with_fault labels r empty_cells
+with_input labels r (inputs.NoStream form) = with_fault labels r (no_stream_cells form)
+with_input labels r (inputs.OtherRate e) = with_fault labels r (other_rate_cells e)
 
 abbrev pub with_stream : LabelsState → RowTexts → StreamBegin → RowTexts
 with_stream labels r e = record r { streams = r.streams ++ record { pid = e.pid; cells = flat_map (cell labels) (stream_cells e) } ∷ [] }
@@ -59,6 +75,7 @@ abbrev pub with_buffer : LabelsState → RowTexts → List Cell → RowTexts
 with_buffer labels r cells = record r { buffers = r.buffers ++ row labels cells }
 
 unfoldable pub with_event : LabelsState → RowTexts → Event → RowTexts
+with_event labels r (Input e) = with_input labels r e
 with_event labels r (Stream e) = with_stream labels r e
 with_event labels r (Window e) = with_fault_event labels r (Window e)
 with_event labels r (Held e) = with_fault_event labels r (Held e)
@@ -77,6 +94,9 @@ with_event labels r (PcrDiscontinuity e) = with_fault_event labels r (PcrDiscont
 with_event labels r (PcrAccuracy e) = with_fault_event labels r (PcrAccuracy e)
 with_event labels r (TableRepetition e) = with_fault_event labels r (TableRepetition e)
 with_event labels r (Unclocked e) = with_fault_event labels r (Unclocked e)
+with_event labels r (Refused e) = with_fault_event labels r (Refused e)
+with_event labels r (Continuity e) = with_fault_event labels r (Continuity e)
+with_event labels r (CheckWord e) = with_fault_event labels r (CheckWord e)
 with_event labels r (Transport e) = with_buffer labels r (transport_cells e)
 with_event labels r (Main e) = with_buffer labels r (main_cells e)
 with_event labels r (Multiplexing e) = with_buffer labels r (multiplexing_cells e)
@@ -87,4 +107,5 @@ with_event labels r (Table e) = record r { tables = r.tables ++ row labels (tabl
 with_event labels r (Pid e) = record r { pids = r.pids ++ row labels (pid_cells e) }
 with_event labels r (Unreferenced e) = record r { apart = r.apart ++ row labels (reference_cells words.Unreferenced e) }
 with_event labels r (Missing e) = record r { apart = r.apart ++ row labels (reference_cells words.Missing e) }
+with_event labels r (Check e) = record r { checks = r.checks ++ row labels (check_cells e) }
 with_event labels r (End e) = with_fault_event labels r (End e)

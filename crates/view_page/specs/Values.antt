@@ -1,13 +1,13 @@
 -- The curves of the page, by the events that have come and nothing else.
 use Rattle.std.specs.Prelude.{◌≡◌, ℕ, ◌+◌, ◌-◌, ◌/◌, ◌^◌, min, max, List, [], Option, Some, None}
 use Rattle.events.specs.declared.event.Event.{Event}
-use Rattle.events.specs.declared.event.Event.TheVariants.{Stream, Window, Held, Units, Excess, MainExcess, MultiplexingExcess, ElementaryExcess, SystemExcess, SystemMainExcess, Late, ElementaryLate, Ahead, PcrRepetition, PcrDiscontinuity, PcrAccuracy, TableRepetition, Unclocked, Transport, Main, Multiplexing, Elementary, System, Clock, Table, Pid, Unreferenced, Missing, End}
+use Rattle.events.specs.declared.event.Event.TheVariants.{Input, Stream, Window, Held, Units, Excess, MainExcess, MultiplexingExcess, ElementaryExcess, SystemExcess, SystemMainExcess, Late, ElementaryLate, Ahead, PcrRepetition, PcrDiscontinuity, PcrAccuracy, TableRepetition, Unclocked, Refused, Continuity, CheckWord, Transport, Main, Multiplexing, Elementary, System, Clock, Table, Pid, Unreferenced, Missing, Check, End}
 use Rattle.events.specs.declared.event.HeldFigures.{HeldFigures}
 use Rattle.events.specs.declared.event.StreamBegin.{StreamBegin}
 use Rattle.events.specs.declared.event.UnitFigures.{UnitFigures}
 use Rattle.events.specs.Windows.{WindowView}
 use Rattle.unit_timing.specs.Buffers.{tb_size}
-use Rattle.page_curves.specs.Curves.{sample}
+use Rattle.page_charts.specs.Curves.{sample}
 use Rattle.events.specs.declared.pid_name.PidName.{PidName}
 use Rattle.page_charts.specs.PidCurves.{AreCurves, KeptCurve, kept_name, opened, with_sample}
 use Rattle.events.specs.PidNames.{of_pid}
@@ -69,6 +69,7 @@ with_units v e = record v { slacks = with_sample e.pid (sample e.number (short e
 
 unfoldable pub with_event : KeptValues → Event → KeptValues
 with_event v (Window w) = with_window v w
+with_event v (Input e) = v
 with_event v (Stream e) = with_stream v e
 with_event v (Held e) = with_held v e
 with_event v (Units e) = with_units v e
@@ -86,6 +87,9 @@ with_event v (PcrDiscontinuity e) = v
 with_event v (PcrAccuracy e) = v
 with_event v (TableRepetition e) = v
 with_event v (Unclocked e) = v
+with_event v (Refused e) = v
+with_event v (Continuity e) = v
+with_event v (CheckWord e) = v
 with_event v (Transport e) = v
 with_event v (Main e) = v
 with_event v (Multiplexing e) = v
@@ -96,4 +100,5 @@ with_event v (Table e) = v
 with_event v (Pid e) = v
 with_event v (Unreferenced e) = v
 with_event v (Missing e) = v
+with_event v (Check e) = v
 with_event v (End e) = v

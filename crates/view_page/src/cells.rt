@@ -2,6 +2,7 @@
 ghost use Rattle.std.specs.Prelude.{◌≡◌, ◌++◌, OnOk, flat_map, string_bytes};
 ghost use Rattle.view_page.specs.Cells as spec;
 
+use events::{Check, FileForm};
 use page_charts::{PidLabels, write_label, write_tenths};
 use std::alloc::AllocError;
 use std::fmt::Write;
@@ -34,25 +35,39 @@ pub enum CellWord {
     PcrAccuracy,
     TableRepetition,
     Unclocked,
+    SyncByte,
+    RefusedHeader,
+    TransportError,
+    Continuity,
+    CheckWord,
+    Slip,
+    PacketSize,
+    EmptyInput,
+    NoStream,
+    OtherRate,
     Bytes,
     Packets,
     Millis,
     Nanos,
+    BitRate,
     Unreferenced,
     Missing,
     Nothing,
 }
 
-/// A cell: a number, a number that is marked if it exceeds its limit, a bar of it beside its limit, a word, what a PID carries, or a
-/// program.
+/// A cell: a number, a number that is marked if it exceeds its limit, a bar of it beside its limit, a word, the number or the
+/// name of a check, what a PID carries, a program, or what an input is that is no transport stream.
 #[derive(Clone, Copy)]
 pub enum Cell {
     Number(u64, CellUnit),
     Checked(u64, Option<u64>, CellUnit),
     Bar(u64, Option<u64>),
     Word(CellWord),
+    CheckNumber(Check),
+    CheckName(Check),
     Carried(u16),
     Program(u16),
+    Form(FileForm),
 }
 
 /// Returns a number that stops at 2^64 - 1.
@@ -95,10 +110,21 @@ fn word_text(word: CellWord) -> &'static str
         CellWord::PcrAccuracy => "inaccurate clock reference",
         CellWord::TableRepetition => "section too late",
         CellWord::Unclocked => "packets without a moment",
+        CellWord::SyncByte => "packet without its sync byte",
+        CellWord::RefusedHeader => "packet with a header that can't be read",
+        CellWord::TransportError => "packet with a transport error",
+        CellWord::Continuity => "continuity counter that does not follow",
+        CellWord::CheckWord => "section with a wrong check word",
+        CellWord::Slip => "bytes in no packet",
+        CellWord::PacketSize => "bytes from one packet to the next; 188 of them are viewed",
+        CellWord::EmptyInput => "the input is empty",
+        CellWord::NoStream => "the input is no transport stream",
+        CellWord::OtherRate => "rate given, and another by the clock references",
         CellWord::Bytes => "bytes",
         CellWord::Packets => "packets",
         CellWord::Millis => "ms",
         CellWord::Nanos => "ns",
+        CellWord::BitRate => "bit/s",
         CellWord::Unreferenced => "has packets, and the first tables do not name it",
         CellWord::Missing => "has no packet, and the first tables name it",
         CellWord::Nothing => "",
@@ -215,8 +241,11 @@ fn write_cell(text: &mut String, labels: &PidLabels, cell: Cell) -> Result<(), A
         Cell::Checked(number, limit, unit) => write_checked(text, number, limit, unit),
         Cell::Bar(number, limit) => write_bar(text, number, limit),
         Cell::Word(word) => write_word(text, word_text(word)),
+        Cell::CheckNumber(check) => write_word(text, check.number()),
+        Cell::CheckName(check) => write_word(text, check.name()),
         Cell::Carried(pid) => write_carried(text, labels, pid),
         Cell::Program(number) => write_program(text, number),
+        Cell::Form(form) => write_word(text, form.words()),
     }
 }
 

@@ -48,8 +48,11 @@ const TRANSPORTS: &str =
 const MAINS: &str =
     "<h2>Main buffers</h2><p class=\"soft\">The most and the least bytes that were in the buffer, by window, beside its size.</p>\n";
 
+const CHECKS: &str =
+    "<h2>Checks of ETSI TR 101 290</h2><p class=\"soft\">With the limits of <code>tsview</code>; packets are counted from 0.</p><div class=\"wide\"><table><tr><th class=\"word\">number<th class=\"word\">check<th>faults<th>first packet<th>last packet\n";
+
 const FAULTS: &str =
-    "<h2>Faults</h2><p class=\"soft\">The first 100.</p><div class=\"wide tall\"><table><tr><th class=\"word\">what<th>PID<th>packet<th>value<th>limit<th class=\"word\">unit\n";
+    "</table></div><h2>Faults</h2><p class=\"soft\">The first 100.</p><div class=\"wide tall\"><table><tr><th class=\"word\">what<th>PID<th>packet<th>value<th>limit<th class=\"word\">unit\n";
 
 const STREAMS: &str =
     "</table></div><h2>Streams</h2><div class=\"wide\"><table><tr><th>PID<th class=\"word\">carries<th>stream_type<th>out of the transport buffer, bit/s<th>main buffer, bytes\n";
@@ -106,6 +109,13 @@ fn mains_text() -> &'static str
     ensures { result.now ≡ spec.mains_text }
 {
     MAINS
+}
+
+#[tactic(auto, unfolding(crate::specs::PageText::checks_text))]
+fn checks_text() -> &'static str
+    ensures { result.now ≡ spec.checks_text }
+{
+    CHECKS
 }
 
 #[tactic(auto, unfolding(crate::specs::PageText::faults_text))]
@@ -351,6 +361,7 @@ fn write_streams(
 fn write_measures(text: &mut String, labels: &PidLabels, rows: &Rows) -> Result<(), AllocError>
     ensures { OnOk result (string_bytes text.new ≡ string_bytes text.old ++ spec.measures labels.now rows.now) }
 {
+    write_table(text, checks_text(), &rows.checks)?;
     write_table(text, faults_text(), &rows.faults)?;
     write_streams(text, labels, &rows.streams)?;
     write_table(text, buffers_text(), &rows.buffers)?;

@@ -4,9 +4,10 @@ ghost use Rattle.view_page.specs.RowCells as spec;
 
 use crate::cells::{Cell, CellUnit, CellWord, limit_if, short};
 use events::{
-    BufferExcess, ClockFault, ClockTotals, ElementaryLate, ElementaryTotals, FarAhead, LateUnit,
-    MainTotals, MultiplexingTotals, PidTotals, ProgramExcess, StreamBegin, SystemTotals,
-    TableFault, TableTotals, TransportTotals, UnclockedPackets,
+    BufferExcess, CheckTotals, CheckWordFault, ClockFault, ClockTotals, CounterFault,
+    ElementaryLate, ElementaryTotals, FarAhead, LateUnit, MainTotals, MultiplexingTotals,
+    PidTotals, ProgramExcess, RefusalCause, RefusedPacket, StreamBegin, SystemTotals, TableFault,
+    TableTotals, TransportTotals, UnclockedPackets,
 };
 
 /// Returns the cells of a stream, after its PID and what that carries.
@@ -282,5 +283,71 @@ pub(crate) fn reference_cells(word: CellWord, pid: u16) -> [Cell; 2]
     [
         Cell::Number(u64::from(pid), CellUnit::Same),
         Cell::Word(word),
+    ]
+}
+
+#[tactic(auto, unfolding(crate::specs::RowCells::cause_word))]
+fn cause_word(cause: RefusalCause) -> CellWord
+    ensures { result ≡ spec.cause_word cause }
+{
+    match cause {
+        RefusalCause::SyncByte => CellWord::SyncByte,
+        RefusalCause::Header => CellWord::RefusedHeader,
+        RefusalCause::TransportError => CellWord::TransportError,
+    }
+}
+
+/// Returns the cells of a packet that counts for nothing.
+pub(crate) fn refused_cells(e: &RefusedPacket) -> [Cell; 6]
+    ensures { result ≡ spec.refused_cells e.now }
+{
+    [
+        Cell::Word(cause_word(e.cause)),
+        Cell::Word(CellWord::Nothing),
+        Cell::Number(e.packet, CellUnit::Same),
+        Cell::Word(CellWord::Nothing),
+        Cell::Word(CellWord::Nothing),
+        Cell::Word(CellWord::Nothing),
+    ]
+}
+
+/// Returns the cells of a continuity_counter that does not follow: the one that came, beside the one that had to come.
+pub(crate) fn continuity_cells(e: &CounterFault) -> [Cell; 6]
+    ensures { result ≡ spec.continuity_cells e.now }
+{
+    [
+        Cell::Word(CellWord::Continuity),
+        Cell::Number(u64::from(e.pid), CellUnit::Same),
+        Cell::Number(e.packet, CellUnit::Same),
+        Cell::Number(u64::from(e.found), CellUnit::Same),
+        Cell::Number(u64::from(e.expected), CellUnit::Same),
+        Cell::Word(CellWord::Nothing),
+    ]
+}
+
+/// Returns the cells of a section with a wrong check word.
+pub(crate) fn check_word_cells(e: &CheckWordFault) -> [Cell; 6]
+    ensures { result ≡ spec.check_word_cells e.now }
+{
+    [
+        Cell::Word(CellWord::CheckWord),
+        Cell::Number(u64::from(e.pid), CellUnit::Same),
+        Cell::Number(e.packet, CellUnit::Same),
+        Cell::Word(CellWord::Nothing),
+        Cell::Word(CellWord::Nothing),
+        Cell::Word(CellWord::Nothing),
+    ]
+}
+
+/// Returns the cells of a check: its number and name, its faults, and the packets of the first and the last of them.
+pub(crate) fn check_cells(e: &CheckTotals) -> [Cell; 5]
+    ensures { result ≡ spec.check_cells e.now }
+{
+    [
+        Cell::CheckNumber(e.check),
+        Cell::CheckName(e.check),
+        Cell::Checked(e.count.faults, Some(0), CellUnit::Same),
+        Cell::Number(e.count.first, CellUnit::Same),
+        Cell::Number(e.count.last, CellUnit::Same),
     ]
 }

@@ -3,13 +3,17 @@ ghost use Rattle.std.specs.Prelude.{◌≡◌, ◌++◌, OnOk};
 ghost use Rattle.view_page.specs.Rows as spec;
 
 use crate::cells::{Cell, CellWord, write_cells, write_row};
-use crate::row_cells::{
-    ahead_cells, clock_cells, clock_place_cells, clock_time_cells, elementary_cells,
-    elementary_late_cells, excess_cells, late_cells, main_cells, multiplexing_cells, pid_cells,
-    program_excess_cells, reference_cells, stream_cells, system_cells, table_cells,
-    table_fault_cells, transport_cells, unclocked_cells,
+use crate::input_cells::{
+    empty_cells, no_stream_cells, other_rate_cells, packet_size_cells, slip_cells,
 };
-use events::{Event, StreamBegin};
+use crate::row_cells::{
+    ahead_cells, check_cells, check_word_cells, clock_cells, clock_place_cells, clock_time_cells,
+    continuity_cells, elementary_cells, elementary_late_cells, excess_cells, late_cells,
+    main_cells, multiplexing_cells, pid_cells, program_excess_cells, reference_cells,
+    refused_cells, stream_cells, system_cells, table_cells, table_fault_cells, transport_cells,
+    unclocked_cells,
+};
+use events::{Event, InputEvent, StreamBegin};
 use page_charts::PidLabels;
 use std::alloc::{AllocError, Global};
 use std::marker::Model;
@@ -37,6 +41,7 @@ impl Model for StreamRow {
 #[derive(Drop)]
 pub struct Rows {
     alloc: Global,
+    pub checks: String,
     pub streams: Vec<StreamRow>,
     pub buffers: String,
     pub systems: String,
@@ -55,6 +60,7 @@ impl Model for Rows {
     ghost Value = { RowTexts };
 
     ghost view = { λ r. record {
+      checks = string_bytes r.checks;
       streams = r.streams.items;
       buffers = string_bytes r.buffers;
       systems = string_bytes r.systems;
@@ -74,6 +80,7 @@ impl Rows {
     {
         Rows {
             alloc,
+            checks: String::new(alloc),
             streams: Vec::new(alloc),
             buffers: String::new(alloc),
             systems: String::new(alloc),
@@ -134,7 +141,26 @@ impl Rows {
             Event::PcrAccuracy(e) => self.take_fault(labels, &clock_place_cells(e)),
             Event::TableRepetition(e) => self.take_fault(labels, &table_fault_cells(e)),
             Event::Unclocked(e) => self.take_fault(labels, &unclocked_cells(e)),
+            Event::Refused(e) => self.take_fault(labels, &refused_cells(e)),
+            Event::Continuity(e) => self.take_fault(labels, &continuity_cells(e)),
+            Event::CheckWord(e) => self.take_fault(labels, &check_word_cells(e)),
             _ => Ok(()),
+        }
+    }
+
+    // How the bytes of the input are packets.
+    #[tactic(auto, unfolding(crate::specs::Rows::with_input))]
+    fn take_input(&mut self, labels: &PidLabels, event: &InputEvent) -> Result<(), AllocError>
+        ensures { OnOk result (self.new ≡ spec.with_input labels.now self.old event.now) }
+    {
+        match event {
+            InputEvent::Slip(e) => self.take_fault(labels, &slip_cells(e)),
+            InputEvent::PacketSize(size) => {
+                write_row(&mut self.apart, labels, &packet_size_cells(*size))
+            }
+            InputEvent::Empty => self.take_fault(labels, &empty_cells()),
+            InputEvent::NoStream(form) => self.take_fault(labels, &no_stream_cells(*form)),
+            InputEvent::OtherRate(e) => self.take_fault(labels, &other_rate_cells(e)),
         }
     }
 
@@ -164,6 +190,7 @@ impl Rows {
         ensures { OnOk result (self.new ≡ spec.with_event labels.now self.old event.now) }
     {
         match event {
+            Event::Input(event) => self.take_input(labels, event),
             Event::Stream(stream) => self.take_stream(labels, stream),
             Event::Transport(e) => self.take_buffer(labels, &transport_cells(e)),
             Event::Main(e) => self.take_buffer(labels, &main_cells(e)),
@@ -187,6 +214,7 @@ impl Rows {
                     &reference_cells(CellWord::Missing, *pid),
                 )
             }
+            Event::Check(e) => write_row(&mut self.checks, labels, &check_cells(e)),
             _ => self.take_faults(labels, event),
         }
     }

@@ -1,7 +1,7 @@
 use Rattle.std.proofs.Common.{◌≡◌, ◌∙◌, ℕ, suc, ◌+◌, ◌-◌, ◌<◌, ◌∷◌, ◌++◌, drop, length, List, Option, None, ap, arith, string_bytes}
 use Rattle.std.proofs.lemmas.List.{drop_more}
-use Rattle.page_curves.specs.declared.bounds.Bounds.{Bounds}
-use Rattle.page_curves.specs.Slots.{slot_at}
+use Rattle.page_charts.specs.declared.bounds.Bounds.{Bounds}
+use Rattle.page_charts.specs.Slots.{slot_at}
 use Rattle.page_charts.specs.Paths.{low}
 use Rattle.page_charts.proofs.Backward.{back_more, back_none}
 use Rattle.page_charts.proofs.paths.write_lows_back.Goals as goal

@@ -2,7 +2,7 @@ use Rattle.std.proofs.Common.{◌≡◌, ◌∙◌, ◌≢◌, sym, ap, List, So
 use Rattle.std.specs.Prelude.{slice_get}
 use Rattle.std.proofs.lemmas.List.{set-get_or}
 use Rattle.std.proofs.lemmas.Option.{slice_get-get_or}
-use Rattle.page_curves.specs.Curves.{sample}
+use Rattle.page_charts.specs.Curves.{sample}
 use Rattle.page_charts.specs.declared.pid_curves.PidCurve.{PidCurve}
 use Rattle.page_charts.proofs.Kept.{Walks, ends, goes_on, stops_ok}
 use Rattle.page_charts.proofs.pid_curves.take_in.Goals as goal

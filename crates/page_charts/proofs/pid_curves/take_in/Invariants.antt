@@ -1,6 +1,6 @@
 use Rattle.std.proofs.Common.{◌≡◌, ◌++◌, List, take, drop}
 use Rattle.page_charts.specs.PidCurves.{AreCurves, KeptCurve, with_sample}
-use Rattle.page_curves.specs.Curves.{sample}
+use Rattle.page_charts.specs.Curves.{sample}
 use Rattle.page_charts.proofs.Kept.{Walks}
 use Rattle.page_charts.proofs.pid_curves.take_in.Given as goal
 

@@ -5,5 +5,5 @@ pub take_input-requires-clause-start : goal.take_input-requires-clause-start
 take_input-requires-clause-start g c = takes_none c.args.drawing.now
 
 pub returns-in-Ok : goal.returns-in-Ok
-returns-in-Ok g c = λ r d.
-    all_drawn r _ c.args.drawing.now c.take_input.new.taker c.in-Ok.size c.drawn.result d c.in-Ok.ensures c.drawn.ensures.ok c.drawn.ensures.err
+returns-in-Ok g c = λ r d same.
+    all_drawn r _ c.args.drawing.now c.take_input.new.taker _ c.drawn.result c.args.rate d same c.in-Ok.ensures c.drawn.ensures.ok c.drawn.ensures.err

@@ -9,4 +9,4 @@ returns-in-Err g c =
     none_seen c.args.request c.args.json input output c.in-Err.halt c.in-Err.ensures.err
 
 pub returns : goal.returns
-returns g c = c.view_whole-result.ensures c.args.request c.new-view.ensures.view
+returns g c = c.view_whole-result.ensures c.args.request c.new-stream.ensures.view c.rate_of-rate.ensures

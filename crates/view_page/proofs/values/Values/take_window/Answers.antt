@@ -1,6 +1,6 @@
 use Rattle.std.proofs.Common.{◌≡◌, ◌∙◌, ℕ, ◌+◌, ◌-◌, ◌^◌, List, ap, max, min, subst}
 use Rattle.events.specs.Windows.{WindowView}
-use Rattle.page_curves.specs.Curves.{sample}
+use Rattle.page_charts.specs.Curves.{sample}
 use Rattle.page_charts.specs.PidCurves.{AreCurves, KeptCurve, opened, with_sample}
 use Rattle.view_page.specs.Cells.{short}
 use Rattle.view_page.specs.Values.{name_of}

@@ -1,0 +1,34 @@
+//! Laws of arrivals. Each is a function that does nothing: its contract is the law, over the definitions of `specs/` alone, and a
+//! caller may cite it.
+ghost use Rattle.arrival.specs.Laws.{ConstantMoments, ConstantRow, ConstantScale};
+ghost use Rattle.arrival.specs.Laws.{LineBegins, LineEnds, LinesMeet, LineRises, Rounded, ReachLaw};
+ghost use Rattle.arrival.specs.Laws.{MomentLaw, HeldLaw, StateLaw};
+
+/// States for a stream of constant rate that its line gives the moments of `clock27`, and its rows the arrivals.
+pub fn constant_rate()
+    ensures moments { ConstantMoments }
+    ensures rows { ConstantRow }
+    ensures scale { ConstantScale }
+{}
+
+/// States that a line goes through both its references, so that the next line begins where it ends; no byte arrives before an
+/// earlier one; and an arrival is less than a unit early.
+pub fn lines()
+    ensures begins { LineBegins }
+    ensures ends { LineEnds }
+    ensures meet { LinesMeet }
+    ensures rises { LineRises }
+    ensures rounded { Rounded }
+    ensures reaches { ReachLaw }
+{}
+
+/// States that a clock's moments are its references, where it continues and where it restarts.
+pub fn moments()
+    ensures { MomentLaw }
+{}
+
+/// States that the line of a byte is known once the reference after it has come.
+pub fn held()
+    ensures line { HeldLaw }
+    ensures state { StateLaw }
+{}

@@ -1,0 +1,4 @@
+pub mod FrontForms
+pub mod Captures
+pub mod Reading
+pub mod Laws

@@ -1,0 +1,40 @@
+//! What is known of a capture so far.
+ghost use Rattle.std.specs.Prelude.{◌≡◌};
+ghost use Rattle.capture.specs.Reading.{known_form};
+
+use crate::place::Place;
+use events::FileForm;
+use packet_sync::OtherPackets;
+
+/// What the first bytes of a capture show: the size of its packets, if it is not 188, and what it is if it is no transport stream.
+#[derive(Clone, Copy)]
+pub struct Front {
+    pub other: Option<OtherPackets>,
+    pub form: FileForm,
+}
+
+/// What is known of a capture: its front, once enough bytes have come, and the place up to which its parts are settled.
+#[derive(Clone, Copy)]
+pub struct Settled {
+    pub front: Option<Front>,
+    pub place: Place,
+}
+
+impl Settled {
+    /// Before the first byte.
+    pub(crate) const NONE: Settled = Settled {
+        front: None,
+        place: Place::FIRST,
+    };
+
+    /// Returns what the capture is if it is no transport stream, as far as that is known.
+    #[tactic(auto, unfolding(crate::specs::Reading::known_form))]
+    pub(crate) fn form(&self) -> FileForm
+        ensures { result ≡ known_form self.now.front }
+    {
+        match self.front {
+            None => FileForm::Unknown,
+            Some(front) => front.form,
+        }
+    }
+}

@@ -1,0 +1,80 @@
+//! The lines of faults of packets and sections, and of the checks of ETSI TR 101 290.
+ghost use Rattle.std.specs.Prelude.{◌≡◌, ◌++◌, OnOk, string_bytes};
+ghost use Rattle.events.specs.FaultLines as spec;
+
+use crate::check_counts::CheckTotals;
+use crate::lines::{number, word, write_line};
+use crate::packet_fault::{CheckWordFault, CounterFault, RefusalCause, RefusedPacket};
+use std::alloc::AllocError;
+
+#[tactic(auto, unfolding(crate::specs::FaultLines::cause_word))]
+fn cause_word(cause: RefusalCause) -> &'static str
+    ensures { result.now ≡ spec.cause_word cause }
+{
+    match cause {
+        RefusalCause::SyncByte => "sync_byte",
+        RefusalCause::Header => "header",
+        RefusalCause::TransportError => "transport_error",
+    }
+}
+
+/// Appends `refused`.
+pub(crate) fn write_refused(
+    text: &mut String,
+    json: bool,
+    e: &RefusedPacket,
+) -> Result<(), AllocError>
+    ensures { OnOk result (string_bytes text.new ≡ string_bytes text.old ++ spec.refused_line json e.now) }
+{
+    let fields = [
+        number("packet", u128::from(e.packet)),
+        word("cause", cause_word(e.cause)),
+    ];
+    write_line(text, json, "refused", &fields)
+}
+
+/// Appends `continuity`.
+pub(crate) fn write_continuity(
+    text: &mut String,
+    json: bool,
+    e: &CounterFault,
+) -> Result<(), AllocError>
+    ensures { OnOk result (string_bytes text.new ≡ string_bytes text.old ++ spec.continuity_line json e.now) }
+{
+    let fields = [
+        number("pid", u128::from(e.pid)),
+        number("packet", u128::from(e.packet)),
+        number("expected", u128::from(e.expected)),
+        number("found", u128::from(e.found)),
+    ];
+    write_line(text, json, "continuity", &fields)
+}
+
+/// Appends `check_word`.
+pub(crate) fn write_check_word(
+    text: &mut String,
+    json: bool,
+    e: &CheckWordFault,
+) -> Result<(), AllocError>
+    ensures { OnOk result (string_bytes text.new ≡ string_bytes text.old ++ spec.check_word_line json e.now) }
+{
+    let fields = [
+        number("pid", u128::from(e.pid)),
+        number("packet", u128::from(e.packet)),
+    ];
+    write_line(text, json, "check_word", &fields)
+}
+
+/// Appends `check`.
+pub(crate) fn write_check(text: &mut String, json: bool, e: &CheckTotals) -> Result<(), AllocError>
+    ensures { OnOk result (string_bytes text.new ≡ string_bytes text.old ++ spec.check_line json e.now) }
+{
+    let fields = [
+        word("number", e.check.number()),
+        word("name", e.check.name()),
+        number("faults", u128::from(e.count.faults)),
+        number("first", u128::from(e.count.first)),
+        number("last", u128::from(e.count.last)),
+    ];
+    write_line(text, json, "check", &fields)
+}

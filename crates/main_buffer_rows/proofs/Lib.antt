@@ -1,4 +1,0 @@
-pub mod RowEntries
-pub mod Pieces
-pub mod Least
-pub mod Leaving

@@ -1,2 +1,0 @@
-pub mod RowEntry
-pub mod Least

@@ -1,3 +1,0 @@
-pub mod NamedStreams
-pub mod Wanting
-pub mod Laws

@@ -1,5 +1,0 @@
-pub mod Rows
-pub mod Lines
-pub mod Clocks
-pub mod Examples
-pub mod HeldBytes

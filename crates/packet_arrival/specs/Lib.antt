@@ -1,5 +1,0 @@
-pub mod Rows
-pub mod Lines
-pub mod Clock
-pub mod ByteLines
-pub mod Laws

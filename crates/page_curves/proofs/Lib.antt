@@ -1,4 +1,0 @@
-pub mod Merging
-pub mod Neighbours
-pub mod Widening
-pub mod Values

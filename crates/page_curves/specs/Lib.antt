@@ -1,4 +1,0 @@
-pub mod Bounds
-pub mod Slots
-pub mod Curves
-pub mod Laws

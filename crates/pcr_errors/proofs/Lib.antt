@@ -1,4 +1,0 @@
-pub mod Rounding
-pub mod Clocks
-pub mod WholeTicks
-pub mod Examples

@@ -1,3 +1,0 @@
-pub mod References
-pub mod Packets
-pub mod Laws

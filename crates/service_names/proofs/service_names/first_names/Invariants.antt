@@ -1,8 +1,0 @@
-use Rattle.std.proofs.Common.{◌≡◌, ◌++◌, map, drop}
-use Rattle.demux.specs.Shown.{finding_view}
-use Rattle.service_names.specs.ServiceNames.{first_name}
-use Rattle.service_names.proofs.service_names.first_names.Given as goal
-
-abbrev pub invariant-loop-program : goal.invariant-loop-program
-invariant-loop-program l =
-    l.names.items ++ map (first_name (map finding_view l.findings)) (drop l.program-index l.programs) ≡ map (first_name (map finding_view l.findings)) l.programs

@@ -1,0 +1,9 @@
+pub mod Rounding
+pub mod Clocks
+pub mod WholeTicks
+pub mod PcrExamples
+pub mod Continuities
+pub mod Entries
+mod LastPackets
+pub mod IntervalExamples
+pub mod Members

@@ -1,0 +1,16 @@
+pub mod Samples
+pub mod Measures
+pub mod Errors
+pub mod Counts
+pub mod Watches
+pub mod PcrLaws
+pub mod PidWatches
+pub mod Continuity
+pub mod Limits
+pub mod Intervals
+pub mod Sections
+pub mod IntervalLaws
+pub mod Parts
+pub mod References
+pub mod Packets
+pub mod ReferenceLaws

@@ -1,0 +1,63 @@
+//! What an analyst asks of clock references, tables and PIDs (ETSI TR 101 290, 5.2), in constant memory.
+//!
+//! Clock references (2.3a, 2.3b and 2.4; ISO/IEC 13818-1, 2.4.3.5 and 2.7.2), reference by reference:
+//!
+//! - [`pcr_sample`]: the reference of a packet.
+//! - [`PcrWatches`]: takes the packets of a stream, and gives a report on each reference: one [`PcrWatch`] a PID is kept.
+//! - [`PcrReport`]: where the clock continues or restarts, the rate that two references give, the time between them, how
+//!   far one lies from where it ought to; and which of these is an error. [`PcrCounts`]: reports counted, with their greatest values.
+//! - [`pcr_laws`]: there is an error exactly where the exact value is beyond its limit.
+//!
+//! Tables (also ETSI TR 101 211, 4.4): the greatest time from one section of a table_id on a PID to the next, and which of these
+//! times are too long:
+//!
+//! - [`TableIntervals`]: takes where sections begin ([`section_begin`]); keeps one entry for each PID and table_id, and one for each
+//!   part of a table whose parts have to come again by themselves ([`has_parts`]), whatever the length of the stream.
+//! - [`limit_of`]: the time within which a table has to come again.
+//! - [`interval_laws`]: an entry describes all sections of its PID and table_id.
+//!
+//! PIDs that the tables of a stream name, beside the PIDs that have packets:
+//!
+//! - [`referenced_pids`]: the PIDs that the first program association and program map tables name.
+//! - [`unreferenced_pids`]: PIDs with packets that no table names (3.4, Unreferenced_PID).
+//! - [`missing_pids`]: PIDs that are named and have no packet (1.6, PID_error).
+//! - [`reference_laws`]: which PIDs are in these lists. The PIDs 0 to 31 carry the tables themselves (ISO/IEC 13818-1,
+//!   table 2-3; ETSI EN 300 468, table 1), and 8,191 null packets: no table has to name them. PIDs that CA descriptors or the CAT
+//!   alone name are not counted as named.
+//!
+//! Times are ticks of 27 MHz, of tables also packets (a packet lasts 40,608,000,000 / R ticks at R bits a second), inaccuracies
+//! nanoseconds. They are rounded up, so that a value is beyond a whole limit exactly where the exact one is; a rate is rounded down.
+#![tactic(auto)]
+
+mod continuity;
+mod counts;
+pub mod interval_laws;
+mod intervals;
+mod limits;
+mod measures;
+mod packets;
+mod parts;
+pub mod pcr_laws;
+pub mod reference_laws;
+mod references;
+mod report;
+mod sample;
+mod sections;
+mod watch;
+mod watches;
+
+pub use continuity::{ContinuityError, ContinuityWatch};
+pub use counts::PcrCounts;
+pub use intervals::{
+    SectionBegin, SectionPlaces, TableEntries, TableError, TableIntervals, TableTiming, key_of,
+    pid_of, table_id_of, time_between,
+};
+pub use limits::limit_of;
+pub use packets::{missing_pids, unreferenced_pids};
+pub use parts::has_parts;
+pub use references::referenced_pids;
+pub use report::{GREATEST_INACCURACY, GREATEST_INTERVAL, Inaccuracy, PcrError, PcrReport};
+pub use sample::pcr_sample;
+pub use sections::section_begin;
+pub use watch::{PcrTiming, PcrWatch};
+pub use watches::{PcrEntries, PcrWatches};

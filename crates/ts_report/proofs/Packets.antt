@@ -1,0 +1,32 @@
+-- Packets one by one.
+use Rattle.std.proofs.Common.{◌≡◌, ◌∙◌, sym, ℕ, List, [], ◌∷◌, ◌++◌, ap, subst, append_assoc, append-nil}
+use Rattle.events.specs.declared.event.Event.{Event}
+use Rattle.ts_report.specs.declared.view.View.{View}
+use Rattle.ts_report.specs.Views.{IsView, ViewState, after_all, after_packet, events_all, events_at}
+
+-- what a view is after some packets, with those that are left, and the events that are still to come
+pub record Settled (view : View) (packets : List (List ℕ)) (events : List Event) (last : ViewState) (whole : List Event) : Type 0 where
+  pub now : ViewState
+  pub is : IsView view now
+  pub kept : after_all now packets ≡ last
+  pub rest : events ++ events_all now packets ≡ whole
+
+pub one_taken : (view view' : View) (packet : List ℕ) (packets : List (List ℕ)) (events events' : List Event) (last : ViewState) (whole : List Event) →
+    ((s : ViewState) → IsView view s → IsView view' (after_packet s packet)) → ((s : ViewState) → IsView view s → events' ≡ events ++ events_at s packet) →
+    Settled view (packet ∷ packets) events last whole → Settled view' packets events' last whole
+unfolding after_all events_all
+one_taken view view' packet packets events events' last whole takes writes s = record {
+  now = after_packet s.now packet;
+  is = takes s.now s.is;
+  kept = s.kept;
+  rest = ap (λ (t : List Event). t ++ events_all (after_packet s.now packet) packets) (writes s.now s.is)
+      ∙ append_assoc events (events_at s.now packet) (events_all (after_packet s.now packet) packets) ∙ s.rest;
+}
+
+pub all_kept : (view : View) (events : List Event) (last : ViewState) (whole : List Event) → Settled view [] events last whole → IsView view last
+unfolding after_all
+all_kept view events last whole s = subst (IsView view) s.kept s.is
+
+pub all_settled : (view : View) (events : List Event) (last : ViewState) (whole : List Event) → Settled view [] events last whole → events ≡ whole
+unfolding events_all
+all_settled view events last whole s = sym (append-nil events) ∙ s.rest

@@ -1,0 +1,20 @@
+use Rattle.std.proofs.Common.{ℕ, refl, subst}
+use Rattle.arrival.specs.Arrivals.{step_of}
+use Rattle.tstd_rows.specs.Held.{Held, IsHeld, empty}
+use Rattle.ts_report.proofs.stream_table.new_entry.Goals as goal
+
+pub returns : goal.returns
+returns c =
+    let rate = step_of c.args.options.now.arrival in
+    let rx = c.args.buffers.rx in
+    let begun : IsHeld c.new-held.result (empty rate rx c.args.buffers.main) =
+    subst (λ (m : ℕ). IsHeld c.new-held.result (empty rate rx m)) c.from.ensures c.new-held.ensures.held in
+    record {
+      pid = refl;
+      clock_pid = refl;
+      counter = refl;
+      held = c.view_video_if.ensures.held (empty rate rx c.args.buffers.main) begun;
+      tally = c.new.ensures;
+      video = c.view_video_if.ensures.video (empty rate rx c.args.buffers.main) begun refl;
+      video_tally = c.new-2.ensures;
+    }

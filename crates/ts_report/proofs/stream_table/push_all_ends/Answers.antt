@@ -1,0 +1,26 @@
+use Rattle.std.proofs.Common.{◌≡◌, ◌∙◌, sym, ◌+◌, List, ◌∷◌, ◌++◌, drop, ap, subst, arith}
+use Rattle.std.specs.Prelude.{flat_map}
+use Rattle.std.proofs.lemmas.List.{drop_more}
+use Rattle.ts_report.specs.declared.stream_entry.StreamEntry.{StreamEntry}
+use Rattle.ts_report.specs.Entries.{end_events}
+use Rattle.ts_report.proofs.Entries.{Ahead, all_written, drop_past, one_written}
+use Rattle.ts_report.proofs.stream_table.push_all_ends.Goals as goal
+
+pub loop-entry-preserved : goal.loop-entry-preserved
+loop-entry-preserved c = λ es a.
+    let bs = c.args.entries.now in
+    let i = c.loop-entry.entry-index in
+    let f = end_events c.args.options.now c.args.packets c.args.window in
+    let whole = c.args.events.now.items ++ flat_map f es in
+    let left : drop i bs ≡ c.entry-item.result ∷ drop (i + 1) bs =
+    drop_more bs i c.entry-item.result c.loop-entry-test.true ∙ ap (λ (b : StreamEntry). b ∷ drop (i + 1) bs) (sym c.entry-item.is) in
+    one_written f c.entry-item.result (drop (i + 1) bs) (c.loop-entry.events.items) (c.push_end.new.events.items) whole c.in_ok-push_end.ensures
+    (subst (λ (xs : List StreamEntry). Ahead xs f (c.loop-entry.events.items) whole) left (c.loop-entry.invariant es a))
+
+pub returns : goal.returns
+returns c = λ es a.
+    let f = end_events c.args.options.now c.args.packets c.args.window in
+    let whole = c.args.events.now.items ++ flat_map f es in
+    all_written f (c.loop-entry.events.items) whole
+    (subst (λ (xs : List StreamEntry). Ahead xs f (c.loop-entry.events.items) whole)
+    (drop_past c.args.entries.now c.loop-entry.entry-index (omega (arith, c.loop-entry-test.false))) (c.loop-entry.invariant es a))

@@ -1,0 +1,203 @@
+-- What is kept of a stream beside its buffers.
+use Rattle.std.specs.Prelude.{ℕ, ◌+◌, ◌-◌, ◌^◌, min, nat_lt, Bool, false, if◌then◌else◌, is_some, List, [], ◌∷◌, ◌++◌, Option, None, Some, Result, Ok, Err}
+use Rattle.ts_packet.specs.declared.packet.PacketError.{PacketError}
+use Rattle.ts_packet.specs.declared.packet.PacketError.TheVariants as packet_errors
+use Rattle.ts_packet.specs.PidList.{Entry}
+use Rattle.ts_packet.specs.Views.{PacketView}
+use Rattle.ts_packet.specs.PcrBytes.{has_pcr}
+use Rattle.pid_windows.specs.Windows.{WindowView, no_packet, one_more, taken}
+use Rattle.ts_tables.specs.NamedStreams.{NamedView, none_taken}
+use Rattle.ts_tables.specs.NamedStreams as naming
+use Rattle.ts_tables.specs.ServiceNames.{NamesState}
+use Rattle.ts_tables.specs.ServiceNames as naming_services
+use Rattle.system_tables.specs.Programs.{ProgramState}
+use Rattle.system_tables.specs.Programs as programs
+use Rattle.tr101290.specs.PidWatches.{WatchesState, report_at}
+use Rattle.tr101290.specs.PidWatches as watching
+use Rattle.tr101290.specs.declared.report.PcrReport.{PcrReport}
+use Rattle.tr101290.specs.declared.watch.PcrTiming.{PcrTiming}
+use Rattle.tr101290.specs.declared.watch.PcrTiming.TheVariants.{ConstantRate, References}
+use Rattle.events.specs.declared.packet_fault.RefusalCause.{RefusalCause}
+use Rattle.events.specs.declared.packet_fault.RefusalCause.TheVariants as causes
+use Rattle.tr101290.specs.Continuity.{Lasts, after, error_at}
+use Rattle.tr101290.specs.declared.continuity.ContinuityError.{ContinuityError}
+use Rattle.tr101290.specs.declared.intervals.TableTiming.{TableTiming}
+use Rattle.tr101290.specs.declared.intervals.TableTiming.TheVariants as timings
+use Rattle.arrival.specs.Arrivals.{moment_on}
+use Rattle.arrival.specs.declared.arrival.Arrival.{Arrival}
+use Rattle.arrival.specs.declared.arrival.Arrival.TheVariants.{Unknown, AtRate, OnLines}
+use Rattle.events.specs.declared.event.Event.{Event}
+use Rattle.events.specs.declared.event.Event.TheVariants as found
+use Rattle.ts_report.specs.declared.view_options.ViewOptions.{ViewOptions}
+use Rattle.ts_report.specs.Clocks.{ClockEntries, clocks_after, no_clocks}
+use Rattle.ts_report.specs.ClockEvents.{clock_events, errors_in, report_events_if}
+use Rattle.ts_report.specs.Choices.{ChoiceView}
+use Rattle.ts_report.specs.ReferenceEvents.{reference_events}
+use Rattle.ts_report.specs.SystemEvents.{excess_events}
+use Rattle.ts_report.specs.TableEvents.{TablesState, no_tables, table_events}
+use Rattle.ts_report.specs.TableEvents as tables
+use Rattle.ts_report.specs.WindowEvents.{pid_events, window_of}
+
+-- the number of packets, and of those that are refused or have transport_error_indicator; the window of the last packet that is
+-- not; the packets of each PID; the last clock reference of each, and what all of them came to, by the rate, with the number of
+-- their errors; the sections of tables; the buffers of programs' tables; the streams that are named; and the names of their services
+pub record SeenState : Type 0 where
+  pub options : ViewOptions
+  pub packets : ℕ
+  pub refused : ℕ
+  pub counters : Lasts
+  pub window : WindowView
+  pub totals : WindowView
+  pub clocks : ClockEntries
+  pub watches : WatchesState
+  pub errors : ℕ
+  pub tables : TablesState
+  pub systems : Option (List ProgramState)
+  pub named : NamedView
+  pub services : NamesState
+
+-- by what references are measured: by the rate, or by each other
+unfoldable pub timing_of : Arrival → PcrTiming
+timing_of Unknown = References
+timing_of (AtRate rate) = ConstantRate rate
+timing_of (OnLines lines) = References
+
+-- and in what the places of sections are counted
+unfoldable pub table_timing : Arrival → TableTiming
+table_timing Unknown = timings.Ticks
+table_timing (AtRate rate) = timings.ConstantRate rate
+table_timing (OnLines lines) = timings.Ticks
+
+-- before the first packet
+abbrev pub nothing_seen : ViewOptions → SeenState
+nothing_seen options = record {
+  options = options;
+  packets = 0;
+  refused = 0;
+  counters = [];
+  window = no_packet;
+  totals = no_packet;
+  clocks = no_clocks;
+  watches = watching.no_packet (timing_of options.arrival);
+  errors = 0;
+  tables = no_tables (table_timing options.arrival);
+  systems = None;
+  named = none_taken;
+  services = naming_services.none_taken;
+}
+
+-- packets arrive so from here on: the first line that is known gives the moment of the stream's first byte
+unfoldable pub origin_on : Arrival → ℕ
+origin_on Unknown = 0
+origin_on (AtRate rate) = 0
+origin_on (OnLines lines) = moment_on lines 0
+
+unfoldable pub origin_after : Arrival → ℕ → Arrival → ℕ
+origin_after Unknown origin arrival = origin_on arrival
+origin_after (AtRate rate) origin arrival = origin
+origin_after (OnLines lines) origin arrival = origin
+
+abbrev pub with_arrival : ViewOptions → Arrival → ViewOptions
+with_arrival options arrival = record options { arrival = arrival; origin = origin_after options.arrival options.origin arrival }
+
+-- so many packets that come next have no moment: that is an error
+unfoldable pub unclocked : Arrival → ℕ → Bool
+unclocked Unknown count = nat_lt 0 count
+unclocked (AtRate rate) count = false
+unclocked (OnLines lines) count = false
+
+abbrev pub arriving : SeenState → Arrival → ℕ → SeenState
+arriving s arrival count = record s {
+  options = with_arrival s.options arrival;
+  errors = min (s.errors + (if unclocked arrival count then 1 else 0)) (2 ^ 64 - 1);
+}
+
+abbrev pub unclocked_event : SeenState → ℕ → Event
+unclocked_event s count = found.Unclocked (record { packet = s.packets; packets = count })
+
+abbrev pub arrival_events : SeenState → Arrival → ℕ → List Event
+arrival_events s arrival count = if unclocked arrival count then unclocked_event s count ∷ [] else []
+
+-- a packet that can't be read, or says that it is wrong
+unfoldable pub cause_of : PacketError → RefusalCause
+cause_of packet_errors.Sync = causes.SyncByte
+cause_of packet_errors.ReservedControl = causes.Header
+cause_of packet_errors.FieldTooLong = causes.Header
+cause_of packet_errors.PartTooLong = causes.Header
+
+abbrev pub without : SeenState → SeenState
+without s = record s { packets = one_more s.packets; refused = one_more s.refused }
+
+abbrev pub refused_events : SeenState → RefusalCause → List Event
+refused_events s cause = found.Refused (record { packet = s.packets; cause = cause }) ∷ []
+
+-- one that can: its clock reference, with its errors, and then it enters the buffers of programs' tables and its PID is counted
+abbrev pub report_on : SeenState → PacketView → Option PcrReport
+report_on s packet = report_at s.watches s.packets packet
+
+abbrev pub with_clock : SeenState → PacketView → SeenState
+with_clock s packet = record s {
+  clocks = clocks_after s.clocks s.options.arrival s.packets packet;
+  watches = watching.taken s.watches s.packets packet;
+  errors = min (s.errors + errors_in (report_on s packet)) (2 ^ 64 - 1);
+}
+
+abbrev pub clock_errors : SeenState → PacketView → List Event
+clock_errors s packet = report_events_if packet.header.pid (report_on s packet)
+
+abbrev pub next_window : SeenState → ℕ
+next_window s = window_of s.options s.packets
+
+abbrev pub counted : SeenState → PacketView → SeenState
+counted s packet = record s {
+  systems = programs.taken s.options.arrival s.packets s.named packet.header.pid s.systems;
+  packets = one_more s.packets;
+  window = taken s.window (next_window s) packet.header.pid (has_pcr packet.adaptation);
+  totals = taken s.totals 0 packet.header.pid (has_pcr packet.adaptation);
+}
+
+-- the excesses of programs' tables that end with it
+abbrev pub system_excesses : SeenState → ChoiceView → PacketView → List Event
+system_excesses s choice packet =
+    excess_events s.options choice s.packets (programs.excesses_at s.options.arrival s.packets s.named packet.header.pid s.systems)
+
+-- the sections of tables in 188 bytes, and those that begin too late
+abbrev pub with_sections : SeenState → List ℕ → SeenState
+with_sections s bytes = record s { tables = tables.with_packet s.options s.tables bytes }
+
+abbrev pub section_events : SeenState → List ℕ → List Event
+section_events s bytes = tables.packet_events s.options s.tables bytes
+
+-- the continuity_counter of a packet that is counted: of one that can't be read, or says that it is wrong, it does not count
+abbrev pub counted_entry : SeenState → List ℕ → PacketView → Entry
+counted_entry s bytes packet = record { index = s.packets - 1; bytes = bytes; packet = packet }
+
+unfoldable pub counter_events_by : Option ContinuityError → List Event
+counter_events_by None = []
+counter_events_by (Some e) = found.Continuity (record { pid = e.pid; packet = e.packet; expected = e.expected; found = e.found }) ∷ []
+
+abbrev pub with_counter : SeenState → Entry → SeenState
+with_counter s entry = record s {
+  counters = after s.counters entry;
+  errors = min (s.errors + (if is_some (error_at s.counters entry) then 1 else 0)) (2 ^ 64 - 1);
+}
+
+unfoldable pub with_counter_read : SeenState → List ℕ → Result PacketView PacketError → SeenState
+with_counter_read s bytes (Err error) = s
+with_counter_read s bytes (Ok packet) = if packet.header.transport_error_indicator then s else with_counter s (counted_entry s bytes packet)
+
+unfoldable pub counter_events : SeenState → List ℕ → Result PacketView PacketError → List Event
+counter_events s bytes (Err error) = []
+counter_events s bytes (Ok packet) = if packet.header.transport_error_indicator then [] else counter_events_by (error_at s.counters (counted_entry s bytes packet))
+
+-- what 188 bytes name counts from the next packet on
+abbrev pub with_named : SeenState → List ℕ → SeenState
+with_named s bytes = record s { named = naming.taken s.named bytes; services = naming_services.taken s.services (naming.taken s.named bytes) bytes }
+
+-- at the end: clock references by PID, tables, all packets by PID, and which of these are not named or have none
+abbrev pub pid_ends : SeenState → List Event
+pid_ends s = clock_events s.watches ++ (table_events s.tables ++ (pid_events s.totals ++ reference_events s.named s.totals))
+
+-- the end, with the bytes that are left after the last whole packet
+abbrev pub end_event : SeenState → ℕ → Event
+end_event s left = found.End (record { packets = s.packets; refused = s.refused; left = left })

@@ -1,0 +1,148 @@
+-- The streams whose buffers have begun.
+use Rattle.std.specs.Prelude.{◌≡◌, ℕ, ◌+◌, ◌&&◌, not, nat_eq, is_some, unwrap_or, Bool, if◌then◌else◌, List, [], ◌∷◌, ◌++◌, drop, length, set, slice_get, flat_map, Option, Some, None}
+use Rattle.std.specs.List.{list_all}
+use Rattle.std.specs.Map.{lookup}
+use Rattle.indexmap.specs.IndexMap.{insert_entry}
+use Rattle.ts_packet.specs.Views.{PacketView}
+use Rattle.arrival.specs.Arrivals.{step_of}
+use Rattle.stream_coding.specs.declared.coding.Coding.{Coding}
+use Rattle.stream_coding.specs.declared.buffers.Buffers.{Buffers}
+use Rattle.stream_coding.specs.Codings.{coding_of}
+use Rattle.stream_programs.specs.Streams.{FoundStreamView}
+use Rattle.ts_tables.specs.NamedStreams.{NamedView, stream_of}
+use Rattle.ts_tables.specs.NamedStreams as naming
+use Rattle.tstd_rows.specs.Held.{empty}
+use Rattle.events.specs.declared.event.Event.{Event}
+use Rattle.ts_report.specs.declared.stream_entry.StreamEntry.{StreamEntry}
+use Rattle.ts_report.specs.declared.stream_table.StreamTable.{StreamTable}
+use Rattle.ts_report.specs.declared.view_options.ViewOptions.{ViewOptions}
+use Rattle.ts_report.specs.Choices.{ChoiceView, buffers_for, chosen, rates_for}
+use Rattle.ts_report.specs.Clocks.{ClockEntries, clock_of}
+use Rattle.ts_report.specs.Entries.{EntryState, IsEntry, end_events, entry_after, entry_events, units_of}
+use Rattle.ts_report.specs.Entries.{is_good as entry_is_good}
+use Rattle.ts_report.specs.EntryEvents.{stream_event}
+use Rattle.ts_report.specs.Tallies.{none_counted}
+use Rattle.ts_report.specs.VideoFigures.{sizes_if}
+use Rattle.ts_report.specs.VideoTallies.{none_of_video}
+use Rattle.tstd_rows.specs.declared.video_buffers.VideoRates.{VideoRates}
+
+-- which streams are viewed, the place of each PID, and the streams
+pub record TableState : Type 0 where
+  pub choice : ChoiceView
+  pub places : List (ℕ × ℕ)
+  pub entries : List EntryState
+
+abbrev pub no_streams : ChoiceView → TableState
+no_streams choice = record { choice = choice; places = []; entries = [] }
+
+-- streams one by one
+unfoldable pub AreEntries : List StreamEntry → List EntryState → Type 0
+AreEntries [] [] = Unit {0}
+AreEntries [] (e ∷ es) = ⊥
+AreEntries (entry ∷ more) [] = ⊥
+AreEntries (entry ∷ more) (e ∷ es) = IsEntry entry e × AreEntries more es
+
+pub record IsTable (table : StreamTable) (t : TableState) : Type 0 where
+  pub choice : table.choice ≡ t.choice
+  pub places : table.places.entries ≡ t.places
+  pub entries : AreEntries table.entries.items t.entries
+
+-- 1. Where buffers begin
+
+-- the bytes of a payload after the header of the PES packet that it begins: PES_header_data_length is its byte 8 (ISO/IEC
+-- 13818-1, 2.4.3.6)
+unfoldable pub unit_after : List ℕ → Option ℕ → List ℕ
+unit_after payload None = []
+unit_after payload (Some length) = drop (9 + length) payload
+
+abbrev pub unit_in : List ℕ → List ℕ
+unit_in payload = unit_after payload (slice_get payload 8)
+
+-- the coding of a stream by its entry in the map and by the packet in which its first PES packet begins
+abbrev pub coding_by : FoundStreamView → PacketView → Coding
+coding_by stream packet = coding_of stream.stream_type stream.descriptors (unit_in (unwrap_or packet.payload []))
+
+-- its buffers
+abbrev pub stream_buffers : TableState → FoundStreamView → PacketView → Buffers
+stream_buffers t stream packet = buffers_for t.choice packet.header.pid (coding_by stream packet)
+
+-- and of video its two buffers, if they are viewed
+abbrev pub stream_rates : TableState → FoundStreamView → PacketView → Option VideoRates
+stream_rates t stream packet = rates_for t.choice packet.header.pid (coding_by stream packet)
+
+-- the stream whose buffers begin with a packet: the first that begins a PES packet of it once it is named, of a program that is viewed
+abbrev pub beginning : NamedView → TableState → PacketView → Option FoundStreamView
+beginning named t packet =
+    if packet.header.payload_unit_start_indicator && not (is_some (lookup (nat_eq packet.header.pid) t.places)) then chosen t.choice (stream_of named packet.header.pid) else None
+
+abbrev pub new_entry : ViewOptions → ℕ → ℕ → Buffers → Option VideoRates → EntryState
+new_entry options pid clock_pid buffers rates = record {
+  pid = pid;
+  clock_pid = clock_pid;
+  counter = None;
+  held = empty (step_of options.arrival) buffers.rx buffers.main;
+  tally = none_counted;
+  video = sizes_if (step_of options.arrival) buffers.rx rates;
+  video_tally = none_of_video;
+}
+
+abbrev pub with_entry : TableState → ℕ → EntryState → TableState
+with_entry t pid e = record t { places = insert_entry nat_eq t.places pid (length t.entries); entries = t.entries ++ e ∷ [] }
+
+unfoldable pub begun_if : ViewOptions → NamedView → TableState → PacketView → Option FoundStreamView → TableState
+begun_if options named t packet None = t
+begun_if options named t packet (Some stream) =
+    with_entry t packet.header.pid (new_entry options packet.header.pid (naming.clock_of named stream.program) (stream_buffers t stream packet) (stream_rates t stream packet))
+
+abbrev pub begun : ViewOptions → NamedView → TableState → PacketView → TableState
+begun options named t packet = begun_if options named t packet (beginning named t packet)
+
+unfoldable pub begin_events_if : ℕ → TableState → PacketView → Option FoundStreamView → List Event
+begin_events_if index t packet None = []
+begin_events_if index t packet (Some stream) = stream_event index stream (coding_by stream packet) (stream_buffers t stream packet) ∷ []
+
+abbrev pub begin_events : ℕ → NamedView → TableState → PacketView → List Event
+begin_events index named t packet = begin_events_if index t packet (beginning named t packet)
+
+-- 2. A packet enters the buffers of its PID, if there are any
+
+abbrev pub entry_taken : ViewOptions → ℕ → ℕ → ClockEntries → PacketView → EntryState → EntryState
+entry_taken options index window clocks packet e = entry_after options index window (clock_of clocks e.clock_pid) e packet
+
+unfoldable pub taken_at : ViewOptions → ℕ → ℕ → ClockEntries → TableState → PacketView → ℕ → Option EntryState → TableState
+taken_at options index window clocks t packet place None = t
+taken_at options index window clocks t packet place (Some e) =
+    record t { entries = set t.entries place (entry_taken options index window clocks packet e) }
+
+unfoldable pub taken_if : ViewOptions → ℕ → ℕ → ClockEntries → TableState → PacketView → Option ℕ → TableState
+taken_if options index window clocks t packet None = t
+taken_if options index window clocks t packet (Some place) = taken_at options index window clocks t packet place (slice_get t.entries place)
+
+abbrev pub taken : ViewOptions → ℕ → ℕ → ClockEntries → TableState → PacketView → TableState
+taken options index window clocks t packet = taken_if options index window clocks t packet (lookup (nat_eq packet.header.pid) t.places)
+
+unfoldable pub events_in : ViewOptions → ℕ → ClockEntries → PacketView → Option EntryState → List Event
+events_in options index clocks packet None = []
+events_in options index clocks packet (Some e) = entry_events options index (clock_of clocks e.clock_pid) e packet
+
+unfoldable pub events_if : ViewOptions → ℕ → ClockEntries → TableState → PacketView → Option ℕ → List Event
+events_if options index clocks t packet None = []
+events_if options index clocks t packet (Some place) = events_in options index clocks packet (slice_get t.entries place)
+
+abbrev pub events_of : ViewOptions → ℕ → ClockEntries → TableState → PacketView → List Event
+events_of options index clocks t packet = events_if options index clocks t packet (lookup (nat_eq packet.header.pid) t.places)
+
+-- 3. All streams
+
+-- the buffers of a PID have begun
+abbrev pub has_stream : TableState → ℕ → Bool
+has_stream t pid = is_some (lookup (nat_eq pid) t.places)
+
+abbrev pub table_units : ViewOptions → ℕ → TableState → List Event
+table_units options window t = flat_map (units_of options window) t.entries
+
+abbrev pub table_end : ViewOptions → ℕ → ℕ → TableState → List Event
+table_end options packets window t = flat_map (end_events options packets window) t.entries
+
+abbrev pub is_good : TableState → Bool
+is_good t = list_all entry_is_good t.entries

@@ -1,0 +1,182 @@
+//! A stream, packet by packet, whose packets wait until it is known when they arrive.
+ghost use Rattle.std.specs.Prelude.{◌≡◌, ◌++◌, [], IfOk, OnOk, false};
+ghost use Rattle.clocked_packets.specs.Waiting.{last_arrival, released, stepped, with_held};
+ghost use Rattle.ts_report.specs.ClockedViews as spec;
+ghost use Rattle.ts_report.specs.ClockedViews.{ClockedState, IsClocked};
+ghost use Rattle.ts_report.specs.Crowding.{is_crowded};
+ghost use Rattle.ts_report.specs.Views.{IsView, ViewState};
+
+use crate::view::View;
+use crate::view_request::ViewRequest;
+use arrival::Arrival;
+use clocked_packets::{ClockPid, PacketQueue};
+use events::Event;
+use std::alloc::{AllocError, Global};
+
+/// A stream so far: at a constant rate it keeps no packet, otherwise the packets since the last clock reference.
+///
+/// After an `AllocError` it describes no stream: drop it.
+#[derive(Drop)]
+pub struct ClockedView {
+    pub view: View,
+    pub queue: Option<PacketQueue>,
+}
+
+// By whose references a stream arrives of which the streams of these programs are viewed, or of all.
+#[tactic(auto, unfolding(crate::specs::ClockedViews::clock_for))]
+fn clock_for(programs: &[u16]) -> ClockPid
+    ensures { result ≡ spec.clock_for programs.now }
+{
+    match programs.first() {
+        None => ClockPid::OfFirst,
+        Some(number) => ClockPid::OfProgram(*number),
+    }
+}
+
+#[tactic(auto, unfolding(crate::specs::ClockedViews::queue_of))]
+fn queue_of(alloc: Global, arrival: &Arrival, programs: &[u16]) -> Option<PacketQueue>
+    ensures { result ≡ spec.queue_of arrival.now programs.now }
+{
+    match arrival {
+        Arrival::Unknown => Some(PacketQueue::new(alloc, clock_for(programs))),
+        Arrival::AtRate(_) | Arrival::OnLines(_) => None,
+    }
+}
+
+// The packets that wait are viewed, as they arrive.
+fn view_waiting(
+    view: &mut View,
+    queue: &mut PacketQueue,
+    arrival: Arrival,
+    events: &mut Vec<Event>,
+) -> Result<(), AllocError>
+    ensures view { (v : ViewState) → IsView view.old v → OnOk result (IsView view.new (spec.view_with v queue.old arrival)) }
+    ensures found { (v : ViewState) → IsView view.old v → OnOk result (events.new.items
+        ≡ events.old.items ++ spec.events_with v queue.old arrival) }
+    ensures queue { OnOk result (queue.new ≡ with_held queue.old []) }
+{
+    view.arrive(arrival, queue.held().len(), events)?;
+    view.take_all(queue.held(), events)?;
+    queue.clear();
+    Ok(())
+}
+
+// The packets that wait are viewed, if it is known now how they arrive.
+#[tactic(auto, unfolding(crate::specs::ClockedViews::view_after, crate::specs::ClockedViews::events_after, crate::specs::ClockedViews::held_after))]
+fn view_if(
+    view: &mut View,
+    queue: &mut PacketQueue,
+    arrival: Option<Arrival>,
+    events: &mut Vec<Event>,
+) -> Result<(), AllocError>
+    ensures view { (v : ViewState) → IsView view.old v →
+        OnOk result (IsView view.new (spec.view_after v queue.old arrival)) }
+    ensures found { (v : ViewState) → IsView view.old v → OnOk result (events.new.items
+        ≡ events.old.items ++ spec.events_after v queue.old arrival) }
+    ensures queue { OnOk result (queue.new ≡ with_held queue.old (spec.held_after queue.old arrival)) }
+{
+    match arrival {
+        None => Ok(()),
+        Some(arrival) => view_waiting(view, queue, arrival, events),
+    }
+}
+
+// A packet comes, and waits.
+fn take_waiting(
+    view: &mut View,
+    queue: &mut PacketQueue,
+    bytes: &[u8; 188],
+    events: &mut Vec<Event>,
+) -> Result<(), AllocError>
+    ensures view { (v : ViewState) → IsView view.old v → OnOk result
+        (IsView view.new (spec.view_after v (stepped queue.old bytes.now) (released queue.old bytes.now))) }
+    ensures found { (v : ViewState) → IsView view.old v → OnOk result (events.new.items
+        ≡ events.old.items ++ spec.events_after v (stepped queue.old bytes.now) (released queue.old bytes.now)) }
+    ensures queue { OnOk result (queue.new ≡ spec.queue_after queue.old bytes.now) }
+{
+    let arrival = queue.take(bytes)?;
+    view_if(view, queue, arrival, events)?;
+    queue.push(bytes)
+}
+
+impl ClockedView {
+    /// Returns the state before the first packet.
+    pub fn new(alloc: Global, request: ViewRequest) -> ClockedView
+        ensures view { IsClocked result (spec.start request) }
+        ensures calm { is_crowded result ≡ false }
+    {
+        let queue = queue_of(alloc, &request.options.arrival, &request.choice.programs);
+        ClockedView {
+            view: View::new(alloc, request),
+            queue,
+        }
+    }
+
+    /// Takes the next packet, and appends the events that it settles.
+    #[tactic(auto, unfolding(crate::specs::ClockedViews::after_in, crate::specs::ClockedViews::events_in))]
+    pub fn take(&mut self, bytes: &[u8; 188], events: &mut Vec<Event>) -> Result<(), AllocError>
+        ensures view { (s : ClockedState) → IsClocked self.old s →
+            OnOk result (IsClocked self.new (spec.after_packet s bytes.now)) }
+        ensures found { (s : ClockedState) → IsClocked self.old s →
+            OnOk result (events.new.items ≡ events.old.items ++ spec.events_at s bytes.now) }
+    {
+        match &mut self.queue {
+            None => self.view.take(bytes, events),
+            Some(queue) => take_waiting(&mut self.view, queue, bytes, events),
+        }
+    }
+
+    /// Takes the next packets.
+    #[tactic(auto, unfolding(crate::specs::ClockedViews::after_all, crate::specs::ClockedViews::events_all))]
+    pub fn take_all(
+        &mut self,
+        packets: &[[u8; 188]],
+        events: &mut Vec<Event>,
+    ) -> Result<(), AllocError>
+        ensures view { (s : ClockedState) → IsClocked self.old s →
+            OnOk result (IsClocked self.new (spec.after_all s packets.now)) }
+        ensures found { (s : ClockedState) → IsClocked self.old s →
+            OnOk result (events.new.items ≡ events.old.items ++ spec.events_all s packets.now) }
+    {
+        for packet in packets {
+            self.take(packet, events)?;
+        }
+        Ok(())
+    }
+
+    // The packets that wait at the end.
+    #[tactic(auto, unfolding(crate::specs::ClockedViews::last_view, crate::specs::ClockedViews::last_events))]
+    fn view_last(&mut self, events: &mut Vec<Event>) -> Result<(), AllocError>
+        ensures view { (s : ClockedState) → IsClocked self.old s →
+            OnOk result (IsView self.new.view (spec.last_view s.view s.queue)) }
+        ensures found { (s : ClockedState) → IsClocked self.old s →
+            OnOk result (events.new.items ≡ events.old.items ++ spec.last_events s.view s.queue) }
+    {
+        match &mut self.queue {
+            None => Ok(()),
+            Some(queue) => {
+                let arrival = queue.last_arrival();
+                view_waiting(&mut self.view, queue, arrival, events)
+            }
+        }
+    }
+
+    /// Returns whether a stream has enough waiting units to stop the view: the memory of a view has no other bound.
+    pub fn is_crowded(&self) -> bool
+        ensures { result ≡ is_crowded self.now }
+    {
+        self.view.is_crowded()
+    }
+
+    /// Ends the stream, `left` bytes after its last whole packet, and appends the last events. Returns whether nothing is wrong
+    /// in it.
+    pub fn end(&mut self, left: usize, events: &mut Vec<Event>) -> Result<bool, AllocError>
+        ensures found { (s : ClockedState) → IsClocked self.old s →
+            OnOk result (events.new.items ≡ events.old.items ++ spec.end_events s left) }
+        ensures good { (s : ClockedState) → IsClocked self.old s → IfOk result (λ good. good ≡ spec.is_good s left) }
+    {
+        self.view_last(events)?;
+        self.view.end(left, events)?;
+        Ok(self.view.is_good(left))
+    }
+}

@@ -1,0 +1,388 @@
+//! The state of a stream beside its buffers.
+ghost use Rattle.std.specs.Prelude.{◌≡◌, [], ◌++◌, OnOk, Result};
+ghost use Rattle.bit_fields.specs.Reading.{Gives};
+ghost use Rattle.ts_packet.specs.Packets.{null_packet};
+ghost use Rattle.ts_packet.specs.Reading.{packet_at};
+ghost use Rattle.ts_packet.specs.Views.{PacketView, packet_view};
+ghost use Rattle.ts_packet.specs.declared.packet.PacketError.{PacketError};
+ghost use Rattle.tr101290.specs.Continuity.{error_at};
+ghost use Rattle.ts_report.specs.Seen as spec;
+ghost use Rattle.ts_report.specs.WindowEvents.{window_events};
+
+use crate::clock_events::{errors_in, push_clocks, push_report};
+use crate::clocks::Clocks;
+use crate::reference_events::push_references;
+use crate::system_events::push_excesses;
+use crate::table_watch::TableWatch;
+use crate::view_choice::ViewChoice;
+use crate::view_options::ViewOptions;
+use crate::window_events::{push_pids, push_window, window_of};
+use arrival::Arrival;
+use events::{CounterFault, Event, RefusalCause, RefusedPacket, ReportEnd, UnclockedPackets};
+use pid_windows::PidWindow;
+use std::alloc::{AllocError, Global};
+use std::marker::Model;
+use system_tables::SystemTables;
+use tr101290::{ContinuityError, ContinuityWatch, PcrTiming, PcrWatches, TableTiming};
+use ts_packet::{Packet, PacketError, has_pcr};
+use ts_tables::{NamedStreams, ServiceNames};
+
+/// The state of a stream beside its buffers: the number of packets, and of refused packets; the last packet of each PID; the window of the last packet; the
+/// packets of each PID; the last clock reference of each, and the counts of all of them, with the number of their errors; the
+/// sections of tables; the buffers of programs' tables; the streams that are named; and the names of their services.
+#[derive(Drop)]
+pub struct Seen {
+    alloc: Global,
+    pub options: ViewOptions,
+    pub packets: u64,
+    pub refused: u64,
+    pub counters: ContinuityWatch<Global>,
+    pub window: PidWindow<Global>,
+    pub totals: PidWindow<Global>,
+    pub clocks: Clocks,
+    pub watches: PcrWatches<Global>,
+    pub errors: u64,
+    pub tables: TableWatch,
+    pub systems: SystemTables,
+    pub named: NamedStreams,
+    pub services: ServiceNames,
+}
+
+impl Model for Seen {
+    ghost use Rattle.ts_report.specs.Seen.{SeenState};
+
+    ghost Value = { SeenState };
+
+    ghost view = { λ s. record {
+      options = s.options;
+      packets = s.packets;
+      refused = s.refused;
+      counters = s.counters;
+      window = s.window;
+      totals = s.totals;
+      clocks = s.clocks;
+      watches = s.watches;
+      errors = s.errors;
+      tables = s.tables;
+      systems = s.systems;
+      named = s.named;
+      services = s.services;
+    } };
+}
+
+// By what references are measured.
+#[tactic(auto, unfolding(crate::specs::Seen::timing_of))]
+fn timing_of(arrival: &Arrival) -> PcrTiming
+    ensures { result ≡ spec.timing_of arrival.now }
+{
+    match arrival {
+        Arrival::AtRate(rate) => PcrTiming::ConstantRate(*rate),
+        Arrival::Unknown | Arrival::OnLines(_) => PcrTiming::References,
+    }
+}
+
+// In what the places of sections are counted.
+#[tactic(auto, unfolding(crate::specs::Seen::table_timing))]
+fn table_timing(arrival: &Arrival) -> TableTiming
+    ensures { result ≡ spec.table_timing arrival.now }
+{
+    match arrival {
+        Arrival::AtRate(rate) => TableTiming::ConstantRate(*rate),
+        Arrival::Unknown | Arrival::OnLines(_) => TableTiming::Ticks,
+    }
+}
+
+// The moment of the stream's first byte on the first line that is known.
+#[tactic(auto, unfolding(crate::specs::Seen::origin_on))]
+fn origin_on(arrival: &Arrival) -> u64
+    ensures { result ≡ spec.origin_on arrival.now }
+{
+    match arrival {
+        Arrival::OnLines(lines) => lines.moment(0),
+        Arrival::Unknown | Arrival::AtRate(_) => 0,
+    }
+}
+
+#[tactic(auto, unfolding(crate::specs::Seen::origin_after))]
+fn origin_after(options: &ViewOptions, arrival: &Arrival) -> u64
+    ensures { result ≡ spec.origin_after options.now.arrival options.now.origin arrival.now }
+{
+    match &options.arrival {
+        Arrival::Unknown => origin_on(arrival),
+        Arrival::AtRate(_) | Arrival::OnLines(_) => options.origin,
+    }
+}
+
+fn with_arrival(options: &ViewOptions, arrival: Arrival) -> ViewOptions
+    ensures { result ≡ spec.with_arrival options.now arrival }
+{
+    ViewOptions {
+        arrival,
+        origin: origin_after(options, &arrival),
+        ..*options
+    }
+}
+
+// Whether packets have no moment.
+#[tactic(auto, unfolding(crate::specs::Seen::unclocked))]
+fn unclocked(arrival: &Arrival, count: usize) -> bool
+    ensures { result ≡ spec.unclocked arrival.now count }
+{
+    match arrival {
+        Arrival::Unknown => count > 0,
+        Arrival::AtRate(_) | Arrival::OnLines(_) => false,
+    }
+}
+
+#[tactic(auto, unfolding(crate::specs::Seen::counter_events_by))]
+fn push_counter_if(
+    events: &mut Vec<Event>,
+    error: &Option<ContinuityError>,
+) -> Result<(), AllocError>
+    ensures { OnOk result (events.new.items ≡ events.old.items ++ spec.counter_events_by error.now) }
+{
+    if let Some(error) = error {
+        events.push(Event::Continuity(CounterFault {
+            pid: error.pid,
+            packet: error.packet,
+            expected: error.expected,
+            found: error.found,
+        }))?;
+    }
+    Ok(())
+}
+
+impl Seen {
+    /// Returns the state before the first packet.
+    pub fn new(alloc: Global, options: ViewOptions) -> Seen
+        ensures { result ≡ spec.nothing_seen options }
+    {
+        Seen {
+            alloc,
+            options,
+            packets: 0,
+            refused: 0,
+            counters: ContinuityWatch::new(alloc),
+            window: PidWindow::new(alloc),
+            totals: PidWindow::new(alloc),
+            clocks: Clocks::new(alloc),
+            watches: PcrWatches::new(alloc, timing_of(&options.arrival)),
+            errors: 0,
+            tables: TableWatch::new(alloc, table_timing(&options.arrival)),
+            systems: SystemTables::new(alloc),
+            named: NamedStreams::new(alloc),
+            services: ServiceNames::new(alloc),
+        }
+    }
+
+    /// Says how the next `count` packets arrive; appends that they have no moment, if they have none.
+    pub fn arrive(
+        &mut self,
+        arrival: Arrival,
+        count: usize,
+        events: &mut Vec<Event>,
+    ) -> Result<(), AllocError>
+        ensures seen { OnOk result (self.new ≡ spec.arriving self.old arrival count) }
+        ensures found { OnOk result (events.new.items
+            ≡ events.old.items ++ spec.arrival_events self.old arrival count) }
+    {
+        let options = with_arrival(&self.options, arrival);
+        let unclocked = unclocked(&arrival, count);
+        if unclocked {
+            events.push(self.unclocked_event(count))?;
+        }
+        self.options = options;
+        self.errors = self.errors.saturating_add(u64::from(unclocked));
+        Ok(())
+    }
+
+    fn unclocked_event(&self, count: usize) -> Event
+        ensures { result ≡ spec.unclocked_event self.now count }
+    {
+        Event::Unclocked(UnclockedPackets {
+            packet: self.packets,
+            packets: count as u64,
+        })
+    }
+
+    /// Counts a packet that can't be read, or says that it is wrong, and appends the cause.
+    pub fn refuse(&mut self, cause: RefusalCause, events: &mut Vec<Event>) -> Result<(), AllocError>
+        ensures seen { OnOk result (self.new ≡ spec.without self.old) }
+        ensures found { OnOk result (events.new.items
+            ≡ events.old.items ++ spec.refused_events self.old cause) }
+    {
+        events.push(Event::Refused(RefusedPacket {
+            packet: self.packets,
+            cause,
+        }))?;
+        self.packets = self.packets.saturating_add(1);
+        self.refused = self.refused.saturating_add(1);
+        Ok(())
+    }
+
+    // Takes the continuity_counter of a packet that is counted, and appends its error, if it has one.
+    fn take_counted(
+        &mut self,
+        bytes: &[u8; 188],
+        packet: &Packet<'_>,
+        events: &mut Vec<Event>,
+    ) -> Result<(), AllocError>
+        ensures seen { OnOk result (self.new ≡ spec.with_counter self.old (spec.counted_entry self.old bytes.now (packet_view packet.now))) }
+        ensures found { OnOk result (events.new.items ≡ events.old.items
+            ++ spec.counter_events_by (error_at self.old.counters (spec.counted_entry self.old bytes.now (packet_view packet.now)))) }
+    {
+        let index = self.packets.saturating_sub(1);
+        let error = self.counters.take(index, packet, bytes)?;
+        push_counter_if(events, &error)?;
+        self.errors = self.errors.saturating_add(u64::from(error.is_some()));
+        Ok(())
+    }
+
+    /// Takes the continuity_counter of 188 bytes, which were read and counted, and appends its error, if it has one.
+    #[tactic(auto, unfolding(crate::specs::Seen::with_counter_read, crate::specs::Seen::counter_events))]
+    pub fn take_counter(
+        &mut self,
+        bytes: &[u8; 188],
+        read: &Result<Packet<'_>, PacketError>,
+        events: &mut Vec<Event>,
+    ) -> Result<(), AllocError>
+        ensures seen { (packet : Result PacketView PacketError) → Gives packet_view read.now packet →
+            OnOk result (self.new ≡ spec.with_counter_read self.old bytes.now packet) }
+        ensures found { (packet : Result PacketView PacketError) → Gives packet_view read.now packet →
+            OnOk result (events.new.items ≡ events.old.items ++ spec.counter_events self.old bytes.now packet) }
+    {
+        match read {
+            Err(_) => Ok(()),
+            Ok(packet) => {
+                if packet.header.transport_error_indicator {
+                    Ok(())
+                } else {
+                    self.take_counted(bytes, packet, events)
+                }
+            }
+        }
+    }
+
+    /// Takes the clock reference of a packet, if the packet has one, and appends its errors.
+    pub fn take_clock(
+        &mut self,
+        packet: &Packet<'_>,
+        events: &mut Vec<Event>,
+    ) -> Result<(), AllocError>
+        ensures seen { OnOk result (self.new ≡ spec.with_clock self.old (packet_view packet.now)) }
+        ensures found { OnOk result (events.new.items
+            ≡ events.old.items ++ spec.clock_errors self.old (packet_view packet.now)) }
+    {
+        self.clocks
+            .take(&self.options.arrival, self.packets, packet)?;
+        let report = self.watches.take(self.packets, packet)?;
+        push_report(events, packet.header.pid, &report)?;
+        self.errors = self.errors.saturating_add(errors_in(&report));
+        Ok(())
+    }
+
+    /// Returns the window where the next packet begins.
+    pub fn next_window(&self) -> u64
+        ensures { result ≡ spec.next_window self.now }
+    {
+        window_of(&self.options, self.packets)
+    }
+
+    /// Counts a packet that is not known to be wrong, in this window, takes it into the buffers of programs' tables, and appends the excesses
+    /// that end with it, of programs that are viewed.
+    pub fn count(
+        &mut self,
+        window: u64,
+        choice: &ViewChoice,
+        packet: &Packet<'_>,
+        events: &mut Vec<Event>,
+    ) -> Result<(), AllocError>
+        requires { window ≡ spec.next_window self.old }
+        ensures seen { OnOk result (self.new ≡ spec.counted self.old (packet_view packet.now)) }
+        ensures found { OnOk result (events.new.items
+            ≡ events.old.items ++ spec.system_excesses self.old choice.now (packet_view packet.now)) }
+    {
+        let pid = packet.header.pid;
+        let pcr = has_pcr(packet);
+        let mut excesses = Vec::new(self.alloc);
+        self.systems.take(
+            &self.options.arrival,
+            self.packets,
+            &self.named,
+            pid,
+            &mut excesses,
+        )?;
+        push_excesses(events, &self.options, choice, self.packets, &excesses)?;
+        self.window.take(window, pid, pcr)?;
+        self.totals.take(0, pid, pcr)?;
+        self.packets = self.packets.saturating_add(1);
+        Ok(())
+    }
+
+    /// Takes the sections of tables in 188 bytes, which were read, and appends the sections that begin too late.
+    pub fn take_sections<'a>(
+        &mut self,
+        bytes: &'a [u8; 188],
+        read: &Result<Packet<'a>, PacketError>,
+        events: &mut Vec<Event>,
+    ) -> Result<(), AllocError>
+        requires { Gives packet_view read.now (packet_at bytes.now) }
+        ensures seen { OnOk result (self.new ≡ spec.with_sections self.old bytes.now) }
+        ensures found { OnOk result (events.new.items
+            ≡ events.old.items ++ spec.section_events self.old bytes.now) }
+    {
+        self.tables.take(&self.options, bytes, read, events)
+    }
+
+    /// Takes the null packet, which has no section.
+    pub fn pass_null(&mut self)
+        ensures seen { self.new ≡ spec.with_sections self.old null_packet }
+        ensures found { spec.section_events self.old null_packet ≡ [] }
+    {
+        self.tables.pass_null();
+    }
+
+    /// Notes what 188 bytes name, from the next packet on.
+    pub fn name(&mut self, bytes: &[u8; 188]) -> Result<(), AllocError>
+        ensures { OnOk result (self.new ≡ spec.with_named self.old bytes.now) }
+    {
+        self.named.take(bytes)?;
+        self.services.take(&self.named, bytes)
+    }
+
+    /// Appends the events of each PID in the last packet's window.
+    pub fn push_window(&self, events: &mut Vec<Event>) -> Result<(), AllocError>
+        ensures { OnOk result (events.new.items ≡ events.old.items
+            ++ window_events self.now.options self.now.named self.now.services.names self.now.window) }
+    {
+        push_window(
+            self.alloc,
+            events,
+            &self.options,
+            &self.named,
+            &self.services,
+            &self.window,
+        )
+    }
+
+    /// Appends the last events of clock references by PID, of tables, of all packets by PID, and of PIDs that are not named or have no packet.
+    pub fn push_pid_ends(&self, events: &mut Vec<Event>) -> Result<(), AllocError>
+        ensures { OnOk result (events.new.items ≡ events.old.items ++ spec.pid_ends self.now) }
+    {
+        push_clocks(events, &self.watches)?;
+        self.tables.push_end(events)?;
+        push_pids(events, &self.totals)?;
+        push_references(self.alloc, events, &self.named, &self.totals)
+    }
+
+    /// Returns the end of the stream, `left` bytes after its last whole packet.
+    pub fn end_event(&self, left: usize) -> Event
+        ensures { result ≡ spec.end_event self.now left }
+    {
+        Event::End(ReportEnd {
+            packets: self.packets,
+            refused: self.refused,
+            left: left as u64,
+        })
+    }
+}

@@ -1,0 +1,4 @@
+pub mod NamedStreams
+pub mod Wanting
+pub mod Laws
+pub mod ServiceNames

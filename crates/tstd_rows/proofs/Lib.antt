@@ -1,0 +1,31 @@
+pub mod EvenRows
+pub mod MostFound
+pub mod Levels
+pub mod Rising
+pub mod OverBytes
+pub mod ExcessBytes
+pub mod ExcessMoments
+pub mod SoonRows
+pub mod RowEntries
+pub mod Pieces
+pub mod Least
+pub mod LeavingBytes
+pub mod Views
+pub mod UnitBytes
+pub mod ConstantRates
+pub mod AllMoments
+mod Examples
+mod VideoExamples
+pub mod VideoCauses
+pub mod EvenBytes
+pub mod TableRows
+pub mod TablePeaks
+pub mod Lows
+pub mod VideoViews
+pub mod VideoParts
+pub mod LeakSteps
+pub mod Rows
+pub mod Packets
+pub mod VideoRows
+pub mod VideoBegins
+pub mod VideoIfAny

@@ -1,0 +1,7 @@
+-- How many bytes have come to the buffers of video.
+use Rattle.std.specs.Prelude.{ℕ, Option, Some, None}
+use Rattle.tstd_rows.specs.declared.video_buffers.VideoBuffers.{VideoBuffers}
+
+abbrev pub bytes_in : Option VideoBuffers → ℕ
+bytes_in None = 0
+bytes_in (Some video) = video.view.transport.bytes

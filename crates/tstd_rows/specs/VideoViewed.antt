@@ -1,0 +1,128 @@
+-- What comes of a video stream, seen through its multiplexing buffer MB and its elementary stream buffer EB (ISO/IEC 13818-1,
+-- 2.4.2.3, the leak method), by the parts of it that arrive.
+--
+-- Lists of parts have the last one first. Times are those at the stream's transport buffer, which a byte takes `step` to leave: units
+-- of 8 / (S * Rx) seconds, where `step` is S. A byte takes `leak` to leave MB.
+use Rattle.std.specs.Prelude.{◌≡◌, ℕ, ◌+◌, ◌-◌, ◌*◌, ◌/◌, ◌<◌, max, nat_lt, List, [], ◌∷◌, ◌++◌, length, replicate, Option, Some, None, is_some, if◌then◌else◌}
+use Rattle.clock27.specs.Departure.{departures, last_left}
+use Rattle.clock27.specs.Fullness.{fullness}
+use Rattle.clock27.specs.Peak.{IsPeak, greatest_at}
+use Rattle.unit_timing.specs.LeakMethod.{transfers, rooms_of, latest}
+use Rattle.tstd_rows.specs.Buffers.{entered as buffer_entered}
+use Rattle.tstd_rows.specs.Excesses.{excess_after, excesses_ended}
+use Rattle.tstd_rows.specs.TransportLaws.{empty}
+use Rattle.tstd_rows.specs.declared.excess.Excess.{Excess}
+use Rattle.tstd_rows.specs.declared.transport_buffer.TransportBuffer.{TransportBuffer}
+use Rattle.tstd_rows.specs.RowEntry.{entered}
+use Rattle.tstd_rows.specs.History.{Part, arrivals_of, transport_of, left_after, payload_left, main_fullness, main_peak, until_of}
+use Rattle.tstd_rows.specs.History.Part.{Passes, Carries, Begins}
+use Rattle.tstd_rows.specs.declared.late_causes.LateCause.{LateCause}
+use Rattle.tstd_rows.specs.declared.late_causes.LateCause.TheVariants.{Multiplex, FullBuffer}
+
+-- ---- MB
+
+-- a byte takes 8 / Rbx seconds to leave MB, which are S * Rx / Rbx units of time, rounded up: a leak that is slower than Rbx by less
+-- than a unit a byte. MB is no emptier with it, and no byte is in EB earlier: the stricter side
+abbrev pub leak_step : ℕ → ℕ → ℕ → ℕ
+leak_step step rx rbx = (step * rx + (rbx - 1)) / rbx
+
+-- the payload bytes enter MB as they leave the transport buffer, so MB is a queue like that one
+abbrev pub multiplexing_buffer : ℕ → ℕ → List Part → TransportBuffer
+multiplexing_buffer step leak parts = buffer_entered (empty leak) (payload_left step parts)
+
+-- when they leave MB where EB never is full, and when the last of them does
+abbrev pub multiplexing_left : ℕ → ℕ → List Part → List ℕ
+multiplexing_left step leak parts = departures leak 0 (payload_left step parts)
+
+abbrev pub last_leaked : ℕ → ℕ → List Part → ℕ
+last_leaked step leak parts = last_left leak 0 (payload_left step parts)
+
+-- how many bytes MB holds at the moment x: MB alone, with an EB that never is full
+abbrev pub multiplexing_held : ℕ → ℕ → List Part → ℕ → ℕ
+multiplexing_held step leak parts x = fullness x (payload_left step parts) (multiplexing_left step leak parts)
+
+-- the excess of MB, of `size` bytes, that is under way, and those that end before one of the bytes that arrive at these times
+abbrev pub multiplexing_under_way : ℕ → ℕ → ℕ → List Part → Option Excess
+multiplexing_under_way step leak size parts = excess_after leak size 0 None (payload_left step parts)
+
+abbrev pub multiplexing_ended : ℕ → ℕ → ℕ → List Part → List ℕ → List Excess
+multiplexing_ended step leak size before times =
+    excesses_ended leak size (last_leaked step leak before) (multiplexing_under_way step leak size before) (left_after step before times)
+
+-- ---- EB
+
+-- when these bytes, which arrive after those parts, enter EB
+abbrev pub leaked_after : ℕ → ℕ → List Part → List ℕ → List ℕ
+leaked_after step leak before times = departures leak (last_leaked step leak before) (left_after step before times)
+
+-- the bytes in EB at the moment x: the payload bytes that have left MB by then, and whose unit is not gone
+unfoldable pub elementary_held : ℕ → ℕ → List Part → ℕ → ℕ
+elementary_held step leak [] x = 0
+elementary_held step leak (Passes times ∷ before) x = elementary_held step leak before x
+elementary_held step leak (Carries times ∷ before) x = elementary_held step leak before x + entered (until_of before) x (leaked_after step leak before times)
+elementary_held step leak (Begins due ∷ before) x = elementary_held step leak before x
+
+-- the most bytes in it when one of them enters
+abbrev pub elementary_peak : ℕ → ℕ → List Part → ℕ
+elementary_peak step leak parts = greatest_at (elementary_held step leak parts) (multiplexing_left step leak parts)
+
+-- ---- MB and EB are the transport buffer and the main buffer of a stream that arrives as the payload of the video leaves its transport buffer
+
+-- the parts of that stream
+unfoldable pub leaked : ℕ → List Part → List Part
+leaked step [] = []
+leaked step (Passes times ∷ before) = leaked step before
+leaked step (Carries times ∷ before) = Carries (left_after step before times) ∷ leaked step before
+leaked step (Begins due ∷ before) = Begins due ∷ leaked step before
+
+-- a view of it is a view of MB and EB: what it says of these parts are the words above
+pub record LeakedParts (step leak : ℕ) (parts : List Part) : Type 0 where
+  pub multiplexing : transport_of leak (leaked step parts) ≡ multiplexing_buffer step leak parts
+  pub under_way : (size : ℕ) → excess_after leak size 0 None (arrivals_of (leaked step parts)) ≡ multiplexing_under_way step leak size parts
+  pub left : payload_left leak (leaked step parts) ≡ multiplexing_left step leak parts
+  pub elementary : (x : ℕ) → main_fullness leak (leaked step parts) x ≡ elementary_held step leak parts x
+  pub peak : main_peak leak (leaked step parts) ≡ elementary_peak step leak parts
+  pub until : until_of (leaked step parts) ≡ until_of parts
+
+abbrev pub LeakedPartsLaw : Type 0
+LeakedPartsLaw = (step leak : ℕ) (parts : List Part) → LeakedParts step leak parts
+
+-- and its figures are the greatest fullness of MB and of EB over all moments
+abbrev pub VideoFiguresLaw : Type 0
+VideoFiguresLaw = (step leak : ℕ) (parts : List Part) → 0 < step → 0 < leak →
+    IsPeak (multiplexing_held step leak parts) (multiplexing_buffer step leak parts).most × IsPeak (elementary_held step leak parts) (elementary_peak step leak parts)
+
+-- ---- where EB is full
+
+-- when each payload byte is removed from EB: with its unit, the whole of which is gone from that moment on. Bytes before the first unit are
+-- removed at once
+unfoldable pub removed_of : List Part → List ℕ
+removed_of [] = []
+removed_of (Passes times ∷ before) = removed_of before
+removed_of (Carries times ∷ before) = removed_of before ++ replicate (length times) (until_of before)
+removed_of (Begins due ∷ before) = removed_of before
+
+-- when each byte goes to an EB of `size` bytes by the leak method, where none goes while EB is full
+abbrev pub transferred : ℕ → ℕ → ℕ → List Part → List ℕ
+transferred step leak size parts = transfers leak 0 (payload_left step parts) (rooms_of size (removed_of parts))
+
+-- when it would go were it always in MB in time: the stream's own part, a queue that EB's room alone fills. The leak method is the
+-- later of the two, byte by byte (`TransferredLaw`): `multiplexing_left` is the multiplex's part
+abbrev pub room_left : ℕ → ℕ → List Part → List ℕ
+room_left leak size parts = departures leak 0 (rooms_of size (removed_of parts))
+
+abbrev pub TransferredLaw : Type 0
+TransferredLaw = (step leak size : ℕ) (parts : List Part) →
+    transferred step leak size parts ≡ latest (multiplexing_left step leak parts) (room_left leak size parts)
+
+-- ---- why a unit is late
+
+-- the last byte of a unit with that deadline leaves MB alone at `alone`, and would go to EB at `room` were it always in MB in time. Where
+-- MB alone makes it late, the multiplex sent it too late or too fast; where EB's room alone does, the encoder broke the stream's own
+-- buffer. Where both do, the multiplex is named: with an EB that never is full the unit would be late all the same
+unfoldable pub cause_of : ℕ → ℕ → ℕ → Option LateCause
+cause_of deadline alone room = if nat_lt deadline alone then Some Multiplex else if nat_lt deadline room then Some FullBuffer else None
+
+-- so a unit is late, by the leak method, exactly where it has a cause
+abbrev pub CauseLaw : Type 0
+CauseLaw = (deadline alone room : ℕ) → nat_lt deadline (max alone room) ≡ is_some (cause_of deadline alone room)

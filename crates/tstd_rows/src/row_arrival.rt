@@ -1,0 +1,96 @@
+//! Bytes that arrive at the transport buffer.
+ghost use Rattle.std.specs.Prelude.{◌≡◌, ℕ, ◌+◌, ◌*◌, ◌≤◌, None};
+ghost use Rattle.clock27.specs.Departure.{departures};
+ghost use Rattle.clock27.specs.Peak.{most_found};
+ghost use Rattle.arrival.specs.Rows.{IsTimed, times_of};
+ghost use Rattle.tstd_rows.specs.Buffers.{IsPaced, LeaveSoon, entered, times_left};
+ghost use Rattle.tstd_rows.specs.Arriving.{CanArrive, HaveArrived};
+
+use crate::excess::{Excess, ExcessWatch};
+use crate::leaving::Leaving;
+use crate::transport_buffer::TransportBuffer;
+use arrival::Row;
+
+/// What bytes find that arrive, and how they leave.
+#[derive(Clone, Copy)]
+pub(crate) struct Arrived {
+    pub most: u128,
+    pub leaving: Leaving,
+}
+
+// The excess under way ends, if there is one. A call of its own: few rows end one.
+#[inline(never)]
+fn end_excess(watch: &mut ExcessWatch, ended: &mut Option<Excess>)
+    ensures ended { ended.new ≡ watch.old.under_way }
+    ensures under_way { watch.new.under_way ≡ None }
+    ensures size { watch.new.size ≡ watch.old.size }
+{
+    *ended = watch.under_way.take();
+}
+
+// The excess that has ended, where a byte may find too many. A call of its own: few rows have such a byte.
+#[inline(never)]
+fn see_over(
+    watch: &mut ExcessWatch,
+    buffer: &TransportBuffer,
+    row: &Row,
+    ended: &mut Option<Excess>,
+)
+    requires { CanArrive buffer.now watch.old row.now }
+    ensures { HaveArrived buffer.now (times_of row.now) watch.old watch.new ended.new }
+{
+    *ended = watch.enter(buffer, row);
+}
+
+// The excess that has ended is written where none is yet; `most` is the most that one of the bytes finds. Where no byte finds too many and
+// none is under way, nothing is written.
+#[inline(always)]
+fn see(
+    watch: &mut ExcessWatch,
+    buffer: &TransportBuffer,
+    row: &Row,
+    most: u128,
+    ended: &mut Option<Excess>,
+)
+    requires can { CanArrive buffer.now watch.old row.now }
+    requires most { most ≡ most_found buffer.now.step buffer.now.last (times_of row.now) }
+    requires none { ended.old ≡ None }
+    ensures { HaveArrived buffer.now (times_of row.now) watch.old watch.new ended.new }
+{
+    if most <= u128::from(watch.size) {
+        if watch.under_way.is_some() {
+            end_excess(watch, ended);
+        }
+        return;
+    }
+    see_over(watch, buffer, row, ended);
+}
+
+/// The bytes of a row arrive. The excess that has ended is written where none is yet.
+#[inline(always)]
+pub(crate) fn arrive(
+    transport: &mut TransportBuffer,
+    watch: &mut ExcessWatch,
+    row: &Row,
+    ended: &mut Option<Excess>,
+) -> Arrived
+    requires can { CanArrive transport.old watch.old row.now }
+    requires none { ended.old ≡ None }
+    ensures buffer { transport.new ≡ entered transport.old (times_of row.now) }
+    ensures paced { IsPaced transport.new }
+    ensures most { result.most ≡ most_found transport.old.step transport.old.last (times_of row.now) }
+    ensures arrived { HaveArrived transport.old (times_of row.now) watch.old watch.new ended.new }
+    ensures left { times_left result.leaving ≡ departures transport.old.step transport.old.last (times_of row.now) }
+    ensures timed { IsTimed result.leaving.waiting × IsTimed result.leaving.free }
+    ensures soon { (latest : ℕ) → transport.old.last ≤ latest + transport.old.bytes * transport.old.step →
+        row.now.from + row.now.bytes * row.now.pace ≤ latest * row.now.parts →
+        LeaveSoon transport.new.step transport.new.bytes transport.new.last result.leaving latest }
+{
+    let buffer = *transport;
+    transport.most = 0;
+    let leaving = transport.enter(row);
+    let most = transport.most;
+    transport.most = buffer.most.max(most);
+    see(watch, &buffer, row, most, ended);
+    Arrived { most, leaving }
+}

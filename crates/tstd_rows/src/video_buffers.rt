@@ -1,0 +1,217 @@
+//! The two buffers of video after its transport buffer.
+ghost use Rattle.std.specs.Prelude.{◌≡◌, ℕ, List, [], ◌∷◌, ◌+◌, ◌<◌, ◌≤◌, ◌^◌, IfOk, OnOk, Option, None};
+ghost use Rattle.arrival.specs.Rows.{IsTimed};
+ghost use Rattle.tstd_rows.specs.Buffers.{IsSoon, times_left};
+ghost use Rattle.tstd_rows.specs.History.{Part, left_after, unit_of};
+ghost use Rattle.tstd_rows.specs.History.Part.{Begins, Carries};
+ghost use Rattle.tstd_rows.specs.VideoViewed.{elementary_peak, leaked, multiplexing_buffer, multiplexing_under_way};
+ghost use Rattle.tstd_rows.specs.VideoBytes.{bytes_in};
+ghost use Rattle.tstd_rows.specs.HeldVideo.{HoldsVideo, IsVideoHeld, VideoSizes, elementary_under_way, nothing_of_video, sizes_of, video_entered, video_found, video_unit, video_view};
+
+use crate::excess::Excess;
+use crate::leaving::Leaving;
+use crate::main_excess::see;
+use crate::main_watch::MainWatch;
+use crate::unit_seen::{DueTime, UnitSeen};
+use crate::video_view::leak_step;
+use crate::viewed_buffers::StreamView;
+use std::alloc::{AllocError, Global};
+
+/// The rates and the sizes of the buffers of video (ISO/IEC 13818-1, 2.4.2.3).
+#[derive(Clone, Copy)]
+pub struct VideoRates {
+    /// The rate out of the multiplexing buffer in bits a second.
+    pub rbx: u32,
+    /// The size of the multiplexing buffer in bytes.
+    pub multiplexing: u64,
+    /// The size of the elementary stream buffer.
+    pub elementary: u64,
+}
+
+/// The multiplexing buffer and the elementary stream buffer of a stream: the first is the transport buffer of the view, the second its main
+/// buffer. Times are times of the stream's transport buffer.
+#[derive(Drop)]
+pub struct VideoBuffers {
+    pub view: StreamView<Global>,
+    /// The size of the elementary stream buffer, and its current excess.
+    pub elementary: MainWatch,
+}
+
+/// What has ended with a packet of video: an excess of the multiplexing buffer before a byte that waited in the transport buffer, or
+/// before another byte; an excess of the elementary stream buffer; and the unit before a unit that begins. And the most bytes that were
+/// in each buffer when any byte of the packet entered it, itself included; 0 if none did.
+#[derive(Clone, Copy)]
+pub struct VideoEntered {
+    pub waiting: Option<Excess>,
+    pub free: Option<Excess>,
+    pub elementary: Option<Excess>,
+    pub unit: Option<UnitSeen>,
+    pub multiplexing_most: u128,
+    pub elementary_most: u64,
+}
+
+impl VideoEntered {
+    /// Returns the value for which nothing has ended, and nothing was in the buffers.
+    #[inline(always)]
+    pub fn new() -> VideoEntered
+        ensures { result ≡ nothing_of_video }
+    {
+        VideoEntered {
+            waiting: None,
+            free: None,
+            elementary: None,
+            unit: None,
+            multiplexing_most: 0,
+            elementary_most: 0,
+        }
+    }
+}
+
+impl VideoBuffers {
+    /// Returns empty ones, behind a transport buffer that a byte takes `step` to leave and that is drained at `rx` bits a second.
+    pub fn new(alloc: Global, step: u64, rx: u32, rates: &VideoRates) -> VideoBuffers
+        requires some { 0 < step }
+        requires slow { step ≤ 2 ^ 28 }
+        requires drained { 0 < rx }
+        requires rx { rx ≤ 200000000 }
+        requires rbx { 64000 ≤ rates.now.rbx }
+        requires size { 0 < rates.now.multiplexing }
+        requires bound { rates.now.multiplexing ≤ 2 ^ 40 }
+        ensures held { (rate : ℕ) → IsVideoHeld result (sizes_of step rx rates.now) rate [] }
+        ensures bytes { result.view.transport.bytes ≡ 0 }
+    {
+        let leak = leak_step(step, rx, rates.rbx);
+        VideoBuffers {
+            view: StreamView::new(alloc, leak, rates.multiplexing),
+            elementary: MainWatch::new(rates.elementary),
+        }
+    }
+
+    /// Takes payload bytes that leave the transport buffer; what has ended, and what was in the buffers, is written into an empty place.
+    pub fn take(&mut self, leaving: &Leaving, into: &mut VideoEntered)
+        requires timed { IsTimed leaving.now.waiting × IsTimed leaving.now.free }
+        requires soon { IsSoon leaving.now.waiting × IsSoon leaving.now.free }
+        requires some { 0 < leaving.now.waiting.bytes + leaving.now.free.bytes }
+        requires count { self.old.view.transport.bytes + (leaving.now.waiting.bytes + leaving.now.free.bytes) ≤ 2 ^ 40 }
+        requires none { into.old.waiting ≡ None }
+        requires none_free { into.old.free ≡ None }
+        requires none_elementary { into.old.elementary ≡ None }
+        ensures held { (sizes : VideoSizes) (rate : ℕ) (parts : List Part) (times : List ℕ) → IsVideoHeld self.old sizes rate parts →
+            times_left leaving.now ≡ left_after rate parts times → IsVideoHeld self.new sizes rate (Carries times ∷ parts) }
+        ensures entered { (sizes : VideoSizes) (rate : ℕ) (parts : List Part) (times : List ℕ) → IsVideoHeld self.old sizes rate parts →
+            times_left leaving.now ≡ left_after rate parts times → video_view into.new ≡ video_entered sizes rate parts times }
+        ensures unit { into.new.unit ≡ into.old.unit }
+        ensures bytes { self.new.view.transport.bytes
+            ≡ self.old.view.transport.bytes + (leaving.now.waiting.bytes + leaving.now.free.bytes) }
+    {
+        let found = self.view.leak(leaving, &mut into.waiting, &mut into.free);
+        see(
+            &mut self.elementary,
+            found.elementary,
+            self.view.transport.last,
+            &mut into.elementary,
+        );
+        into.multiplexing_most = found.multiplexing;
+        into.elementary_most = found.elementary;
+    }
+
+    /// Begins a unit with the next payload byte, and returns the unit before it. If no memory is left, drop the buffers.
+    pub fn begin(&mut self, due: DueTime) -> Result<Option<UnitSeen>, AllocError>
+        ensures held { (sizes : VideoSizes) (rate : ℕ) (parts : List Part) → IsVideoHeld self.old sizes rate parts →
+            OnOk result (IsVideoHeld self.new sizes rate (Begins due ∷ parts)) }
+        ensures unit { (sizes : VideoSizes) (rate : ℕ) (parts : List Part) → IsVideoHeld self.old sizes rate parts →
+            IfOk result (λ unit. unit ≡ unit_of sizes.leak (leaked rate parts)) }
+        ensures bytes { self.new.view.transport.bytes ≡ self.old.view.transport.bytes }
+    {
+        self.view.begin(due)
+    }
+
+    /// Returns the most bytes that were in the multiplexing buffer.
+    pub fn multiplexing_most(&self) -> u128
+        ensures { (sizes : VideoSizes) (rate : ℕ) (parts : List Part) → IsVideoHeld self.now sizes rate parts →
+            result ≡ (multiplexing_buffer rate sizes.leak parts).most }
+    {
+        self.view.transport.most
+    }
+
+    /// Returns the most bytes that were in the elementary stream buffer.
+    pub fn elementary_most(&self) -> u64
+        ensures { (sizes : VideoSizes) (rate : ℕ) (parts : List Part) → IsVideoHeld self.now sizes rate parts →
+            result ≡ elementary_peak rate sizes.leak parts }
+    {
+        self.view.main.peak
+    }
+
+    /// Returns the excess of the multiplexing buffer that is under way.
+    pub fn multiplexing_excess(&self) -> Option<Excess>
+        ensures { (sizes : VideoSizes) (rate : ℕ) (parts : List Part) → IsVideoHeld self.now sizes rate parts →
+            result ≡ multiplexing_under_way rate sizes.leak sizes.multiplexing parts }
+    {
+        self.view.watch.under_way
+    }
+
+    /// Returns the excess of the elementary stream buffer that is under way.
+    pub fn elementary_excess(&self) -> Option<Excess>
+        ensures { (sizes : VideoSizes) (rate : ℕ) (parts : List Part) → IsVideoHeld self.now sizes rate parts →
+            result ≡ elementary_under_way rate sizes.leak sizes.elementary parts }
+    {
+        self.elementary.under_way
+    }
+
+    /// Returns the unit under way.
+    pub fn unit(&self) -> Option<UnitSeen>
+        ensures { (sizes : VideoSizes) (rate : ℕ) (parts : List Part) → IsVideoHeld self.now sizes rate parts →
+            result ≡ unit_of sizes.leak (leaked rate parts) }
+    {
+        self.view.unit
+    }
+}
+
+/// Payload bytes leave the transport buffer so, and enter the buffers of video, if there are any.
+#[inline(always)]
+pub(crate) fn take_video(
+    video: &mut Option<VideoBuffers>,
+    leaving: &Leaving,
+    into: &mut VideoEntered,
+)
+    requires timed { IsTimed leaving.now.waiting × IsTimed leaving.now.free }
+    requires soon { IsSoon leaving.now.waiting × IsSoon leaving.now.free }
+    requires some { 0 < leaving.now.waiting.bytes + leaving.now.free.bytes }
+    requires count { bytes_in video.old + (leaving.now.waiting.bytes + leaving.now.free.bytes) ≤ 2 ^ 40 }
+    requires none { into.old.waiting ≡ None }
+    requires none_free { into.old.free ≡ None }
+    requires none_elementary { into.old.elementary ≡ None }
+    requires empty { into.old.multiplexing_most ≡ 0 }
+    requires empty_elementary { into.old.elementary_most ≡ 0 }
+    ensures held { (sizes : Option VideoSizes) (rate : ℕ) (parts : List Part) (times : List ℕ) → HoldsVideo video.old sizes rate parts →
+        times_left leaving.now ≡ left_after rate parts times → HoldsVideo video.new sizes rate (Carries times ∷ parts) }
+    ensures entered { (sizes : Option VideoSizes) (rate : ℕ) (parts : List Part) (times : List ℕ) → HoldsVideo video.old sizes rate parts →
+        times_left leaving.now ≡ left_after rate parts times → video_view into.new ≡ video_found sizes rate parts times }
+    ensures unit { into.new.unit ≡ into.old.unit }
+    ensures bytes { bytes_in video.new ≤ bytes_in video.old + (leaving.now.waiting.bytes + leaving.now.free.bytes) }
+{
+    match video {
+        None => {}
+        Some(video) => video.take(leaving, into),
+    }
+}
+
+/// Begins a unit in the buffers of video, if there are any; the unit before it is written where none is yet.
+pub(crate) fn begin_video(
+    video: &mut Option<VideoBuffers>,
+    due: DueTime,
+    unit: &mut Option<UnitSeen>,
+) -> Result<(), AllocError>
+    requires none { unit.old ≡ None }
+    ensures held { (sizes : Option VideoSizes) (rate : ℕ) (parts : List Part) → HoldsVideo video.old sizes rate parts →
+        OnOk result (HoldsVideo video.new sizes rate (Begins due ∷ parts)) }
+    ensures unit { (sizes : Option VideoSizes) (rate : ℕ) (parts : List Part) → HoldsVideo video.old sizes rate parts →
+        OnOk result (unit.new ≡ video_unit sizes rate parts) }
+    ensures bytes { bytes_in video.new ≡ bytes_in video.old }
+{
+    match video {
+        None => {}
+        Some(video) => *unit = video.begin(due)?,
+    }
+    Ok(())
+}

@@ -1,0 +1,11 @@
+use Rattle.std.proofs.Common.{ℕ, subst}
+use Rattle.analysis.specs.Analysis.{start}
+use Rattle.view_page.specs.Pages.{IsPage, no_events}
+use Rattle.tsview_cli.specs.Drawing.{first_page}
+use Rattle.tsview_cli.proofs.Drawn.{drawn_none}
+use Rattle.tsview_cli.proofs.drawing.Drawing.new.Goals as goal
+
+pub returns : goal.returns
+returns c =
+    drawn_none c.new.result c.new-page.result (start c.args.request) (first_page c.args.request) c.new.ensures.view
+    (subst (λ (n : ℕ). IsPage c.new-page.result (no_events n)) c.window_of.ensures c.new-page.ensures)

@@ -1,0 +1,35 @@
+-- The cells of the row of each event of the input.
+use Rattle.std.specs.Prelude.{ℕ, List, [], ◌∷◌}
+use Rattle.events.specs.declared.input_event.FileForm.{FileForm}
+use Rattle.events.specs.declared.input_event.OtherRate.{OtherRate}
+use Rattle.events.specs.declared.input_event.SlippedBytes.{SlippedBytes}
+use Rattle.view_page.specs.declared.cells.Cell.{Cell}
+use Rattle.view_page.specs.declared.cells.Cell.TheVariants.{Number, Word, Form}
+use Rattle.view_page.specs.declared.cells.CellUnit.TheVariants.{Same}
+use Rattle.view_page.specs.declared.cells.CellWord.TheVariants as words
+use Rattle.view_page.specs.Cells.{short}
+
+-- of bytes that are in no packet
+abbrev pub slip_cells : SlippedBytes → List Cell
+slip_cells e =
+    Word words.Slip ∷ Word words.Nothing ∷ Number e.packet Same ∷ Number e.bytes Same ∷ Word words.Nothing ∷ Word words.Bytes ∷ []
+
+-- of packets that are not of 188 bytes
+abbrev pub packet_size_cells : ℕ → List Cell
+packet_size_cells size = Number size Same ∷ Word words.PacketSize ∷ []
+
+-- of an input without a byte
+abbrev pub empty_cells : List Cell
+empty_cells =
+    Word words.EmptyInput ∷ Word words.Nothing ∷ Word words.Nothing ∷ Word words.Nothing ∷ Word words.Nothing ∷ Word words.Nothing ∷ []
+
+-- of an input that is no transport stream
+abbrev pub no_stream_cells : FileForm → List Cell
+no_stream_cells form =
+    Word words.NoStream ∷ Word words.Nothing ∷ Word words.Nothing ∷ Word words.Nothing ∷ Word words.Nothing ∷ Form form ∷ []
+
+-- of a rate that the clock references contradict
+abbrev pub other_rate_cells : OtherRate → List Cell
+other_rate_cells e =
+    Word words.OtherRate ∷ Number e.pid Same ∷ Word words.Nothing ∷ Number (short e.references) Same ∷ Number e.given Same
+    ∷ Word words.BitRate ∷ []
