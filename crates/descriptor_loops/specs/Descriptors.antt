@@ -59,10 +59,18 @@ unfoldable pub is_by_hrd : List ℕ → Bool
 is_by_hrd [] = false
 is_by_hrd (b ∷ rest) = b / 128 == 1
 
--- these two; multiplex_buffer_utilization_descriptor (2.6.22), maximum_bitrate_descriptor (2.6.26), smoothing_buffer_descriptor (2.6.30)
+-- an HEVC_timing_and_HRD_descriptor (2.6.97): an extension descriptor whose descriptor_tag_extension is 3; its hrd_management_valid_flag, the
+-- first bit after the extension, says the same
+unfoldable pub is_by_hevc_hrd : List ℕ → Bool
+is_by_hevc_hrd [] = false
+is_by_hevc_hrd (extension ∷ []) = false
+is_by_hevc_hrd (extension ∷ b ∷ rest) = extension == 3 && b / 128 == 1
+
+-- these three; multiplex_buffer_utilization_descriptor (2.6.22), maximum_bitrate_descriptor (2.6.26), smoothing_buffer_descriptor (2.6.30)
 unfoldable pub is_of_multiplex : DescriptorView → Bool
 is_of_multiplex d =
     d.tag == 12 || d.tag == 14 || d.tag == 16 || (d.tag == 17 && is_by_vbv_delay d.body) || (d.tag == 42 && is_by_hrd d.body)
+    || (d.tag == 63 && is_by_hevc_hrd d.body)
 
 unfoldable pub has_of_multiplex : List ℕ → Bool
 has_of_multiplex bytes = list_any is_of_multiplex (descriptors_in bytes)

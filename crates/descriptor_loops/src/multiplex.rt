@@ -16,6 +16,11 @@ const STD: u8 = 17;
 
 const AVC_TIMING_AND_HRD: u8 = 42;
 
+const EXTENSION: u8 = 63;
+
+// descriptor_tag_extension (table 2-108).
+const HEVC_TIMING_AND_HRD: u8 = 3;
+
 // Whether leak_valid_flag is 0.
 #[tactic(auto, unfolding(crate::specs::Descriptors::is_by_vbv_delay))]
 fn is_by_vbv_delay(body: &[u8]) -> bool
@@ -38,6 +43,17 @@ fn is_by_hrd(body: &[u8]) -> bool
     }
 }
 
+// Whether descriptor_tag_extension is the number of HEVC_timing_and_HRD, and hrd_management_valid_flag 1.
+#[tactic(auto, unfolding(crate::specs::Descriptors::is_by_hevc_hrd))]
+fn is_by_hevc_hrd(body: &[u8]) -> bool
+    ensures { result ≡ spec.is_by_hevc_hrd body.now }
+{
+    match body {
+        [extension, b, ..] => *extension == HEVC_TIMING_AND_HRD && *b / 128 == 1,
+        _ => false,
+    }
+}
+
 /// Returns whether a descriptor speaks of a multiplex.
 #[tactic(auto, unfolding(crate::specs::Descriptors::is_of_multiplex))]
 pub(crate) fn is_of_multiplex(descriptor: Descriptor<'_>) -> bool
@@ -48,6 +64,7 @@ pub(crate) fn is_of_multiplex(descriptor: Descriptor<'_>) -> bool
         || descriptor.tag == SMOOTHING_BUFFER
         || (descriptor.tag == STD && is_by_vbv_delay(descriptor.body))
         || (descriptor.tag == AVC_TIMING_AND_HRD && is_by_hrd(descriptor.body))
+        || (descriptor.tag == EXTENSION && is_by_hevc_hrd(descriptor.body))
 }
 
 /// Returns whether one of the whole descriptors in these bytes speaks of a multiplex.

@@ -4,8 +4,8 @@ use Rattle.std.proofs.lemmas.Option.{same_Some, slice_get-get_or, slice_get-map,
 use Rattle.demux.specs.Views.{FindingView}
 use Rattle.pes_packet.specs.AccessUnits.{AccessUnit}
 use Rattle.pes_packet.specs.Encoding.{on_wire}
-use Rattle.stream_units.specs.Stamps.{distance, first_fault, moved as moved_units}
-use Rattle.stream_units.proofs.StampMoments.{moved_by_one}
+use Rattle.es_units.specs.Stamps.{distance, first_fault, moved as moved_units}
+use Rattle.es_units.proofs.StampMoments.{moved_by_one}
 use Rattle.stream_jobs.specs.declared.moved_streams.FirstDts.{FirstDts}
 use Rattle.stream_jobs.specs.declared.refusal.JobError.{JobError}
 use Rattle.stream_jobs.specs.Answers.{Answers, and_then, each}

@@ -1,5 +1,5 @@
 -- What a job is made of, from the streams that have units.
-use Rattle.std.proofs.Common.{◌≡◌, ◌++◌, ℕ, List, sym, refl, Result, Ok}
+use Rattle.std.proofs.Common.{◌≡◌, ◌++◌, ℕ, List, sym, refl, Result}
 use Rattle.std.specs.Prelude.{flat_map}
 use Rattle.psi_tables.specs.declared.pat.programs.Program.{Program}
 use Rattle.demux.specs.Views.{FindingView}
@@ -9,12 +9,11 @@ use Rattle.stream_programs.specs.declared.pid_assignment.ProgramPids.{ProgramPid
 use Rattle.stream_jobs.specs.declared.refusal.JobError.{JobError}
 use Rattle.stream_jobs.specs.declared.refusal.JobRefusal.{JobRefusal}
 use Rattle.stream_jobs.specs.declared.warning.Warning.{Warning}
-use Rattle.stream_jobs.specs.Answers.{and_then}
 use Rattle.stream_jobs.specs.InputDrafts.{Leads}
 use Rattle.stream_jobs.specs.JobPrograms.{JobProgramView, job_programs, all_program_warnings}
-use Rattle.stream_jobs.specs.JobInput.{JobInputView, service_warnings, table_warnings, stream_warnings, job_warnings, tables_of, with_pids, with_streams}
+use Rattle.stream_jobs.specs.JobInput.{JobInputView, service_warnings, table_warnings, stream_warnings, job_warnings, tables_of, with_pids, with_found, with_streams}
 use Rattle.stream_jobs.specs.Warnings.{pid_warnings}
-use Rattle.stream_jobs.specs.WireStreams.{wire_streams, all_empty_stream_warnings}
+use Rattle.stream_jobs.specs.WireStreams.{wire_streams, all_left_out_warnings}
 use Rattle.stream_jobs.specs.JobOptions.{JobOptionsView}
 use Rattle.stream_jobs.specs.JobTables.{JobTableView, job_tables, told}
 use Rattle.stream_jobs.specs.JobStreams.{WireStreamView}
@@ -23,7 +22,7 @@ use Rattle.stream_jobs.specs.JobStreams.{WireStreamView}
 pub all_warnings : (options : JobOptionsView) (count : ℕ) (findings : List FindingView) (a : AssociationView) (named : List Program) (found : FoundProgramsView) (assigned : List ProgramPids) (streams : List WireStreamView)
     (tables empties programs units all : List Warning) →
     tables ≡ table_warnings options a named findings found →
-    empties ≡ tables ++ all_empty_stream_warnings count options.without findings found.streams →
+    empties ≡ tables ++ all_left_out_warnings options count findings found.streams →
     programs ≡ empties ++ all_program_warnings streams found.programs assigned →
     units ≡ programs ++ flat_map (λ s. pid_warnings count findings s.pid) streams →
     all ≡ units ++ service_warnings options.names findings (job_programs streams found.programs assigned) →
@@ -34,10 +33,10 @@ all_warnings options count findings a named found assigned streams tables emptie
 -- the streams have units, and these are the programs, the tables and the warnings
 pub in_pids : (options : JobOptionsView) (count : ℕ) (findings : List FindingView) (a : AssociationView) (named : List Program) (found : FoundProgramsView) (assigned : List ProgramPids) (streams : List WireStreamView)
     (programs : List JobProgramView) (tables : List JobTableView) (warnings left : List Warning) {A : Type 0} (next : A → Result JobInputView JobRefusal) (result : Result A JobError) →
-    wire_streams options.make_dts options.without findings found.streams ≡ Ok streams → programs ≡ job_programs streams found.programs assigned →
+    wire_streams options findings found.streams ≡ streams → programs ≡ job_programs streams found.programs assigned →
     tables ≡ job_tables options.without count findings programs streams found.tables →
     warnings ≡ job_warnings options count findings a named found assigned streams → left ≡ told tables warnings →
     Leads (with_streams options findings a.transport_stream_id programs tables left streams) next result → Leads (with_pids options count findings a named found assigned) next result
-unfolding with_pids and_then tables_of
+unfolding with_pids with_found tables_of
 in_pids options count findings a named found assigned streams programs tables warnings left next result are made tabled all kept is =
     rw (are, sym made, sym tabled, sym all, sym kept) is

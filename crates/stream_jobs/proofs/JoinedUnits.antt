@@ -8,7 +8,7 @@ use Rattle.pes_packet.specs.AccessUnits.{AccessUnit}
 use Rattle.pes_packet.specs.Units.{units_of}
 use Rattle.demux.specs.Views.{FindingView}
 use Rattle.description.specs.Described.{Described, DescribedStream}
-use Rattle.unit_order.specs.Merging.{AreMerged}
+use Rattle.es_units.specs.Merging.{AreMerged}
 use Rattle.stream_jobs.specs.Jobs.{Agrees, AllAgree, FitsQueue}
 use Rattle.stream_jobs.specs.JobInput.{JobInputView}
 use Rattle.stream_jobs.specs.JobStreams.{TimedStreamView}

@@ -11,6 +11,7 @@ mod NewNumbersBecome
 mod Each
 mod FrameSums
 mod CarriedStreams
+mod OddStreams
 mod StreamMoments
 mod TakenStreams
 mod TriedRates

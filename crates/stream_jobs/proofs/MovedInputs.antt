@@ -12,7 +12,7 @@ use Rattle.stream_jobs.specs.ClockBases.{base0_of}
 use Rattle.stream_jobs.specs.declared.declarations.StreamChoice.{StreamChoice}
 use Rattle.stream_jobs.specs.Declarations.{UnitCountsView, too_many, too_long, all_unit_counts, choices}
 use Rattle.stream_jobs.specs.BufferWarnings.{buffer_warnings}
-use Rattle.stream_jobs.specs.JobInput.{JobInputView, job_input, with_association, with_programs, with_pids, with_streams, with_moved, with_unit_counts, job_warnings, named_of, nothing_carried, tables_of}
+use Rattle.stream_jobs.specs.JobInput.{JobInputView, job_input, with_association, with_programs, with_pids, with_found, with_streams, with_moved, with_unit_counts, job_warnings, named_of, nothing_carried, tables_of}
 use Rattle.stream_jobs.specs.Information.{JobInformationView, information_of}
 use Rattle.stream_jobs.specs.JobOptions.{JobOptionsView}
 use Rattle.stream_jobs.specs.JobPrograms.{JobProgramView, job_programs}
@@ -71,7 +71,7 @@ pub record Moved (options : JobOptionsView) (findings : List FindingView) (input
   pub base0_is : input.base0 ≡ base0_of options.base (first_base (earliest input.programs input.tables streams) input.programs streams)
 
 pub moved_of : (options : JobOptionsView) (count : ℕ) (findings : List FindingView) (input : JobInputView) → job_input options count findings ≡ Ok input → Moved options findings input
-unfolding job_input with_association with_programs with_pids with_streams
+unfolding job_input with_association with_programs with_pids with_found with_streams
 moved_of options count findings input is =
     let associated = comes (with_association options count findings) (ok_or (association findings) refusals.NoAssociation) input
     (granted (no_packets count findings) (and_then (with_association options count findings) (ok_or (association findings) refusals.NoAssociation)) input is) in
@@ -80,11 +80,7 @@ moved_of options count findings input is =
     let assigned = comes (with_pids options count findings a (named_of options a) found) (ok_or (assigned_pids found) refusals.Pids) input
     (granted (if length found.programs == 0 then Some refusals.NoProgram else None)
     (and_then (with_pids options count findings a (named_of options a) found) (ok_or (assigned_pids found) refusals.Pids)) input associated.last_is) in
-    let on_wire = comes (λ streams. with_streams options findings a.transport_stream_id (job_programs streams found.programs assigned.value)
-    (tables_of options count findings found assigned.value streams)
-    (told (tables_of options count findings found assigned.value streams) (job_warnings options count findings a (named_of options a) found assigned.value streams)) streams)
-    (wire_streams options.make_dts options.without findings found.streams) input assigned.last_is in
-    let streams = on_wire.value in
+    let streams = wire_streams options findings found.streams in
     let programs = job_programs streams found.programs assigned.value in
     let tables = tables_of options count findings found assigned.value streams in
     let warnings = told tables (job_warnings options count findings a (named_of options a) found assigned.value streams) in
@@ -93,13 +89,13 @@ moved_of options count findings input is =
     let base = base0_of options.base (first_base due programs streams) in
     let timed = comes (with_moved options information base programs tables warnings) (moved_streams findings due programs streams) input
     (granted (nothing_carried warnings streams) (and_then (with_moved options information base programs tables warnings) (moved_streams findings due programs streams))
-    input on_wire.last_is) in
+    input assigned.last_is) in
     let done = made options information base programs tables warnings timed.value input timed.last_is in
     record {
       id = a.transport_stream_id;
       information_is = done.information_is ∙ ap (information_of options a.transport_stream_id findings) (sym done.programs_are);
       streams = streams;
-      carried = all_carried options.make_dts findings (selected options.without found.streams) streams on_wire.first_is;
+      carried = all_carried options findings (selected options.without found.streams);
       moved = ap₂ (λ (ps : List JobProgramView) (ts : List JobTableView). moved_streams findings (earliest ps ts streams) ps streams) done.programs_are done.tables_are
           ∙ subst (λ (ts : List TimedStreamView). moved_streams findings due programs streams ≡ Ok ts) (sym done.streams_are) timed.first_is;
       base0_is = done.base0_is

@@ -2,13 +2,13 @@
 use Rattle.std.proofs.Common.{◌≡◌, ◌∙◌, ◌<◌, ◌≤◌, ◌^◌, ℕ, Bool, true, false, None, List, map, Result, Ok, Err, IfOk, All, length, refl, sym, ap, subst}
 use Rattle.pes_packet.specs.AccessUnits.{AccessUnit}
 use Rattle.demux.specs.Views.{FindingView}
-use Rattle.stream_units.specs.CarriedUnits.{CarriedUnit, carried_units}
-use Rattle.stream_units.specs.MadeDts.{made_units}
-use Rattle.stream_units.specs.Stamps.{first_fault, moved}
-use Rattle.stream_units.specs.UnitMoments.{moment_of, units_at}
-use Rattle.stream_units.specs.declared.unit_moments.UnitMoment.{UnitMoment}
-use Rattle.stream_units.proofs.MadeDts.{made_contents}
-use Rattle.stream_units.proofs.UnitMoments.{at_own, contents}
+use Rattle.es_units.specs.CarriedUnits.{CarriedUnit, carried_units}
+use Rattle.es_units.specs.MadeDts.{made_units}
+use Rattle.es_units.specs.Stamps.{first_fault, moved}
+use Rattle.es_units.specs.UnitMoments.{moment_of, units_at}
+use Rattle.es_units.specs.declared.unit_moments.UnitMoment.{UnitMoment}
+use Rattle.es_units.proofs.MadeDts.{made_contents}
+use Rattle.es_units.proofs.UnitMoments.{at_own, contents}
 use Rattle.stream_jobs.specs.declared.moved_streams.FirstDts.{FirstDts}
 use Rattle.stream_jobs.specs.declared.refusal.JobRefusal.{JobRefusal}
 use Rattle.stream_jobs.specs.Answers.{unless}

@@ -4,9 +4,9 @@ use Rattle.std.proofs.lemmas.Bool.{eqb-true}
 use Rattle.std.proofs.lemmas.Bool.Decides.{nat_tests}
 use Rattle.std.proofs.lemmas.List.{append_assoc, append-nil}
 use Rattle.demux.specs.Views.{FindingView}
-use Rattle.stream_units.specs.CarriedUnits.{CarriedUnit, carried_units}
-use Rattle.stream_units.specs.TakenUnits.{OthersStay}
-use Rattle.stream_units.proofs.TakenUnits.{others_carried}
+use Rattle.es_units.specs.CarriedUnits.{CarriedUnit, carried_units}
+use Rattle.es_units.specs.TakenUnits.{OthersStay}
+use Rattle.es_units.proofs.TakenUnits.{others_carried}
 use Rattle.stream_jobs.specs.InputDrafts.{StreamMomentsView, with_units, timed_stream}
 use Rattle.stream_jobs.specs.JobOptions.{is_among}
 use Rattle.stream_jobs.specs.JobStreams.{TimedStreamView}

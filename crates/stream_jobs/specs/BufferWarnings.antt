@@ -1,12 +1,13 @@
 -- Warnings about the buffers that are declared of the streams of a job.
-use Rattle.std.specs.Prelude.{ℕ, ◌*◌, ◌/◌, ◌==◌, ◌||◌, ◌++◌, if◌then◌else◌, List, [], ◌∷◌, flat_map, zip, Option, Some, None, is_some, option_map, option_to_list}
+use Rattle.std.specs.Prelude.{ℕ, ◌*◌, ◌/◌, ◌==◌, ◌||◌, ◌++◌, nat_lt, if◌then◌else◌, List, [], ◌∷◌, flat_map, zip, Option, Some, None, is_some, option_map, option_to_list}
 use Rattle.clock27.specs.Units.{slot_units_at_1bps}
 use Rattle.unit_timing.specs.Shares.{parts}
 use Rattle.unit_timing.specs.declared.multiplexing_buffer.MultiplexingBuffer.{MultiplexingBuffer}
+use Rattle.stream_choice.specs.Frames.{keeps_framing}
 use Rattle.stream_choice.specs.declared.choice.Choice.{Choice}
 use Rattle.stream_coding.specs.Buffers.{buffers_of, given_buffers}
 use Rattle.stream_coding.specs.declared.buffers.PidBuffers.{PidBuffers}
-use Rattle.stream_units.specs.Declaration.{max_unit_size}
+use Rattle.es_units.specs.Declaration.{max_unit_size}
 use Rattle.stream_jobs.specs.declared.declarations.StreamChoice.{StreamChoice}
 use Rattle.stream_jobs.specs.declared.warning.Warning.{Warning}
 use Rattle.stream_jobs.specs.declared.warning.Warning.TheVariants as warning
@@ -52,7 +53,26 @@ leak_warnings_of s = option_to_list (leak_warning s)
 abbrev pub leak_warnings : List TimedStreamView → List UnitCountsView → List StreamChoice → List Warning
 leak_warnings streams all chosen = flat_map leak_warnings_of (zip streams (zip all chosen))
 
--- 3. All of them
+-- 3. Access units that a main buffer does not hold one by one
+
+-- how many a unit has at most, where it has several and the choice does not keep them: they are not declared (`kept_framing`)
+unfoldable pub unkept_frames : UnitCountsView → Choice → Option ℕ
+unkept_frames c choice = elim c.framing [
+  | None ↦ None
+  | Some f ↦ if keeps_framing c.needs f choice.lead choice.share then None else (if nat_lt 1 f.frames then Some f.frames else None)
+]
+
+unfoldable pub frame_warning : TimedStreamView × (UnitCountsView × StreamChoice) → Option Warning
+frame_warning s = option_map (warning.Frames s.0.pid) (unkept_frames s.1.0 s.1.1.choice)
+
+unfoldable pub frame_warnings_of : TimedStreamView × (UnitCountsView × StreamChoice) → List Warning
+frame_warnings_of s = option_to_list (frame_warning s)
+
+abbrev pub frame_warnings : List TimedStreamView → List UnitCountsView → List StreamChoice → List Warning
+frame_warnings streams all chosen = flat_map frame_warnings_of (zip streams (zip all chosen))
+
+-- 4. All of them
 
 abbrev pub buffer_warnings : List PidBuffers → List TimedStreamView → List UnitCountsView → List StreamChoice → List Warning
-buffer_warnings given streams all chosen = header_warnings given streams ++ leak_warnings streams all chosen
+buffer_warnings given streams all chosen =
+    (header_warnings given streams ++ leak_warnings streams all chosen) ++ frame_warnings streams all chosen

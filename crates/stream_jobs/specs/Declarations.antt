@@ -1,5 +1,5 @@
 -- What a description declares of the streams of a job.
-use Rattle.std.specs.Prelude.{ℕ, ◌+◌, ◌-◌, ◌*◌, ◌/◌, ◌^◌, ◌==◌, ◌&&◌, min, max, nat_le, nat_lt, Bool, if◌then◌else◌, List, [], ◌∷◌, length, map, find, zip, sum_by, unwrap_or, ok_or, Option, Some, None, is_some, option_map, option_and_then, Result, Ok}
+use Rattle.std.specs.Prelude.{ℕ, ◌+◌, ◌-◌, ◌*◌, ◌/◌, ◌^◌, ◌==◌, ◌&&◌, ◌||◌, min, max, nat_le, nat_lt, Bool, if◌then◌else◌, List, [], ◌∷◌, length, map, find, zip, sum_by, unwrap_or, ok_or, Option, Some, None, is_some, option_map, option_and_then, Result, Ok}
 use Rattle.std.specs.List.{range_with_len}
 use Rattle.clock27.specs.Units.{slot_units_at_1bps}
 use Rattle.clock27.specs.declared.rate.TheConstants.{LEAST_RATE}
@@ -23,9 +23,10 @@ use Rattle.stream_coding.specs.declared.frames.UnitFrames.{UnitFrames}
 use Rattle.stream_coding.specs.declared.coding.Coding.{Coding}
 use Rattle.stream_coding.specs.declared.buffers.Buffers.{Buffers}
 use Rattle.stream_coding.specs.declared.buffers.PidBuffers.{PidBuffers}
-use Rattle.stream_units.specs.UnitRuns.{UnitRunsView, runs_burst}
-use Rattle.stream_units.specs.Declaration.{min_interval, max_unit_size, group_packets, burst_packets}
+use Rattle.es_units.specs.UnitRuns.{UnitRunsView, runs_burst}
+use Rattle.es_units.specs.Declaration.{min_interval, max_unit_size, group_packets, burst_packets}
 use Rattle.stream_jobs.specs.declared.declarations.StreamChoice.{StreamChoice}
+use Rattle.stream_jobs.specs.declared.refusal.GreaterBuffers.{GreaterBuffers}
 use Rattle.stream_jobs.specs.declared.refusal.JobRefusal.{JobRefusal}
 use Rattle.stream_jobs.specs.declared.refusal.JobRefusal.TheVariants as refusals
 use Rattle.given_values.specs.declared.declare_by.DeclareBy.{DeclareBy}
@@ -47,6 +48,9 @@ is_too_long s = nat_lt 1_048_576 (length s.units)
 
 unfoldable pub units_refusal : TimedStreamView → JobRefusal
 units_refusal s = refusals.Units s.pid (length s.units)
+
+unfoldable pub length_refusal : TimedStreamView → Option JobRefusal
+length_refusal s = if is_too_long s then Some (units_refusal s) else None
 
 unfoldable pub too_long : List TimedStreamView → Option JobRefusal
 too_long streams = option_map units_refusal (find is_too_long streams)
@@ -179,12 +183,44 @@ unfoldable pub first_kept : Option StreamChoice → Option StreamChoice → Opti
 first_kept (Some choice) other = Some choice
 first_kept None other = other
 
+-- something lets its units into one main buffer
+unfoldable pub is_declared : DeclareBy → ℕ → ℕ → List AccessUnit → UnitCountsView → Bool
+is_declared by.Groups lead sum units c = is_some (groups_of lead sum None c)
+is_declared by.Pace lead sum units c = is_some (pace_of lead sum None units c)
+is_declared by.Either lead sum units c = is_some (pace_of lead sum None units c) || is_some (groups_of lead sum None c)
+
+-- with these buffers in place of the stream's
+abbrev pub greater_needs : GreaterBuffers → Needs → Needs
+greater_needs b n = record { interval = n.interval; size = n.size; rx = b.rx; main = b.main }
+
+unfoldable pub with_buffers : GreaterBuffers → UnitCountsView → UnitCountsView
+with_buffers b c = record { needs = greater_needs b c.needs; multiplexing = None; framing = None; max_group_packets = c.max_group_packets }
+
+-- the buffers that are tried, and the first of these into which something lets its units
+abbrev pub small_buffers : GreaterBuffers
+small_buffers = record { rx = 8_000_000; main = 65_536 }
+
+abbrev pub medium_buffers : GreaterBuffers
+medium_buffers = record { rx = 40_000_000; main = 1_000_000 }
+
+abbrev pub large_buffers : GreaterBuffers
+large_buffers = record { rx = 200_000_000; main = 10_000_000 }
+
+unfoldable pub way_out : DeclareBy → ℕ → ℕ → List AccessUnit → UnitCountsView → Option GreaterBuffers
+way_out declare_by lead sum units c =
+    if is_declared declare_by lead sum units (with_buffers small_buffers c) then Some small_buffers
+    else (if is_declared declare_by lead sum units (with_buffers medium_buffers c) then Some medium_buffers
+    else (if is_declared declare_by lead sum units (with_buffers large_buffers c) then Some large_buffers else None))
+
+unfoldable pub buffers_refusal : DeclareBy → ℕ → ℕ → TimedStreamView → UnitCountsView → JobRefusal
+buffers_refusal declare_by lead sum s c = refusals.Buffers s.pid c.needs.size c.needs.rx c.needs.main (way_out declare_by lead sum s.units c)
+
 -- with the stream's multiplexing buffer, if a choice keeps it; else with one main buffer. A stream of its level's greatest rate is of the
 -- second kind: its packets come faster than the leak by their headers, which the leak is counted with here
 unfoldable pub chosen : DeclareBy → ℕ → ℕ → TimedStreamView × UnitCountsView → Result StreamChoice JobRefusal
 chosen declare_by lead sum s =
     ok_or (first_kept (kept declare_by lead sum s.1.multiplexing s.0.units s.1) (kept declare_by lead sum None s.0.units s.1))
-    (refusals.Buffers s.0.pid s.1.needs.size s.1.needs.rx s.1.needs.main)
+    (buffers_refusal declare_by lead sum s.0 s.1)
 
 unfoldable pub choices : DeclareBy → ℕ → List TimedStreamView → List UnitCountsView → Result (List StreamChoice) JobRefusal
 choices declare_by lead streams all = each (chosen declare_by lead (shares_of all)) (zip streams all)

@@ -2,11 +2,11 @@
 use Rattle.std.specs.Prelude.{◌≡◌, ◌≤◌, ◌<◌, ℕ, ◌^◌, Bool, true, false, None, List, map}
 use Rattle.pes_packet.specs.AccessUnits.{AccessUnit}
 use Rattle.demux.specs.Views.{FindingView}
-use Rattle.stream_units.specs.CarriedUnits.{CarriedUnit, carried_units}
-use Rattle.stream_units.specs.MadeDts.{made_units}
-use Rattle.stream_units.specs.Declaration.{min_interval, max_unit_size, AllowsUnits}
-use Rattle.stream_units.specs.Laws.{FirstDue}
-use Rattle.stream_units.specs.Stamps.{moved, first_fault}
+use Rattle.es_units.specs.CarriedUnits.{CarriedUnit, carried_units}
+use Rattle.es_units.specs.MadeDts.{made_units}
+use Rattle.es_units.specs.Declaration.{min_interval, max_unit_size, AllowsUnits}
+use Rattle.es_units.specs.Laws.{FirstDue}
+use Rattle.es_units.specs.Stamps.{moved, first_fault}
 use Rattle.description.specs.Described.{Described, DescribedStream}
 
 -- units as on the wire, at the moments that they have where the clock shows `base` at moment 0

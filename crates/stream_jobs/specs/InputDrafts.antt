@@ -1,9 +1,9 @@
 -- What a job is made of before the bytes of its units are taken.
 use Rattle.std.specs.Prelude.{◌≡◌, ℕ, List, map, Result, Ok, Err}
 use Rattle.demux.specs.Views.{FindingView}
-use Rattle.stream_units.specs.CarriedUnits.{CarriedUnit, carried_units}
-use Rattle.stream_units.specs.UnitMoments.{units_at}
-use Rattle.stream_units.specs.declared.unit_moments.UnitMoment.{UnitMoment}
+use Rattle.es_units.specs.CarriedUnits.{CarriedUnit, carried_units}
+use Rattle.es_units.specs.UnitMoments.{units_at}
+use Rattle.es_units.specs.declared.unit_moments.UnitMoment.{UnitMoment}
 use Rattle.stream_jobs.specs.declared.refusal.JobRefusal.{JobRefusal}
 use Rattle.stream_jobs.specs.declared.refusal.JobError.{JobError}
 use Rattle.stream_jobs.specs.declared.warning.Warning.{Warning}

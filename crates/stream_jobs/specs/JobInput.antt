@@ -4,7 +4,7 @@ use Rattle.std.specs.List.{list_any}
 use Rattle.std.specs.Option.{option_or}
 use Rattle.psi_tables.specs.declared.pat.programs.Program.{Program}
 use Rattle.demux.specs.Views.{FindingView}
-use Rattle.stream_units.specs.Damage.{is_scrambled}
+use Rattle.es_units.specs.Damage.{is_scrambled}
 use Rattle.stream_programs.specs.Association.{AssociationView, association}
 use Rattle.stream_programs.specs.PidAssignment.{assigned_pids}
 use Rattle.stream_programs.specs.Programs.{FoundProgramsView, programs_of}
@@ -20,13 +20,14 @@ use Rattle.stream_jobs.specs.declared.declarations.StreamChoice.{StreamChoice}
 use Rattle.stream_jobs.specs.Declarations.{UnitCountsView, too_many, too_long, all_unit_counts, choices}
 use Rattle.stream_jobs.specs.BufferWarnings.{buffer_warnings}
 use Rattle.stream_jobs.specs.JobPrograms.{JobProgramView, job_programs, all_program_warnings, text_warnings}
+use Rattle.stream_jobs.specs.ProgramClocks.{is_clock_on}
 use Rattle.given_values.specs.GivenNames.{ServiceNameView}
 use Rattle.stream_jobs.specs.Events.{programs_information}
 use Rattle.stream_jobs.specs.Information.{JobInformationView, information_of}
 use Rattle.stream_jobs.specs.Moments.{earliest, first_base, moved_streams}
 use Rattle.stream_jobs.specs.Packets.{no_packets}
 use Rattle.stream_jobs.specs.Warnings.{packet_warnings, association_warnings, all_map_warnings, stray_warnings, option_warnings, network_warnings, pid_warnings}
-use Rattle.stream_jobs.specs.WireStreams.{wire_streams, all_empty_stream_warnings}
+use Rattle.stream_jobs.specs.WireStreams.{wire_streams, all_left_out_warnings}
 use Rattle.stream_jobs.specs.JobOptions.{JobOptionsView, is_selected_program}
 use Rattle.stream_jobs.specs.JobTables.{JobTableView, job_tables, told}
 use Rattle.stream_jobs.specs.JobStreams.{TimedStreamView, WireStreamView}
@@ -51,6 +52,10 @@ has_stream m pid = list_any (λ s. s.pid == pid) m.streams
 abbrev pub carries_table : JobInputView → ℕ → Bool
 carries_table m pid = list_any (λ t. t.pid == pid) m.tables
 
+-- the clock of a program comes on this PID
+abbrev pub has_clock : JobInputView → ℕ → Bool
+has_clock m pid = list_any (λ p. is_clock_on pid p.clock) m.programs
+
 -- 1. Warnings
 
 -- about packets, and tables that change
@@ -69,7 +74,7 @@ table_warnings options a named findings found =
 -- and about streams that are not carried
 unfoldable pub stream_warnings : JobOptionsView → ℕ → List FindingView → AssociationView → List Program → FoundProgramsView → List Warning
 stream_warnings options count findings a named found =
-    table_warnings options a named findings found ++ all_empty_stream_warnings count options.without findings found.streams
+    table_warnings options a named findings found ++ all_left_out_warnings options count findings found.streams
 
 -- about the texts of services, and about service information
 unfoldable pub service_warnings : List ServiceNameView → List FindingView → List JobProgramView → List Warning
@@ -105,9 +110,11 @@ with_moved options information base programs tables all_warnings streams =
       warnings = all_warnings ++ buffer_warnings options.buffers streams all chosen;
     }) streams))
 
--- why no stream is carried: the first warning of a stream_id that can't be written, or of scrambled packets
+-- why no stream is carried: the first warning of a stream_id that can't be written, of a stream that is left out for a reason, or of
+-- scrambled packets
 unfoldable pub why_nothing : Warning → Option JobRefusal
 why_nothing (warnings.StreamId program pid packet id) = Some (refusals.StreamId packet pid id)
+why_nothing (warnings.LeftOut pid why) = Some why
 why_nothing (warnings.Units pid warning) = if is_scrambled warning.cause then Some refusals.Scrambled else None
 why_nothing _ = None
 
@@ -130,13 +137,17 @@ unfoldable pub tables_of : JobOptionsView → ℕ → List FindingView → Found
 tables_of options count findings found assigned streams =
     job_tables options.without count findings (job_programs streams found.programs assigned) streams found.tables
 
--- programs, and the PIDs that they are given
+-- these streams, programs, and the PIDs that they are given
+unfoldable pub with_found : JobOptionsView → ℕ → List FindingView → AssociationView → List Program → FoundProgramsView → List ProgramPids → List WireStreamView → Result JobInputView JobRefusal
+with_found options count findings a named found assigned streams =
+    with_streams options findings a.transport_stream_id (job_programs streams found.programs assigned)
+    (tables_of options count findings found assigned streams)
+    (told (tables_of options count findings found assigned streams) (job_warnings options count findings a named found assigned streams)) streams
+
+-- with the streams that can be carried
 unfoldable pub with_pids : JobOptionsView → ℕ → List FindingView → AssociationView → List Program → FoundProgramsView → List ProgramPids → Result JobInputView JobRefusal
 with_pids options count findings a named found assigned =
-    and_then (λ streams. with_streams options findings a.transport_stream_id (job_programs streams found.programs assigned)
-    (tables_of options count findings found assigned streams)
-    (told (tables_of options count findings found assigned streams) (job_warnings options count findings a named found assigned streams)) streams)
-    (wire_streams options.make_dts options.without findings found.streams)
+    with_found options count findings a named found assigned (wire_streams options findings found.streams)
 
 unfoldable pub with_programs : JobOptionsView → ℕ → List FindingView → AssociationView → List Program → FoundProgramsView → Result JobInputView JobRefusal
 with_programs options count findings a named found =

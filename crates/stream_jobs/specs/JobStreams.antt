@@ -2,7 +2,7 @@
 use Rattle.std.specs.Prelude.{ℕ, ◌==◌, ◌||◌, Bool, List, refl}
 use Rattle.std.specs.Coded.{Coded, code_by, coded×, coded_list, coded_ℕ}
 use Rattle.pes_packet.specs.AccessUnits.{AccessUnit}
-use Rattle.stream_units.specs.CarriedUnits.{CarriedUnit}
+use Rattle.es_units.specs.CarriedUnits.{CarriedUnit}
 use Rattle.stream_jobs.specs.JobOptions.{is_among}
 
 -- an elementary stream of a program: what its map says, the stream_id of its PES packets, the other programs that share it, and its

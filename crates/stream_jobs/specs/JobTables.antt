@@ -10,7 +10,7 @@ use Rattle.other_tables.specs.SteadySections.{SteadySectionsView, steady_section
 use Rattle.stream_programs.specs.Streams.{FoundStreamView}
 use Rattle.stream_programs.specs.declared.omission.TableOmission.{TableOmission}
 use Rattle.stream_programs.specs.declared.omission.TableOmission.TheVariants.{NoPes}
-use Rattle.stream_units.specs.CarriedUnits.{CarriedUnit}
+use Rattle.es_units.specs.CarriedUnits.{CarriedUnit}
 use Rattle.stream_jobs.specs.declared.warning.Warning.{Warning}
 use Rattle.stream_jobs.specs.declared.warning.Warning.TheVariants as warnings
 use Rattle.stream_jobs.specs.JobOptions.{is_selected_stream}

@@ -8,8 +8,8 @@ use Rattle.demux.specs.Views.{FindingView}
 use Rattle.description.specs.Described.{Described, DescribedEntry, DescribedProgram, DescribedStream, DescribedTable}
 use Rattle.unit_timing.specs.declared.allowance.Allowance.{Allowance}
 use Rattle.unit_timing.specs.declared.allowance.Allowance.TheVariants.{Groups, Pace}
-use Rattle.stream_units.specs.Declaration.{min_interval, max_unit_size, group_packets, burst_packets}
-use Rattle.unit_order.specs.Merging.{AreMerged}
+use Rattle.es_units.specs.Declaration.{min_interval, max_unit_size, group_packets, burst_packets}
+use Rattle.es_units.specs.Merging.{AreMerged}
 use Rattle.stream_jobs.specs.JobPrograms.{JobProgramView}
 use Rattle.stream_jobs.specs.JobInput.{JobInputView}
 use Rattle.stream_jobs.specs.FoundUnits.{AreFound, Declares, source_of}

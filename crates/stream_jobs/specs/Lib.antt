@@ -6,7 +6,6 @@ pub mod Answers
 pub mod Packets
 pub mod Warnings
 pub mod JobStreams
-pub mod WireStreams
 pub mod ProgramClocks
 pub mod JobPrograms
 pub mod JobTables
@@ -14,6 +13,8 @@ pub mod Events
 pub mod Information
 pub mod Moments
 pub mod Declarations
+pub mod OddStreams
+pub mod WireStreams
 pub mod BufferWarnings
 pub mod JobInput
 pub mod InputDrafts

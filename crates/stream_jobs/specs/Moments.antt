@@ -3,10 +3,10 @@ use Rattle.std.specs.Prelude.{ℕ, ◌+◌, ◌%◌, ◌^◌, nat_lt, ◌==◌, 
 use Rattle.std.specs.List.{list_any}
 use Rattle.pes_packet.specs.AccessUnits.{AccessUnit}
 use Rattle.demux.specs.Views.{FindingView}
-use Rattle.stream_units.specs.CarriedUnits.{CarriedUnit, carried_units}
-use Rattle.stream_units.specs.MadeDts.{dts_fault, pts_of}
-use Rattle.stream_units.specs.Stamps.{constant_of, first_fault, moved}
-use Rattle.stream_units.specs.declared.stamps.StampFault.{StampFault}
+use Rattle.es_units.specs.CarriedUnits.{CarriedUnit, carried_units}
+use Rattle.es_units.specs.MadeDts.{dts_fault, pts_of}
+use Rattle.es_units.specs.Stamps.{constant_of, first_fault, moved}
+use Rattle.es_units.specs.declared.stamps.StampFault.{StampFault}
 use Rattle.stream_jobs.specs.declared.moved_streams.FirstDts.{FirstDts}
 use Rattle.stream_jobs.specs.declared.program_clock.ProgramClock.{ProgramClock}
 use Rattle.stream_jobs.specs.declared.refusal.JobRefusal.{JobRefusal}

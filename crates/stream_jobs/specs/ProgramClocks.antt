@@ -13,3 +13,8 @@ unfoldable pub is_same_clock : ProgramClock → ProgramClock → Bool
 is_same_clock (References one) (References other) = one == other
 is_same_clock (Own one) (Own other) = one == other
 is_same_clock _ _ = false
+
+-- its references are on this PID
+unfoldable pub is_clock_on : ℕ → ProgramClock → Bool
+is_clock_on pid (References other) = other == pid
+is_clock_on pid (Own number) = false

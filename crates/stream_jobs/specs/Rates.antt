@@ -4,7 +4,7 @@ use Rattle.std.specs.List.{range_with_len}
 use Rattle.description.specs.Described.{Described, DescribedProgram}
 use Rattle.description.specs.Reading.{description_of}
 use Rattle.description.specs.Tables.{round_packets, table_count, table_limit}
-use Rattle.plan_search.specs.PlainPlan.{plain_plan, serves}
+use Rattle.plan_maker.specs.PlainPlan.{plain_plan, serves}
 use Rattle.slot_plan.specs.Conditions.{IsServing}
 use Rattle.slot_plan.specs.Planned.{Planned}
 use Rattle.stream_choice.specs.Rates.{IsLeastRate, IsTooMuch}

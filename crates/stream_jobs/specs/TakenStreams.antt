@@ -1,7 +1,7 @@
 -- What is left of findings of which the units of a stream are taken.
 use Rattle.std.specs.Prelude.{◌≡◌, ℕ, true, List}
 use Rattle.demux.specs.Views.{FindingView}
-use Rattle.stream_units.specs.CarriedUnits.{carried_units}
+use Rattle.es_units.specs.CarriedUnits.{carried_units}
 use Rattle.stream_jobs.specs.JobOptions.{is_among}
 
 -- the units of each of these PIDs are as they were

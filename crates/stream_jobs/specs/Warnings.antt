@@ -12,8 +12,8 @@ use Rattle.stream_programs.specs.Programs.{programs_of}
 use Rattle.stream_programs.specs.StrayPids.{mapped_pids, pes_count, stray_pids}
 use Rattle.stream_programs.specs.Streams.{FoundStreamView}
 use Rattle.stream_programs.specs.Texts.{has_unread}
-use Rattle.stream_units.specs.UnitWarnings.{unit_warnings}
-use Rattle.stream_units.specs.Damage as units
+use Rattle.es_units.specs.UnitWarnings.{unit_warnings}
+use Rattle.es_units.specs.Damage as units
 use Rattle.given_values.specs.GivenNames.{NetworkNameView, ServiceNameView}
 use Rattle.stream_coding.specs.declared.buffers.PidBuffers.{PidBuffers}
 use Rattle.stream_jobs.specs.declared.warning.Warning.{Warning}
@@ -126,6 +126,8 @@ is_damage (warning.Information about) = true
 is_damage (warning.MapMoved program from to) = false
 is_damage (warning.HeaderBuffer pid said unit counted) = false
 is_damage (warning.Leak pid rate leak) = false
+is_damage (warning.LeftOut pid why) = true
+is_damage (warning.Frames pid frames) = false
 
 abbrev pub are_damaged : List Warning → Bool
 are_damaged warnings = list_any is_damage warnings

@@ -1,18 +1,19 @@
 -- The streams of a job, their units with the stamps on the wire.
-use Rattle.std.specs.Prelude.{ℕ, Bool, true, false, is_some, if◌then◌else◌, List, [], ◌∷◌, slice_get, filter, flat_map, ok_or, Option, Some, None, option_map, option_and_then, Result, Ok, Err}
+use Rattle.std.specs.Prelude.{ℕ, Bool, true, false, is_some, if◌then◌else◌, List, [], ◌∷◌, slice_get, filter, flat_map, ok_or, Option, Some, None, option_map, option_and_then, option_to_list, Result, Ok, Err}
 use Rattle.demux.specs.Views.{FindingView}
 use Rattle.stream_coding.specs.Codings.{is_ac3}
 use Rattle.stream_programs.specs.Streams.{FoundStreamView}
-use Rattle.stream_units.specs.CarriedUnits.{CarriedUnit, carried_units}
-use Rattle.stream_units.specs.MadeDts.{dts_fault, made_units, pts_of}
-use Rattle.stream_units.specs.StreamIds.{first_other_at, written_id}
+use Rattle.es_units.specs.CarriedUnits.{CarriedUnit, carried_units}
+use Rattle.es_units.specs.MadeDts.{dts_fault, made_units, pts_of}
+use Rattle.es_units.specs.StreamIds.{first_other_at, written_id}
 use Rattle.stream_jobs.specs.declared.refusal.JobRefusal.{JobRefusal}
 use Rattle.stream_jobs.specs.declared.refusal.JobRefusal.TheVariants as refusals
 use Rattle.stream_jobs.specs.declared.warning.Warning.{Warning}
 use Rattle.stream_jobs.specs.declared.warning.Warning.TheVariants as warnings
-use Rattle.stream_jobs.specs.Answers.{and_then, unless, each}
+use Rattle.stream_jobs.specs.Answers.{and_then, unless}
+use Rattle.stream_jobs.specs.OddStreams.{odd_stream}
 use Rattle.stream_jobs.specs.Warnings.{pid_warnings}
-use Rattle.stream_jobs.specs.JobOptions.{is_selected_stream}
+use Rattle.stream_jobs.specs.JobOptions.{JobOptionsView, is_selected_stream}
 use Rattle.stream_jobs.specs.JobStreams.{WireStreamView}
 
 -- 1. The stream_id: that of the first unit, if all have it
@@ -60,7 +61,7 @@ stream_of made s units =
 unfoldable pub wire_stream : Bool → List FindingView → FoundStreamView → Result WireStreamView JobRefusal
 wire_stream made findings s = stream_of made s (carried_units s.pid findings)
 
--- 4. All streams of the tables: those that are not to be left out, have units, and a stream_id that can be written
+-- 4. All streams of the tables: those that are not to be left out, have units, and a stream_id that can be written, and are not odd
 
 unfoldable pub is_written : FoundStreamView → List CarriedUnit → Bool
 is_written s [] = false
@@ -76,21 +77,45 @@ stream_if_any made findings s = if can_carry findings s then and_then (λ w. Ok 
 abbrev pub selected : List ℕ → List FoundStreamView → List FoundStreamView
 selected without streams = filter (is_selected_stream without) streams
 
+-- it, unless its stream_ids or stamps refuse it, or it is odd
+unfoldable pub unless_odd : Option JobRefusal → WireStreamView → Option WireStreamView
+unless_odd None w = Some w
+unless_odd (Some why) w = None
+
+unfoldable pub kept_stream : JobOptionsView → List FindingView → Result (Option WireStreamView) JobRefusal → Option WireStreamView
+kept_stream options findings (Err why) = None
+kept_stream options findings (Ok None) = None
+kept_stream options findings (Ok (Some w)) = unless_odd (odd_stream options findings w) w
+
+unfoldable pub carried_stream : JobOptionsView → List FindingView → FoundStreamView → List WireStreamView
+carried_stream options findings s = option_to_list (kept_stream options findings (stream_if_any options.make_dts findings s))
+
 -- those that can be
-unfoldable pub carried_streams : Bool → List FindingView → List FoundStreamView → Result (List WireStreamView) JobRefusal
-carried_streams made findings streams = each (wire_stream made findings) (filter (can_carry findings) streams)
+abbrev pub carried_streams : JobOptionsView → List FindingView → List FoundStreamView → List WireStreamView
+carried_streams options findings streams = flat_map (carried_stream options findings) streams
 
-abbrev pub wire_streams : Bool → List ℕ → List FindingView → List FoundStreamView → Result (List WireStreamView) JobRefusal
-wire_streams made without findings streams = carried_streams made findings (selected without streams)
+abbrev pub wire_streams : JobOptionsView → List FindingView → List FoundStreamView → List WireStreamView
+wire_streams options findings streams = carried_streams options findings (selected options.without streams)
 
--- the warnings about a stream that can't be carried: it has no unit, or a stream_id that can't be written
+-- 5. The warnings about a stream that can't be carried
+
+-- it has no unit, or a stream_id that can't be written
 unfoldable pub why_not_carried : ℕ → List FindingView → ℕ → ℕ → List CarriedUnit → List Warning
 why_not_carried count findings program pid [] = warnings.NoUnit program pid ∷ pid_warnings count findings pid
 why_not_carried count findings program pid (u ∷ us) = warnings.StreamId program pid u.packet u.stream_id ∷ []
 
-unfoldable pub empty_stream_warnings : ℕ → List FindingView → FoundStreamView → List Warning
-empty_stream_warnings count findings s =
-    if can_carry findings s then [] else why_not_carried count findings s.program s.pid (carried_units s.pid findings)
+-- or it is left out for a reason
+unfoldable pub left_out_for : ℕ → Option JobRefusal → List Warning
+left_out_for pid None = []
+left_out_for pid (Some why) = warnings.LeftOut pid why ∷ []
 
-abbrev pub all_empty_stream_warnings : ℕ → List ℕ → List FindingView → List FoundStreamView → List Warning
-all_empty_stream_warnings count without findings streams = flat_map (empty_stream_warnings count findings) (selected without streams)
+unfoldable pub warnings_by : JobOptionsView → ℕ → List FindingView → FoundStreamView → Result (Option WireStreamView) JobRefusal → List Warning
+warnings_by options count findings s (Err why) = left_out_for s.pid (Some why)
+warnings_by options count findings s (Ok None) = why_not_carried count findings s.program s.pid (carried_units s.pid findings)
+warnings_by options count findings s (Ok (Some w)) = left_out_for s.pid (odd_stream options findings w)
+
+unfoldable pub left_out_warnings : JobOptionsView → ℕ → List FindingView → FoundStreamView → List Warning
+left_out_warnings options count findings s = warnings_by options count findings s (stream_if_any options.make_dts findings s)
+
+abbrev pub all_left_out_warnings : JobOptionsView → ℕ → List FindingView → List FoundStreamView → List Warning
+all_left_out_warnings options count findings streams = flat_map (left_out_warnings options count findings) (selected options.without streams)

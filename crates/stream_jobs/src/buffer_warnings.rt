@@ -7,10 +7,10 @@ use crate::declarations::{StreamChoice, UnitCounts, coding_for, said_coding};
 use crate::job_stream::TimedStream;
 use crate::warning::Warning;
 use clock27::SLOT_UNITS_AT_1BPS;
+use es_units::max_unit_size;
 use std::alloc::AllocError;
-use stream_choice::Choice;
+use stream_choice::{Choice, keeps_framing};
 use stream_coding::{PidBuffers, buffers_of, given_buffers};
-use stream_units::max_unit_size;
 use unit_timing::multiplexing_buffer::MultiplexingBuffer;
 use unit_timing::shares::PARTS;
 
@@ -149,8 +149,86 @@ fn push_leak_warnings(
     Ok(())
 }
 
+// The number of access units in a unit that a choice does not keep.
+#[tactic(auto, unfolding(crate::specs::BufferWarnings::unkept_frames))]
+fn unkept_frames(unit_counts: &UnitCounts, choice: Choice) -> Option<u8>
+    ensures { result ≡ spec.unkept_frames unit_counts.now choice }
+{
+    let framing = unit_counts.framing?;
+    if keeps_framing(unit_counts.needs, framing, choice.lead, choice.share) {
+        None
+    } else if framing.frames > 1 {
+        Some(framing.frames)
+    } else {
+        None
+    }
+}
+
+// The warning about access units that a choice does not keep.
+#[tactic(auto, unfolding(crate::specs::BufferWarnings::frame_warning))]
+fn frame_warning(
+    stream: &TimedStream,
+    unit_counts: &UnitCounts,
+    choice: StreamChoice,
+) -> Option<Warning>
+    ensures { result ≡ spec.frame_warning (stream.now, (unit_counts.now, choice)) }
+{
+    match unkept_frames(unit_counts, choice.choice) {
+        None => None,
+        Some(frames) => Some(Warning::Frames {
+            pid: stream.pid,
+            frames,
+        }),
+    }
+}
+
+// Appends the warning about access units that a choice does not keep.
+#[tactic(auto, unfolding(crate::specs::BufferWarnings::frame_warnings_of))]
+fn push_frame_warning(
+    stream: &TimedStream,
+    unit_counts: &UnitCounts,
+    choice: StreamChoice,
+    warnings: &mut Vec<Warning>,
+) -> Result<(), AllocError>
+    ensures { OnOk result (warnings.new.items ≡ warnings.old.items
+        ++ spec.frame_warnings_of (stream.now, (unit_counts.now, choice))) }
+{
+    if let Some(warning) = frame_warning(stream, unit_counts, choice) {
+        warnings.push(warning)?;
+    }
+    Ok(())
+}
+
+// Appends the warnings about access units that no choice keeps.
+fn push_frame_warnings(
+    streams: &[TimedStream],
+    unit_counts: &[UnitCounts],
+    choices: &[StreamChoice],
+    warnings: &mut Vec<Warning>,
+) -> Result<(), AllocError>
+    ensures { OnOk result (warnings.new.items ≡ warnings.old.items
+        ++ spec.frame_warnings streams.now unit_counts.now choices.now) }
+{
+    let mut streams = streams;
+    let mut unit_counts = unit_counts;
+    let mut choices = choices;
+    'streams: while let Some((stream, later_streams)) = streams.split_first() {
+        let Some((count, later_counted)) = unit_counts.split_first() else {
+            return Ok(());
+        };
+        let Some((choice, later_choices)) = choices.split_first() else {
+            return Ok(());
+        };
+        push_frame_warning(stream, count, *choice, warnings)?;
+        streams = later_streams;
+        unit_counts = later_counted;
+        choices = later_choices;
+    }
+    Ok(())
+}
+
 /// Appends the warnings about the buffers of streams: first about the buffers that they say of themselves, then about
-/// multiplexing buffers that nothing keeps.
+/// multiplexing buffers that nothing keeps, then about access units that a main buffer does not hold one by one.
 pub(crate) fn push_buffer_warnings(
     given: &[PidBuffers],
     streams: &[TimedStream],
@@ -162,5 +240,6 @@ pub(crate) fn push_buffer_warnings(
         ++ spec.buffer_warnings given.now streams.now unit_counts.now choices.now) }
 {
     push_header_warnings(given, streams, warnings)?;
-    push_leak_warnings(streams, unit_counts, choices, warnings)
+    push_leak_warnings(streams, unit_counts, choices, warnings)?;
+    push_frame_warnings(streams, unit_counts, choices, warnings)
 }

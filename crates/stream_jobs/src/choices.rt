@@ -7,9 +7,11 @@ ghost use Rattle.stream_jobs.specs.Declarations as spec;
 
 use crate::alike::is_alike;
 use crate::declarations::{StreamChoice, UnitCounts};
+use crate::greater_buffers::buffers_refusal;
 use crate::job_stream::TimedStream;
-use crate::refusal::{JobError, JobRefusal};
+use crate::refusal::JobError;
 use clock27::{LEAST_RATE, SLOT_UNITS_AT_1BPS};
+use es_units::UnitRuns;
 use given_values::DeclareBy;
 use pes_packet::Unit;
 use std::alloc::{AllocError, Global};
@@ -17,7 +19,6 @@ use stream_choice::{
     Choice, Needs, PacedUnits, are_max_packets, choose_groups, choose_pace, delay_before,
     leaking_needs, least_share, preferred,
 };
-use stream_units::UnitRuns;
 use unit_timing::multiplexing_buffer::MultiplexingBuffer;
 use unit_timing::shares::PARTS;
 
@@ -82,9 +83,9 @@ impl PacedUnits for StreamBursts {
     }
 }
 
-// What a stream of these units declares by groups, with this multiplexing buffer.
+/// Returns what a stream of these units declares by groups, with this multiplexing buffer.
 #[tactic(auto, unfolding(crate::specs::Declarations::groups_of))]
-fn groups_of(
+pub(crate) fn groups_of(
     greatest_lead: u32,
     sum: u64,
     buffer: Option<MultiplexingBuffer>,
@@ -103,9 +104,9 @@ fn groups_of(
     choose_groups(needs, max_group_packets, delay, lead)
 }
 
-// What it declares by pace.
+/// Returns what it declares by pace.
 #[tactic(auto, unfolding(crate::specs::Declarations::pace_of))]
-fn pace_of(
+pub(crate) fn pace_of(
     alloc: Global,
     greatest_lead: u32,
     sum: u64,
@@ -304,12 +305,17 @@ fn chosen(
         unit_counts,
     )? {
         Some(choice) => Ok(choice),
-        None => Err(JobError::Refused(JobRefusal::Buffers {
-            pid: stream.pid,
-            size: unit_counts.needs.size,
-            rx: unit_counts.needs.rx,
-            main: unit_counts.needs.main,
-        })),
+        None => {
+            let refusal = buffers_refusal(
+                alloc,
+                declare_by,
+                greatest_lead,
+                sum,
+                stream,
+                unit_counts,
+            )?;
+            Err(JobError::Refused(refusal))
+        }
     }
 }
 

@@ -1,8 +1,8 @@
 //! Whether a description has the programs of a job and declares what the units of its streams need.
 
 ghost use Rattle.std.specs.Prelude.{◌≡◌, ◌==◌, ◌&&◌, IfNone, IfOk, IsTrue};
-ghost use Rattle.stream_units.specs.Declaration.{AllowsUnits};
-ghost use Rattle.stream_units.specs.Laws.{FirstDue};
+ghost use Rattle.es_units.specs.Declaration.{AllowsUnits};
+ghost use Rattle.es_units.specs.Laws.{FirstDue};
 ghost use Rattle.stream_jobs.specs.Jobs.{AgreeInTurn, Agrees, AllAgree, AreInTurn, IsEntry, IsProgram};
 ghost use Rattle.stream_jobs.specs.Jobs as spec;
 ghost use Rattle.stream_jobs.specs.FoundUnits.{Declares};
@@ -12,13 +12,13 @@ use crate::job_programs::JobProgram;
 use crate::job_stream::TimedStream;
 use crate::table_check::first_other_table;
 use description::{Description, ProgramDescription, StreamDescription};
+use es_units::{CountedPackets, UnitRuns, max_unit_size, min_interval};
 use pes_packet::Unit;
 use std::alloc::{AllocError, Global};
-use stream_units::{CountedPackets, UnitRuns, max_unit_size, min_interval};
 use unit_timing::allowance::Allowance;
 
 // Whether the first unit is due no earlier than a moment.
-#[tactic(auto, unfolding(stream_units::specs::Laws::FirstDue, crate::specs::Jobs::first_due))]
+#[tactic(auto, unfolding(es_units::specs::Laws::FirstDue, crate::specs::Jobs::first_due))]
 fn first_due(from: u64, units: &[Unit]) -> bool
     ensures due { IsTrue result → FirstDue from units.now }
     ensures value { result ≡ spec.first_due from units.now }

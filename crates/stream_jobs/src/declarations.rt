@@ -2,7 +2,7 @@
 
 ghost use Rattle.std.specs.Prelude.{◌≡◌, ◌≤◌, map, IfErr, IfNone, IfOk, List, Ok, All};
 ghost use Rattle.pes_packet.specs.AccessUnits.{AccessUnit};
-ghost use Rattle.stream_units.specs.Declaration.{counted_packets, max_unit_size};
+ghost use Rattle.es_units.specs.Declaration.{counted_packets, max_unit_size};
 ghost use Rattle.stream_coding.specs.Frames.{no_frames, all_frames};
 ghost use Rattle.stream_jobs.specs.Answers.{Answers, Refuses};
 ghost use Rattle.stream_jobs.specs.Declarations as spec;
@@ -10,6 +10,7 @@ ghost use Rattle.stream_jobs.specs.Jobs.{FitsQueue};
 
 use crate::job_stream::TimedStream;
 use crate::refusal::{JobError, JobRefusal};
+use es_units::{CountedPackets, max_unit_size, min_interval};
 use pes_packet::{Unit, greatest_size};
 use std::alloc::{AllocError, Global};
 use std::marker::Model;
@@ -18,7 +19,6 @@ use stream_coding::{
     Buffers, Coding, FrameKind, PidBuffers, UnitFrames, buffers_of, coding_holding, coding_of,
     frame_kind, given_buffers, multiplexing_of, unit_frames,
 };
-use stream_units::{CountedPackets, max_unit_size, min_interval};
 use unit_timing::framing::Framing;
 use unit_timing::multiplexing_buffer::MultiplexingBuffer;
 
@@ -92,6 +92,18 @@ fn units_refusal(stream: &TimedStream) -> JobRefusal
     JobRefusal::Units {
         pid: stream.pid,
         count: stream.units.len(),
+    }
+}
+
+/// Returns the refusal of a stream that has more units than a job may have.
+#[tactic(auto, unfolding(crate::specs::Declarations::length_refusal, crate::specs::Declarations::is_too_long))]
+pub(crate) fn units_fault(stream: &TimedStream) -> Option<JobRefusal>
+    ensures { result ≡ spec.length_refusal stream.now }
+{
+    if stream.units.len() > MAX_UNITS {
+        Some(units_refusal(stream))
+    } else {
+        None
     }
 }
 
@@ -267,9 +279,9 @@ fn needs_of(given: &[PidBuffers], stream: &TimedStream) -> Needs
     }
 }
 
-// Counts the units of a stream.
+/// Counts the units of a stream.
 #[tactic(auto, unfolding(crate::specs::Declarations::unit_counts, crate::specs::Answers::unless, crate::specs::Answers::Answers, crate::specs::Answers::Refuses))]
-fn count_stream(
+pub(crate) fn count_stream(
     alloc: Global,
     given: &[PidBuffers],
     stream: &TimedStream,

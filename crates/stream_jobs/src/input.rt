@@ -17,6 +17,7 @@ use crate::job_options::JobOptions;
 use crate::job_programs::JobProgram;
 use crate::job_stream::TimedStream;
 use crate::job_tables::JobTable;
+use crate::program_clock::is_clock_on;
 use crate::refusal::JobError;
 use crate::timed_streams::timed_streams;
 use crate::warning::Warning;
@@ -69,6 +70,15 @@ impl JobInput {
         ensures { result ≡ spec.carries_table self.now pid }
     {
         self.tables.iter().any(|table| table.pid == pid)
+    }
+
+    /// Returns whether the clock of a program that is carried comes on this PID.
+    pub fn has_clock(&self, pid: u16) -> bool
+        ensures { result ≡ spec.has_clock self.now pid }
+    {
+        self.programs
+            .iter()
+            .any(|program| is_clock_on(pid, program.clock))
     }
 }
 
@@ -174,9 +184,9 @@ fn input_of(
 }
 
 /// Returns what a job of these findings is made of; `count` is the number of whole packets of the stream. The streams of
-/// all programs on one clock are moved by one constant. Returns the first refusal that applies: more than half of the
-/// packets are none, no program association table, no program with a map, no PID left; a stream with two stream_ids, or
-/// whose DTS can't be made; no stream, since none can be written or is clear; stamps that are no moments; too many
+/// all programs on one clock are moved by one constant. A stream that a job can't carry is left out, with a warning. Returns
+/// the first refusal that applies: more than half of the packets are none, no program association table, no program with a
+/// map, no PID left; no stream, since none can be written, is clear, or can be carried; stamps that are no moments; too many
 /// programs, streams, or units of a stream; a unit that is too large, and buffers where units can't wait. The bodies of the
 /// units are moved out of the findings.
 #[tactic(auto, using(crate::proofs::ClockConstants::constants_answered, crate::proofs::ClockConstants::distances_answered))]

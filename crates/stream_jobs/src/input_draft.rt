@@ -201,7 +201,7 @@ fn push_service_warnings(
 }
 
 // With the streams of programs that are given PIDs.
-#[tactic(auto, unfolding(crate::specs::JobInput::with_pids, crate::specs::JobInput::job_warnings, crate::specs::JobInput::stream_warnings, crate::specs::Answers::and_then, crate::specs::InputDrafts::Leads, crate::specs::Answers::Refuses), using(crate::proofs::AndThen::then_refuses))]
+#[tactic(auto, unfolding(crate::specs::JobInput::with_pids, crate::specs::JobInput::with_found, crate::specs::JobInput::job_warnings, crate::specs::JobInput::stream_warnings, crate::specs::InputDrafts::Leads, crate::specs::Answers::Refuses))]
 fn with_pids(
     alloc: Global,
     options: &JobOptions<'_>,
@@ -220,9 +220,8 @@ fn with_pids(
     let mut warnings = table_warnings(alloc, options, association, named, findings, &found)?;
     let streams = wire_streams(
         alloc,
-        options.make_dts,
+        options,
         count,
-        options.without,
         found.streams,
         findings,
         &mut warnings,

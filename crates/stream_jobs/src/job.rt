@@ -4,7 +4,7 @@ ghost use Rattle.std.specs.Prelude.{◌≡◌, ◌≤◌, All, Bool, IfErr, IfOk
 ghost use Rattle.std.specs.List.{AllZip};
 ghost use Rattle.demux.specs.Views.{FindingView};
 ghost use Rattle.slot_plan.specs.Conditions.{IsServing};
-ghost use Rattle.unit_order.specs.Merging.{AreMerged};
+ghost use Rattle.es_units.specs.Merging.{AreMerged};
 ghost use Rattle.stream_jobs.specs.Jobs.{AllAgree, AreStreams, AreUnits, FitsQueue, IsDescription, IsJob, IsText, IsUnplanned};
 ghost use Rattle.stream_jobs.specs.JoinedInputs.{AreUnitsIn, IsFoundIn};
 ghost use Rattle.stream_jobs.specs.declared.joined_inputs.Origin.{Origin};
@@ -20,11 +20,11 @@ use crate::job_stream::TimedStream;
 use crate::rates::{PlannedDescription, first_plan, first_rate, plan_draft};
 use crate::refusal::{JobError, JobRefusal};
 use description::Description;
+use es_units::merged;
 use pes_packet::Unit;
 use plan_checker::CheckedPlan;
 use std::alloc::{AllocError, Global};
 use std::collections::VecDeque;
-use unit_order::merged;
 
 /// A job.
 #[derive(Drop)]

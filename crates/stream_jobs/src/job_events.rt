@@ -179,7 +179,7 @@ fn write_event(event: &JobEvent, text: &mut String) -> Result<(), AllocError>
     entry.write_text(text)
 }
 
-/// Returns the lines of all events.
+/// Appends the lines of all events.
 pub(crate) fn write_events(events: &[JobEvent], text: &mut String) -> Result<(), AllocError>
     ensures { OnOk result (string_bytes text.new ≡ string_bytes text.old ++ events_text events.now) }
 {

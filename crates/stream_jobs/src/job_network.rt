@@ -123,7 +123,7 @@ pub(crate) fn network_or(
     }
 }
 
-/// Returns the lines of the network, if there is one.
+/// Appends the lines of the network, if there is one.
 pub(crate) fn write_network(
     network: &Option<JobNetwork>,
     text: &mut String,

@@ -4,9 +4,9 @@ ghost use Rattle.std.specs.Prelude.{◌≡◌};
 ghost use Rattle.stream_jobs.specs.JobStreams as spec;
 
 use crate::job_options::is_among;
+use es_units::{FoundUnit, UnitMoment};
 use pes_packet::Unit;
 use std::marker::Model;
-use stream_units::{FoundUnit, UnitMoment};
 
 /// An elementary stream that has units.
 #[derive(Drop)]

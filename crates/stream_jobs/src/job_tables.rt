@@ -11,11 +11,11 @@ use crate::job_stream::{WireStream, is_stream_of};
 use crate::warning::Warning;
 use crate::wire_streams::is_selected_stream;
 use demux::Finding;
+use es_units::FoundUnit;
 use other_tables::{SteadySections, steady_sections};
 use std::alloc::{AllocError, Global};
 use std::marker::Model;
 use stream_programs::{FoundStream, TableOmission};
-use stream_units::FoundUnit;
 
 /// Sections of a program, on a PID of their own.
 #[derive(Drop)]

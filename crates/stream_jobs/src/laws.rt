@@ -8,7 +8,7 @@ pub fn places_are_apart()
     ensures { PlacesAreApart }
 {}
 
-/// Inputs that are joined have programs of numbers and PIDs of their own, where each of them has.
+/// States that inputs that are joined have programs with numbers and PIDs of their own, if each input alone has.
 pub fn joined_are_apart()
     ensures { JoinedAreApart }
 {}

@@ -3,7 +3,7 @@
 //! `job_input` says what a job takes from a demultiplexer's findings, its warnings, and what it refuses
 //! (`specs/JobInput`). Step by step: the packets (`specs/Packets`), the programs and streams that the options select
 //! (`specs/JobOptions`, `specs/GivenNames`, `specs/JobPrograms`), their private sections (`specs/JobTables`), the information of the transport stream as a
-//! whole (`specs/Information`), the units of the streams with the stamps on the wire (`specs/WireStreams`) and at
+//! whole (`specs/Information`), the units of the streams with the stamps on the wire (`specs/WireStreams`, `specs/OddStreams`) and at
 //! moments of a run (`specs/Moments`, `specs/ProgramClocks`, `specs/ClockBases`), whose bytes are moved out of the findings last
 //! (`specs/InputDrafts`, `specs/TakenStreams`), and their declarations (`specs/Declarations`). `specs/Warnings` has the
 //! warnings. `describe` and `make_job` write the description (`specs/Texts`), find a rate with a plan (`specs/Rates`),
@@ -20,6 +20,7 @@ mod declarations;
 mod description_draft;
 mod earliest;
 mod given_names;
+mod greater_buffers;
 mod information;
 mod input;
 mod input_draft;
@@ -36,6 +37,7 @@ mod moved_streams;
 mod named_service;
 mod new_numbers;
 mod nothing_carried;
+mod odd_streams;
 mod option_warnings;
 mod packets;
 mod program_clock;
@@ -55,5 +57,5 @@ pub use job_options::JobOptions;
 pub use joined_inputs::{InputNote, JoinedInputs, NoteCause, Origin, join_inputs};
 pub use laws::{joined_are_apart, places_are_apart};
 pub use new_numbers::NewNumber;
-pub use refusal::{JobError, JobRefusal};
+pub use refusal::{GreaterBuffers, JobError, JobRefusal};
 pub use warning::{PacketWarning, ProgramWarning, Warning};

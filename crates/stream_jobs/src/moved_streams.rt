@@ -13,10 +13,10 @@ use crate::program_clock::{ProgramClock, is_same_clock};
 use crate::refusal::{JobError, JobRefusal};
 use clock27::STAMP_MODULUS;
 use demux::Finding;
-use std::alloc::{AllocError, Global};
-use stream_units::{
+use es_units::{
     DtsError, StampError, StampFault, constant, found_moments, found_units, units_with_made_dts,
 };
+use std::alloc::{AllocError, Global};
 
 /// The first DTS of a stream, as on the wire, and the clock by which it counts.
 #[derive(Clone, Copy)]
@@ -127,9 +127,9 @@ fn is_mended(alloc: Global, pid: u16, findings: &[Finding<'_>]) -> Result<bool, 
     }
 }
 
-// The refusal of a stream: the stamps of this unit can't be moments.
+/// Returns the refusal of a stream: the stamps of this unit can't be moments.
 #[tactic(auto, unfolding(crate::specs::Moments::stamps_refusal))]
-fn stamps_refusal(
+pub(crate) fn stamps_refusal(
     alloc: Global,
     pid: u16,
     index: usize,

@@ -19,6 +19,7 @@ fn why_nothing(warning: Warning) -> Option<JobRefusal>
             id,
             ..
         } => Some(JobRefusal::StreamId { packet, pid, id }),
+        Warning::LeftOut { why, .. } => Some(why),
         Warning::Units { warning, .. } => {
             if warning.cause.is_scrambled() {
                 Some(JobRefusal::Scrambled)
@@ -42,7 +43,7 @@ fn first_why(warnings: &[Warning]) -> Option<JobRefusal>
     None
 }
 
-/// The refusal of a transport stream of which no stream is carried, since none can be written or is clear.
+/// The refusal of a transport stream of which no stream is carried, since none can be written, is clear, or fits a job.
 #[tactic(auto, unfolding(crate::specs::JobInput::nothing_carried))]
 pub(crate) fn nothing_carried(
     warnings: &[Warning],

@@ -38,3 +38,14 @@ pub(crate) fn is_same_clock(one: ProgramClock, other: ProgramClock) -> bool
         _ => false,
     }
 }
+
+/// Returns whether the references of a clock are on this PID.
+#[tactic(auto, unfolding(crate::specs::ProgramClocks::is_clock_on))]
+pub(crate) fn is_clock_on(pid: u16, clock: ProgramClock) -> bool
+    ensures { result ≡ spec.is_clock_on pid clock }
+{
+    match clock {
+        ProgramClock::References(other) => other == pid,
+        ProgramClock::Own(_) => false,
+    }
+}

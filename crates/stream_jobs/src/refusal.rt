@@ -4,10 +4,18 @@ ghost use Rattle.std.specs.Prelude.{◌≡◌};
 ghost use Rattle.stream_jobs.specs.declared.refusal.JobError.TheVariants.{Memory, Refused};
 
 use description::DescFault;
+use es_units::{DtsFault, StampFault};
 use std::alloc::{AllocError, AllocFailed};
-use stream_units::{DtsFault, StampFault};
 
-/// Why a transport stream is refused: then nothing is written.
+/// Buffers that `--buffers` can give a stream: the rate out of its transport buffer in bits a second, and its main buffer
+/// in bytes.
+#[derive(Clone, Copy, PartialEq, Eq)]
+pub struct GreaterBuffers {
+    pub rx: u32,
+    pub main: u32,
+}
+
+/// Why a transport stream is refused: then nothing is written; or why a stream of it is left out.
 #[derive(Clone, Copy, PartialEq, Eq)]
 pub enum JobRefusal {
     /// More than half of its packets of 188 bytes are no packets.
@@ -60,12 +68,14 @@ pub enum JobRefusal {
         pid: u16,
         size: usize,
     },
-    /// No lead lets units of up to `size` bytes into these buffers, by groups or by pace.
+    /// No lead lets units of up to `size` bytes into these buffers, by groups or by pace; `way_out` has buffers that would
+    /// take them, if any that are tried do.
     Buffers {
         pid: u16,
         size: u32,
         rx: u32,
         main: u32,
+        way_out: Option<GreaterBuffers>,
     },
     /// There is no PID left for the clock references or the program map table of a program.
     Pids,

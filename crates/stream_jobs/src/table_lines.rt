@@ -79,7 +79,7 @@ fn write_table(
     entry.write_text(alloc, text)
 }
 
-/// Returns the lines of all tables.
+/// Appends the lines of all tables.
 pub(crate) fn write_tables(
     alloc: Global,
     streams: &[TimedStream],

@@ -4,14 +4,14 @@ ghost use Rattle.std.specs.Prelude.{◌≡◌, IfOk, map};
 ghost use Rattle.demux.specs.Shown.{finding_view};
 ghost use Rattle.stream_jobs.specs.InputDrafts as spec;
 ghost use Rattle.stream_jobs.specs.TakenStreams.{StayCarried};
-ghost use Rattle.stream_units.specs.CarriedUnits.{carried_units};
+ghost use Rattle.es_units.specs.CarriedUnits.{carried_units};
 
 use crate::job_options::is_among;
 use crate::job_stream::{StreamMoments, TimedStream};
 use demux::Finding;
+use es_units::{WireUnit, carried_units, taken_units, units_at};
 use std::alloc::{AllocError, Global};
 use std::collections::VecDeque;
-use stream_units::{WireUnit, carried_units, taken_units, units_at};
 
 // The units of a PID: moved out of the findings, or copied where a later stream is of it too.
 #[tactic(auto, using(crate::proofs::TakenStreams::stay_same, crate::proofs::TakenStreams::stay_taken))]

@@ -3,9 +3,10 @@
 ghost use Rattle.std.specs.Prelude.{◌≡◌};
 ghost use Rattle.stream_jobs.specs.Warnings as spec;
 
+use crate::refusal::JobRefusal;
+use es_units::UnitWarning;
 use service_information::InformationWarning;
 use stream_programs::{MapPart, TableOmission};
-use stream_units::UnitWarning;
 
 /// A warning about a packet, or about the section that ends in it.
 #[derive(Clone, Copy)]
@@ -107,6 +108,17 @@ pub enum Warning {
         rate: u64,
         leak: u32,
     },
+    /// The stream of this PID is left out: with it there would be no job, for this reason.
+    LeftOut {
+        pid: u16,
+        why: JobRefusal,
+    },
+    /// The units of a stream have up to this number of access units, which its main buffer does not hold one by one: a unit
+    /// leaves it whole.
+    Frames {
+        pid: u16,
+        frames: u8,
+    },
 }
 
 impl PacketWarning {
@@ -156,6 +168,8 @@ impl Warning {
             Warning::MapMoved { .. } => false,
             Warning::HeaderBuffer { .. } => false,
             Warning::Leak { .. } => false,
+            Warning::LeftOut { .. } => true,
+            Warning::Frames { .. } => false,
         }
     }
 }

@@ -10,13 +10,13 @@ ghost use Rattle.stream_jobs.specs.declared.warning.Warning.TheVariants.{Table, 
 use crate::job_stream::WireStream;
 use crate::warning::{PacketWarning, Warning};
 use demux::{Finding, What};
+use es_units::{UnitWarning, unit_warnings};
 use psi_tables::Program;
 use std::alloc::{AllocError, Global};
 use stream_programs::{
     Association, MapPart, TableOmission, association_change, found_programs, map_change,
     mapped_pids, pes_counts, stray_pids,
 };
-use stream_units::{UnitWarning, unit_warnings};
 
 // The warning about a finding on no PID.
 #[tactic(auto, unfolding(crate::specs::Warnings::packet_warning, crate::specs::Warnings::packet_warning_of))]

@@ -2,24 +2,24 @@
 
 ghost use Rattle.std.specs.Prelude.{◌≡◌, ◌++◌, IfOk, IfErr, OnOk, Ok, All, flat_map, map, option_to_list};
 ghost use Rattle.demux.specs.Shown.{finding_view};
-ghost use Rattle.stream_jobs.specs.Answers.{Answers, Refuses, and_then};
+ghost use Rattle.stream_jobs.specs.Answers.{Answers, Refuses};
 ghost use Rattle.stream_jobs.specs.Jobs.{IsCarried};
+ghost use Rattle.stream_jobs.specs.OddStreams.{odd_stream};
 ghost use Rattle.stream_jobs.specs.WireStreams as spec;
 ghost use Rattle.stream_jobs.specs.JobOptions.{is_selected_stream};
-ghost use Rattle.stream_units.specs.CarriedUnits.{carried_units};
+ghost use Rattle.es_units.specs.CarriedUnits.{carried_units};
 
-use crate::job_options::is_among;
+use crate::job_options::{JobOptions, is_among};
 use crate::job_stream::WireStream;
+use crate::odd_streams::odd_stream;
 use crate::refusal::{JobError, JobRefusal};
 use crate::warning::Warning;
 use crate::warnings::push_pid_warnings;
 use demux::Finding;
+use es_units::{DtsError, FoundUnit, first_other, found_units, units_with_made_dts, written_id};
 use std::alloc::{AllocError, Global};
 use stream_coding::is_ac3;
 use stream_programs::FoundStream;
-use stream_units::{
-    DtsError, FoundUnit, first_other, found_units, units_with_made_dts, written_id,
-};
 
 // The refusal of the first unit of another stream_id.
 #[tactic(auto, unfolding(crate::specs::WireStreams::other_id_refusal))]
@@ -176,52 +176,103 @@ fn push_empty_stream_warnings(
     }
 }
 
+// Appends the warning about a stream that is left out for a reason.
+#[tactic(auto, unfolding(crate::specs::WireStreams::left_out_for))]
+fn push_left_out(
+    pid: u16,
+    why: Option<JobRefusal>,
+    warnings: &mut Vec<Warning>,
+) -> Result<(), AllocError>
+    ensures { OnOk result (warnings.new.items ≡ warnings.old.items ++ spec.left_out_for pid why) }
+{
+    let Some(why) = why else {
+        return Ok(());
+    };
+    warnings.push(Warning::LeftOut { pid, why })?;
+    Ok(())
+}
+
+// Appends a stream, unless it is left out for this reason.
+#[tactic(auto, unfolding(crate::specs::WireStreams::unless_odd))]
+fn push_unless<'f>(
+    odd: Option<JobRefusal>,
+    stream: WireStream<'f>,
+    streams: &mut Vec<WireStream<'f>>,
+) -> Result<(), AllocError>
+    ensures { OnOk result (streams.new.items ≡ streams.old.items ++ option_to_list (spec.unless_odd odd stream.entry)) }
+{
+    if odd.is_none() {
+        streams.push(stream)?;
+    }
+    Ok(())
+}
+
+// Appends a stream, if a job can carry it, else the warning about it.
+fn push_unless_odd<'f>(
+    alloc: Global,
+    options: &JobOptions<'_>,
+    pid: u16,
+    stream: WireStream<'f>,
+    findings: &[Finding<'_>],
+    streams: &mut Vec<WireStream<'f>>,
+    warnings: &mut Vec<Warning>,
+) -> Result<(), AllocError>
+    ensures streams { OnOk result (streams.new.items ≡ streams.old.items ++ option_to_list
+        (spec.unless_odd (odd_stream options.now (map finding_view findings.now) stream.entry) stream.entry)) }
+    ensures warnings { OnOk result (warnings.new.items ≡ warnings.old.items
+        ++ spec.left_out_for pid (odd_stream options.now (map finding_view findings.now) stream.entry)) }
+{
+    let odd = odd_stream(alloc, options, &stream, findings)?;
+    push_left_out(pid, odd, warnings)?;
+    push_unless(odd, stream, streams)
+}
+
 // Appends a stream with its units, if it can be carried, else the warnings about it.
-#[tactic(auto, unfolding(crate::specs::WireStreams::stream_if_any, crate::specs::WireStreams::empty_stream_warnings, crate::specs::Answers::and_then, crate::specs::Answers::Answers, crate::specs::Answers::Refuses))]
+#[tactic(auto, unfolding(crate::specs::WireStreams::carried_stream, crate::specs::WireStreams::kept_stream, crate::specs::WireStreams::left_out_warnings, crate::specs::WireStreams::warnings_by, crate::specs::Answers::Answers, crate::specs::Answers::Refuses))]
 fn push_stream<'f>(
     alloc: Global,
-    make_dts: bool,
+    options: &JobOptions<'_>,
     count: u64,
     stream: FoundStream,
     findings: &'f [Finding<'_>],
     streams: &mut Vec<WireStream<'f>>,
     warnings: &mut Vec<Warning>,
-) -> Result<(), JobError>
-    ensures streams { OnOk result (and_then (λ one. Ok (streams.old.items ++ option_to_list one))
-        (spec.stream_if_any make_dts (map finding_view findings.now) stream) ≡ Ok streams.new.items) }
-    ensures refused { IfErr result (Refuses (spec.stream_if_any make_dts (map finding_view findings.now) stream)) }
+) -> Result<(), AllocError>
+    ensures streams { OnOk result (streams.new.items ≡ streams.old.items
+        ++ spec.carried_stream options.now (map finding_view findings.now) stream) }
     ensures warnings { OnOk result (warnings.new.items ≡ warnings.old.items
-        ++ spec.empty_stream_warnings count (map finding_view findings.now) stream) }
+        ++ spec.left_out_warnings options.now count (map finding_view findings.now) stream) }
 {
     let (program, pid) = (stream.program, stream.pid);
-    match stream_if_any(alloc, make_dts, stream, findings)? {
-        Some(stream) => streams.push(stream)?,
-        None => push_empty_stream_warnings(alloc, count, program, pid, findings, warnings)?,
+    match stream_if_any(alloc, options.make_dts, stream, findings) {
+        Ok(Some(stream)) => {
+            push_unless_odd(alloc, options, pid, stream, findings, streams, warnings)
+        }
+        Ok(None) => push_empty_stream_warnings(alloc, count, program, pid, findings, warnings),
+        Err(JobError::Refused(why)) => push_left_out(pid, Some(why), warnings),
+        Err(JobError::Memory) => Err(AllocError),
     }
-    Ok(())
 }
 
 // The streams that can be carried, each with its units, and the warnings about the others.
 fn carried_streams<'f>(
     alloc: Global,
-    make_dts: bool,
+    options: &JobOptions<'_>,
     count: u64,
     selected: Vec<FoundStream>,
     findings: &'f [Finding<'_>],
     warnings: &mut Vec<Warning>,
-) -> Result<Vec<WireStream<'f>>, JobError>
-    ensures streams { IfOk result (λ streams. spec.carried_streams make_dts (map finding_view findings.now)
-        selected.items ≡ Ok streams.items) }
-    ensures refused { IfErr result (Refuses (spec.carried_streams make_dts (map finding_view findings.now)
-        selected.items)) }
+) -> Result<Vec<WireStream<'f>>, AllocError>
+    ensures streams { IfOk result (λ streams. streams.items
+        ≡ spec.carried_streams options.now (map finding_view findings.now) selected.items) }
     ensures warnings { OnOk result (warnings.new.items ≡ warnings.old.items
-        ++ flat_map (spec.empty_stream_warnings count (map finding_view findings.now)) selected.items) }
+        ++ flat_map (spec.left_out_warnings options.now count (map finding_view findings.now)) selected.items) }
 {
     let mut streams = Vec::new(alloc);
     for stream in selected {
         push_stream(
             alloc,
-            make_dts,
+            options,
             count,
             stream,
             findings,
@@ -241,32 +292,24 @@ fn selected(without: &[u16], found: Vec<FoundStream>) -> Vec<FoundStream>
     selected
 }
 
-/// Returns the selected streams that have units and a stream_id that can be written, each with its units, and the
-/// warnings about the others.
+/// Returns the selected streams that have units and a stream_id that can be written, and that a job can carry, each with
+/// its units, and the warnings about the others.
 #[tactic(auto, using(crate::proofs::CarriedStreams::all_carried))]
 pub(crate) fn wire_streams<'f>(
     alloc: Global,
-    make_dts: bool,
+    options: &JobOptions<'_>,
     count: u64,
-    without: &[u16],
     found: Vec<FoundStream>,
     findings: &'f [Finding<'_>],
     warnings: &mut Vec<Warning>,
-) -> Result<Vec<WireStream<'f>>, JobError>
-    ensures streams { IfOk result (λ streams. spec.wire_streams make_dts without.now (map finding_view findings.now)
-        found.items ≡ Ok streams.items) }
-    ensures refused { IfErr result (Refuses (spec.wire_streams make_dts without.now (map finding_view findings.now)
-        found.items)) }
+) -> Result<Vec<WireStream<'f>>, AllocError>
+    ensures streams { IfOk result (λ streams. streams.items
+        ≡ spec.wire_streams options.now (map finding_view findings.now) found.items) }
     ensures warnings { OnOk result (warnings.new.items ≡ warnings.old.items
-        ++ spec.all_empty_stream_warnings count without.now (map finding_view findings.now) found.items) }
-    ensures carried { IfOk result (λ streams. All (IsCarried make_dts (map finding_view findings.now)) streams.items) }
+        ++ spec.all_left_out_warnings options.now count (map finding_view findings.now) found.items) }
+    ensures carried { IfOk result (λ streams. All (IsCarried options.now.make_dts (map finding_view findings.now))
+        streams.items) }
 {
-    carried_streams(
-        alloc,
-        make_dts,
-        count,
-        selected(without, found),
-        findings,
-        warnings,
-    )
+    let selected = selected(options.without, found);
+    carried_streams(alloc, options, count, selected, findings, warnings)
 }

@@ -49,7 +49,7 @@ impl<A: Allocator> ProgramList<A> {
         number == 0 || self.numbers[number as usize]
     }
 
-    /// Returns the next entry of a table.
+    /// Adds the next entry of a table.
     #[tactic(auto, unfolding(crate::specs::Association::with_program))]
     pub fn add(&mut self, program: Program) -> Result<(), AllocError>
         ensures { OnOk result (self.new ≡ with_program self.old program) }

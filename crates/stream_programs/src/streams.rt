@@ -123,7 +123,7 @@ pub(crate) fn has_stream_of<A: Allocator>(streams: &[FoundStream<A>], number: u1
     streams.iter().any(|stream| stream.is_stream_of(number))
 }
 
-/// Returns a program shares the stream of a PID.
+/// Adds a program to those that share the stream of a PID.
 pub(crate) fn share<A: Allocator>(
     number: u16,
     pid: u16,

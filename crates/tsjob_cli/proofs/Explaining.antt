@@ -8,7 +8,7 @@ use Rattle.devices.specs.WholeInput.{ReadsInput}
 use Rattle.devices.specs.declared.halt.Halt.TheVariants as halt
 use Rattle.devices.proofs.Performances.{no_room, performed, unwritten}
 use Rattle.tsjob_cli.specs.Explaining.{ExplainLeads}
-use Rattle.job_outcomes.specs.Outcomes.{IsWritten}
+use Rattle.job_run.specs.Outcomes.{IsWritten}
 
 pub outcome_written : (bytes : List ℕ) (o : Outcome) (input output faults : Device) (status : ℕ) → ReadsInput input (Ok bytes) → ExplainLeads bytes o →
     IsWritten o output faults status → Performs ExplainLeads input output faults status

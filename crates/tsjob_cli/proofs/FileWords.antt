@@ -11,8 +11,8 @@ use Rattle.devices.specs.Files.{Files}
 use Rattle.devices.specs.Lines.{Reports}
 use Rattle.devices.specs.Outcomes.{halt_line}
 use Rattle.devices.specs.declared.halt.Halt.TheVariants as halt
-use Rattle.job_outcomes.specs.JobArguments.{JobArgumentsView}
-use Rattle.job_outcomes.specs.StreamFiles.{PerformsFiles}
+use Rattle.job_run.specs.JobArguments.{JobArgumentsView}
+use Rattle.job_run.specs.StreamFiles.{PerformsFiles}
 use Rattle.tsjob_cli.specs.FileMark.{is_mark}
 use Rattle.tsjob_cli.specs.NamedInputs.{ReadsFiles}
 

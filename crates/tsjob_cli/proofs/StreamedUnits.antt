@@ -7,7 +7,7 @@ use Rattle.clap.specs.Words.{Text}
 use Rattle.checked_jobs.specs.Jobs.{described}
 use Rattle.description.specs.Described.{Described, DescribedStream}
 use Rattle.description.specs.declared.fault.DescError.TheVariants as refused_by
-use Rattle.unit_feed.specs.Feeding.{FedStreamView}
+use Rattle.es_feed.specs.Feeding.{FedStreamView}
 use Rattle.devices.specs.Devices.{Device, HasFailed, IsUntouched, Port}
 use Rattle.devices.specs.Files.{Files, IsOpened}
 use Rattle.devices.specs.Lines.{Reports, line_text}
@@ -20,8 +20,8 @@ use Rattle.devices.specs.declared.halt.Halt.TheVariants as halt
 use Rattle.devices.proofs.NamedReaders.{is_unread}
 use Rattle.devices.specs.Runs.{Performs}
 use Rattle.description.specs.Ranges.{IsInRange}
-use Rattle.job_outcomes.specs.JobArguments.{JobArgumentsView}
-use Rattle.job_outcomes.specs.Outcomes.{Leads}
+use Rattle.job_run.specs.JobArguments.{JobArgumentsView}
+use Rattle.job_run.specs.Outcomes.{Leads}
 use Rattle.tsjob_cli.specs.StreamedUnits.{IsDescriptionIn, IsNamedDescription, StreamsUnits, fed_stream, none_outcome, refused_line, streams_from}
 use Rattle.tsjob_cli.specs.declared.streaming.NoDescription.{NoDescription}
 use Rattle.tsjob_cli.specs.declared.streaming.NoDescription.TheVariants.{Unopened, Stopped, Refused}

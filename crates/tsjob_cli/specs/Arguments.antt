@@ -7,9 +7,9 @@ use Rattle.given_values.specs.declared.clock_base.ClockBase.{ClockBase}
 use Rattle.given_values.specs.declared.declare_by.DeclareBy.{DeclareBy}
 use Rattle.stream_coding.specs.declared.buffers.PidBuffers.{PidBuffers}
 use Rattle.devices.specs.Options.{is_given}
-use Rattle.job_outcomes.specs.declared.job_arguments.Subcommand.{Subcommand}
-use Rattle.job_outcomes.specs.declared.job_arguments.Subcommand.TheVariants.{Whole, Describe, Units, Why}
-use Rattle.job_outcomes.specs.JobArguments.{JobArgumentsView}
+use Rattle.job_run.specs.declared.job_arguments.Subcommand.{Subcommand}
+use Rattle.job_run.specs.declared.job_arguments.Subcommand.TheVariants.{Whole, Describe, Units, Why}
+use Rattle.job_run.specs.JobArguments.{JobArgumentsView}
 use Rattle.option_lists.specs.JobValues.{base_of, declare_by_of, start_of}
 use Rattle.option_lists.specs.Lists.{buffer_list, given}
 use Rattle.option_lists.specs.NameLists.{name_list, network_if_given}

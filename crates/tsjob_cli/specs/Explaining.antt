@@ -3,7 +3,7 @@ use Rattle.std.specs.Prelude.{◌≡◌, ℕ, ◌==◌, Bool, false, List, [], �
 use Rattle.std.specs.Str.{bytes_eq}
 use Rattle.clap.specs.Words.{Text}
 use Rattle.devices.specs.Outcomes.{Outcome, printed}
-use Rattle.explained_jobs.specs.Explained.{explained}
+use Rattle.diagnosis.specs.Explained.{explained}
 
 -- the word alone
 unfoldable pub is_explain : List Text → Bool

@@ -2,7 +2,7 @@
 use Rattle.std.specs.Prelude.{◌==◌, List, length, Option, Some, None, if◌then◌else◌, is_some}
 use Rattle.std.specs.List.{after_first, before_first}
 use Rattle.clap.specs.Words.{Text}
-use Rattle.job_outcomes.specs.JobArguments.{JobArgumentsView}
+use Rattle.job_run.specs.JobArguments.{JobArgumentsView}
 use Rattle.tsjob_cli.specs.Arguments.{arguments_in}
 use Rattle.tsjob_cli.specs.FileMark.{is_mark}
 

@@ -5,8 +5,8 @@ use Rattle.word_faults.specs.KnownWords.{known_but}
 use Rattle.word_faults.specs.OptionRows.{OptionRow, constant_view}
 use Rattle.word_faults.specs.OptionUsage.{usage_by}
 use Rattle.word_faults.specs.WordFaults.{word_beside}
-use Rattle.job_outcomes.specs.declared.job_arguments.Subcommand.{Subcommand}
-use Rattle.job_outcomes.specs.declared.job_arguments.Subcommand.TheVariants.{Units}
+use Rattle.job_run.specs.declared.job_arguments.Subcommand.{Subcommand}
+use Rattle.job_run.specs.declared.job_arguments.Subcommand.TheVariants.{Units}
 use Rattle.tsjob_cli.specs.FileMark.{has_mark}
 use Rattle.tsjob_cli.specs.Subcommands.{subcommand_of}
 use Rattle.tsjob_cli.specs.declared.options.TheConstants.{OPTIONS}

@@ -2,10 +2,10 @@
 use Rattle.std.specs.Prelude.{◌≡◌, ◌⊎◌, ℕ, ◌+◌, List, [], ◌∷◌, map, Some, None, Result, Ok, Err, codes, ⊤}
 use Rattle.description.specs.Described.{Described, DescribedProgram, DescribedStream}
 use Rattle.description.specs.declared.fault.DescError.TheVariants as refused_by
-pub use Rattle.unit_feed.specs.EachStream.{fed_stream}
-use Rattle.unit_feed.specs.Feeding.{FeedView, FedStreamView, feed_first}
-use Rattle.unit_feed.specs.declared.fed_map.FedMap.{FedMap}
-use Rattle.unit_output.specs.Passing.{RunsStream}
+pub use Rattle.es_feed.specs.EachStream.{fed_stream}
+use Rattle.es_feed.specs.Feeding.{FeedView, FedStreamView, feed_first}
+use Rattle.es_feed.specs.declared.fed_map.FedMap.{FedMap}
+use Rattle.es_feed.specs.Passing.{RunsStream}
 use Rattle.checked_jobs.specs.Jobs.{described}
 use Rattle.description.specs.Codes.{fault_code, fault_item}
 use Rattle.description.specs.declared.fault.DescFault.{DescFault}

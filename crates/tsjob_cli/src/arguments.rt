@@ -12,7 +12,7 @@ use crate::options::OPTIONS;
 use clap::ArgMatches;
 use devices::{is_given, text_of};
 use given_values::NetworkName;
-use job_outcomes::{JobArguments, Subcommand};
+use job_run::{JobArguments, Subcommand};
 use option_lists::{base_of, buffer_list, declare_by_of, name_list, network_in, start_of};
 use std::alloc::{AllocError, Global};
 use word_faults::{given_options, number_if, number_of, numbers_of};

@@ -7,8 +7,8 @@ ghost use Rattle.tsjob_cli.specs.Explaining as spec;
 
 use counted_io::{Sink, Source};
 use devices::{Halt, read_whole, report_halt};
-use explained_jobs::explain;
-use job_outcomes::{JobOutcome, only_text, write_outcome};
+use diagnosis::explain;
+use job_run::{JobOutcome, only_text, write_outcome};
 use std::alloc::{AllocError, Global};
 
 /// Returns whether the words are `explain` alone.

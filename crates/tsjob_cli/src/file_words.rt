@@ -5,7 +5,7 @@ ghost use Rattle.tsjob_cli.specs.FileWords as spec;
 
 use crate::arguments::read_arguments;
 use crate::file_mark::mark_place;
-use job_outcomes::JobArguments;
+use job_run::JobArguments;
 use std::alloc::{AllocError, Global};
 
 /// The names of files.

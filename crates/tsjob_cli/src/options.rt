@@ -5,7 +5,7 @@ ghost use Rattle.word_faults.specs.KnownWords.{known_of};
 
 use crate::arguments::subcommand_of;
 use crate::file_mark::has_mark;
-use job_outcomes::Subcommand;
+use job_run::Subcommand;
 use option_lists::Scale;
 use word_faults::{KnownWords, OptionRow, ValueKind, word_beside};
 

@@ -10,9 +10,8 @@ use checked_jobs::read_description;
 use counted_io::{Sink, Source};
 use description::{DescError, DescFault, Description, ProgramDescription, StreamDescription};
 use devices::{Halt, NamedFiles, read_whole, report_halt, report_line};
+use es_feed::{FedMap, FedStream, UnitFeed, pass_stream};
 use std::alloc::{AllocError, Global};
-use unit_feed::{FedMap, FedStream, UnitFeed};
-use unit_output::pass_stream;
 
 /// When the first unit of all is due, in units of 90 kHz.
 const EARLIEST: u64 = 270_000;

@@ -2,8 +2,8 @@ use Rattle.std.proofs.Common.{◌≡◌, ◌-◌, ◌^◌, ◌∙◌, ℕ, List,
 use Rattle.std.proofs.Math.Path.{fun_ext}
 use Rattle.stream_choice.specs.Paces.{pace_choice}
 use Rattle.pes_packet.specs.AccessUnits.{AccessUnit}
-use Rattle.stream_units.specs.UnitRuns.{UnitRunsView, unit_runs}
-use Rattle.stream_units.proofs.RunLevels.{same_burst}
+use Rattle.es_units.specs.UnitRuns.{UnitRunsView, unit_runs}
+use Rattle.es_units.proofs.RunLevels.{same_burst}
 use Rattle.stream_jobs.specs.Declarations.{burst_of, burst_of_runs, pace_of}
 use Rattle.stream_jobs.proofs.choices.pace_of.Goals as goal
 

@@ -1,4 +1,4 @@
-use Rattle.std.proofs.Common.{map, ◌≡◌, ◌++◌, ◌∙◌, ap, ap₂, List, Ok, rules}
+use Rattle.std.proofs.Common.{map, ◌≡◌, ◌++◌, ◌∙◌, ap, ap₂, List, rules}
 use Rattle.std.specs.Prelude.{flat_map}
 use Rattle.demux.specs.Shown.{finding_view}
 use Rattle.stream_jobs.specs.InputDrafts.{Leads, finished}
@@ -9,7 +9,7 @@ use Rattle.stream_jobs.specs.JobOptions.{JobOptionsView}
 use Rattle.stream_jobs.specs.JobPrograms.{JobProgramView, job_programs, all_program_warnings}
 use Rattle.stream_jobs.specs.JobInput.{service_warnings, with_streams}
 use Rattle.stream_jobs.specs.Warnings.{pid_warnings}
-use Rattle.stream_jobs.specs.WireStreams.{wire_streams, all_empty_stream_warnings}
+use Rattle.stream_jobs.specs.WireStreams.{wire_streams, all_left_out_warnings}
 use Rattle.stream_jobs.specs.JobTables.{job_tables, told}
 use Rattle.stream_jobs.specs.JobStreams.{WireStreamView}
 use Rattle.stream_jobs.proofs.JobInputs.{all_warnings, in_pids}
@@ -20,8 +20,8 @@ returns-clause-value c =
     let options = c.args.options.now in
     let findings = map finding_view c.args.findings.now in
     let streams = c.in_ok-streams.streams.items in
-    let are : wire_streams options.make_dts options.without findings c.args.found.streams ≡ Ok streams = search rules in
-    let empties : c.wire_streams.new.warnings.items ≡ c.in_ok-warnings.warnings.items ++ all_empty_stream_warnings c.args.count options.without findings c.args.found.streams = search rules in
+    let are : wire_streams options findings c.args.found.streams ≡ streams = search rules in
+    let empties : c.wire_streams.new.warnings.items ≡ c.in_ok-warnings.warnings.items ++ all_left_out_warnings options c.args.count findings c.args.found.streams = search rules in
     let programs : c.job_programs.new.warnings.items ≡ c.wire_streams.new.warnings.items ++ all_program_warnings streams c.args.found.programs c.args.assigned.items = search rules in
     let pids : c.push_stream_warnings.new.warnings.items ≡ c.job_programs.new.warnings.items ++ flat_map (λ s. pid_warnings c.args.count findings s.pid) streams =
     c.in_ok-push_stream_warnings.ensures ∙ ap (λ (all : List WireStreamView). c.job_programs.new.warnings.items ++ flat_map (λ s. pid_warnings c.args.count findings s.pid) all) c.deref-2.ensures.value in

@@ -1,8 +1,8 @@
 use Rattle.std.proofs.Common.{◌≡◌, ◌∙◌, List, None, ap, subst, map}
 use Rattle.demux.specs.Shown.{finding_view}
-use Rattle.stream_units.specs.CarriedUnits.{CarriedUnit}
-use Rattle.stream_units.specs.Stamps.{first_fault, moved}
-use Rattle.stream_units.specs.UnitMoments.{moment_of}
+use Rattle.es_units.specs.CarriedUnits.{CarriedUnit}
+use Rattle.es_units.specs.Stamps.{first_fault, moved}
+use Rattle.es_units.specs.UnitMoments.{moment_of}
 use Rattle.stream_jobs.specs.declared.program_clock.ProgramClock.{ProgramClock}
 use Rattle.stream_jobs.specs.InputDrafts.{Leads}
 use Rattle.stream_jobs.specs.JobPrograms.{clock_in}

@@ -1,0 +1,9 @@
+pub mod ItemNames
+pub mod ReasonLines
+pub mod ConditionLines
+pub mod KeyPlaces
+pub mod KeyWords
+pub mod KeyTables
+pub mod EqualKeys
+pub mod FaultLines
+pub mod Explained

@@ -1,0 +1,99 @@
+//! The explanation of a description, or of a description and a plan for it.
+
+ghost use Rattle.std.specs.Prelude.{◌≡◌, ◌++◌, IfOk, OnOk, Ok, map, option_map, string_bytes};
+ghost use Rattle.checked_jobs.specs.Jobs.{described, planned};
+ghost use Rattle.diagnosis.specs.Explained as spec;
+
+use crate::conditions::write_conditions;
+use crate::fault_lines::write_fault;
+use crate::key_places::lines_of;
+use crate::reasons::write_reasons;
+use checked_jobs::{parts_of, read_description};
+use description::{DescError, Description};
+use slot_plan::{Plan, PlanTextError};
+use std::alloc::{AllocError, Global};
+use std::fmt::Write;
+use std::str;
+
+// The lines of a text; bytes that are no UTF-8 have none.
+fn text_lines(alloc: Global, bytes: &[u8]) -> Result<Vec<&str>, AllocError>
+    ensures { IfOk result (λ lines. map (λ s. s.now) lines.items ≡ spec.text_lines bytes.entry.now) }
+{
+    match str::from_utf8(bytes) {
+        Ok(text) => lines_of(alloc, text),
+        Err(_) => Ok(Vec::new(alloc)),
+    }
+}
+
+// Appends the number of a line that is none of a plan's text.
+fn write_bad_line(line: u32, text: &mut String) -> Result<(), AllocError>
+    ensures { OnOk result (string_bytes text.new ≡ string_bytes text.old ++ spec.bad_line_words line) }
+{
+    write!(text, "line {line} of the plan is not as a plan has it\n")
+}
+
+// Appends what is said of a plan.
+#[tactic(auto, unfolding(crate::specs::Explained::plan_words))]
+fn write_plan(
+    alloc: Global,
+    description: Description,
+    plan: &[u8],
+    text: &mut String,
+) -> Result<(), AllocError>
+    ensures { OnOk result (string_bytes text.new
+        ≡ string_bytes text.old ++ spec.plan_words description (planned plan.now)) }
+{
+    match Plan::read_text(alloc, plan) {
+        Ok((plan, _)) => write_conditions(alloc, &description, &plan, text),
+        Err(PlanTextError::Line(line)) => write_bad_line(line, text),
+        Err(PlanTextError::Memory) => Err(AllocError),
+    }
+}
+
+// Appends what is said of a description, and of a plan where there is one.
+#[tactic(auto, unfolding(crate::specs::Explained::with_description))]
+fn write_description(
+    alloc: Global,
+    description: Description,
+    plan: Option<&[u8]>,
+    text: &mut String,
+) -> Result<(), AllocError>
+    ensures { OnOk result (string_bytes text.new
+        ≡ string_bytes text.old ++ spec.with_description (option_map (λ s. s.now) plan.entry) description) }
+{
+    match plan {
+        None => write_reasons(alloc, &description, text),
+        Some(plan) => write_plan(alloc, description, plan, text),
+    }
+}
+
+// Appends what is said of the bytes of a description, and of a plan.
+#[tactic(auto, unfolding(crate::specs::Explained::description_words))]
+fn write_parts(
+    alloc: Global,
+    bytes: &[u8],
+    plan: Option<&[u8]>,
+    text: &mut String,
+) -> Result<(), AllocError>
+    ensures { OnOk result (string_bytes text.new ≡ string_bytes text.old
+        ++ spec.description_words bytes.now (option_map (λ s. s.now) plan.entry) (described bytes.now)) }
+{
+    match read_description(alloc, bytes) {
+        Ok(description) => write_description(alloc, description, plan, text),
+        Err(DescError::Refused(fault)) => write_fault(&text_lines(alloc, bytes)?, fault, text),
+        Err(DescError::Memory) => Err(AllocError),
+    }
+}
+
+/// Returns the faults of a description, or of a plan after it, in words; an empty text if none is known.
+#[tactic(auto, unfolding(crate::specs::Explained::parts_words))]
+pub fn explain(alloc: Global, bytes: &[u8]) -> Result<String, AllocError>
+    ensures { IfOk result (λ text. string_bytes text ≡ spec.explained bytes.now) }
+{
+    let mut text = String::new(alloc);
+    match parts_of(bytes) {
+        None => write_parts(alloc, bytes, None, &mut text)?,
+        Some((description, plan)) => write_parts(alloc, description, Some(plan), &mut text)?,
+    }
+    Ok(text)
+}

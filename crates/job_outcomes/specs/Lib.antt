@@ -1,5 +1,0 @@
-pub mod JobArguments
-pub mod Streams
-pub mod Outcomes
-pub mod SeveralInputs
-pub mod StreamFiles

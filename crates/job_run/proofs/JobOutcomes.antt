@@ -1,0 +1,209 @@
+-- What is written of an answer, and what the input that was read leads to.
+use Rattle.std.proofs.Common.{◌≡◌, ◌∙◌, ◌++◌, ◌∷◌, ◌/◌, ◌==◌, ◌&&◌, ℕ, suc, Bool, true, false, List, [], length, refl, sym, ap, subst, append-nil, Option, Some, None, Result, Ok, Err, IfOk, IsUtf8, All, inl, inr, arith}
+use Rattle.std.specs.List.{AllZip}
+use Rattle.std.proofs.lemmas.Bool.Decides.{nat_tests}
+use Rattle.pes_packet.specs.AccessUnits.{AccessUnit}
+use Rattle.pes_packet.specs.declared.marks.Marks.{Marks}
+use Rattle.description.specs.Described.{Described}
+use Rattle.slot_plan.specs.Conditions.{IsServing}
+use Rattle.slot_plan.specs.Planned.{Planned, plan_error}
+use Rattle.slot_plan.specs.Text.{plan_text}
+use Rattle.stream_jobs.specs.Answers.{Answers, Refuses}
+use Rattle.stream_jobs.specs.Jobs.{AllAgree, AreStreams, AreUnits, FitsQueue, IsDescription, IsJob}
+use Rattle.stream_jobs.specs.JoinedInputs.{AreStreamsIn, AreUnitsIn, IsFoundIn, JoinedInputsView}
+use Rattle.stream_jobs.specs.JobInput.{JobInputView, job_input}
+use Rattle.stream_jobs.specs.WhyNoJob.{IsWhyNoDescription, IsWhyNoReasons}
+use Rattle.stream_jobs.specs.JobOptions.{JobOptionsView}
+use Rattle.stream_jobs.specs.declared.refusal.JobError.{JobError}
+use Rattle.stream_jobs.specs.declared.refusal.JobError.TheVariants.{Memory, Refused}
+use Rattle.stream_jobs.specs.declared.refusal.JobRefusal.{JobRefusal}
+use Rattle.demux.specs.Views.{FindingView}
+use Rattle.devices.specs.Devices.{Device, IsUntouched}
+use Rattle.devices.specs.Outcomes.{halt_line, Outcome, reported}
+use Rattle.devices.specs.Lines.{Reports}
+use Rattle.devices.specs.Runs.{Performs}
+use Rattle.devices.specs.WholeInput.{IsReadAs}
+use Rattle.devices.specs.declared.halt.Halt.TheVariants as halt
+use Rattle.devices.proofs.Performances.{no_room, performed, unwritten}
+use Rattle.job_run.specs.declared.job_arguments.Subcommand.{Subcommand}
+use Rattle.job_run.specs.declared.job_arguments.Subcommand.TheVariants.{Whole, Describe, Units, Why}
+use Rattle.job_run.specs.JobArguments.{JobArgumentsView}
+use Rattle.packet_sync.specs.OtherPackets.{other_packets}
+use Rattle.packet_sync.specs.Slips.{carried}
+use Rattle.packet_sync.specs.declared.packet_sizes.OtherPackets.{OtherPackets}
+use Rattle.job_run.specs.SlipLines.{packets_line}
+use Rattle.job_run.specs.Outcomes.{BytesLead, FindingsLead, Gives, GivesJob, GivesReasons, GivesUnits, IsFound, IsTold, IsWritten, Leads, InputLeads, ReportsWhy, Withholds, found_line}
+use Rattle.std.specs.Int.{bytes_high_first}
+use Rattle.unit_records.specs.Records.{record_head, word_of}
+use Rattle.es_feed.specs.Records.{records_of, written}
+use Rattle.job_run.specs.SeveralInputs.{GivesJobIn}
+use Rattle.job_run.specs.Streams.{IsOfStream, IsRead, PacketNotesView, ReadingView, findings_of}
+
+-- 1. What a subcommand gives
+
+-- a text without a plan and without units
+pub text_alone : (text plan : List ℕ) (units : List (ℕ × AccessUnit)) → plan ≡ [] → units ≡ [] → written text plan units ≡ text
+text_alone text plan units p u =
+    ap (λ (x : List ℕ). written text x units) p ∙ (ap (λ (x : List (ℕ × AccessUnit)). written text [] x) u ∙ (append-nil (text ++ []) ∙ append-nil text))
+
+-- a list with an element is not empty
+suc_is_not : (n : ℕ) → (suc n == 0) ≡ false
+suc_is_not n = grind (arith, nat_tests)
+
+cons_is_not : {A : Type 0} (x : A) (xs : List A) → (length (x ∷ xs) == 0) ≡ false
+cons_is_not x xs = suc_is_not (length xs)
+
+record_is_not : (stream size : ℕ) (marks : Marks) (dts pts : ℕ) (unit more : List ℕ) → (length ((record_head stream marks size dts pts ++ unit) ++ more) == 0) ≡ false
+unfolding record_head
+record_is_not stream size marks dts pts unit more =
+    cons_is_not stream (((bytes_high_first 4 (word_of marks size) ++ (bytes_high_first 8 dts ++ bytes_high_first 8 pts)) ++ unit) ++ more)
+
+-- nothing is written where there is no text, no plan and no unit
+pub nothing_written : (text plan : List ℕ) (units : List (ℕ × AccessUnit)) → ((length text == 0) && ((length plan == 0) && (length units == 0))) ≡ (length (written text plan units) == 0)
+nothing_written [] [] [] = refl
+nothing_written [] [] (u ∷ units) = cons_is_not u units ∙ sym (record_is_not u.0 (length u.1.bytes) u.1.marks u.1.dts u.1.pts u.1.bytes (records_of units))
+nothing_written [] (p ∷ plan) units = rw (cons_is_not p plan) (sym (cons_is_not p (plan ++ records_of units)))
+nothing_written (t ∷ text) plan units = rw (cons_is_not t text) (sym (cons_is_not t ((text ++ plan) ++ records_of units)))
+
+pub given_job : (w : JobOptionsView) (findings : List FindingView) (m : JobInputView) (text plan : List ℕ) (d : Described) (p q : Planned) (units : List (ℕ × AccessUnit)) →
+    IsJob w m d text units → AreUnits w.make_dts findings d units → AllAgree d m → IsServing d p → IsUtf8 text → plan_error q.slots q.certificate ≡ None → plan ≡ plan_text q → q ≡ p →
+    GivesJob w findings m (written text plan units)
+given_job w findings m text plan d p q units j u a s utf8 within e f = record {
+  description = d;
+  text = text;
+  plan = p;
+  units = units;
+  job = j;
+  found = u;
+  agree = a;
+  serving = s;
+  utf8 = utf8;
+  within = subst (λ (x : Planned). plan_error x.slots x.certificate ≡ None) f within;
+  is = ap (λ (x : List ℕ). written text x units) (e ∙ ap plan_text f);
+}
+
+-- the same of joined inputs
+pub given_job_in : (w : JobOptionsView) (inputs : List (List FindingView)) (j : JoinedInputsView) (m : JobInputView) (text plan : List ℕ) (d : Described) (p q : Planned) (units : List (ℕ × AccessUnit)) →
+    j.input ≡ m → IsJob w m d text units → AreUnitsIn w.make_dts inputs j.origins d units → AllAgree d m → IsServing d p → IsUtf8 text → plan_error q.slots q.certificate ≡ None → plan ≡ plan_text q → q ≡ p →
+    GivesJobIn w inputs j (written text plan units)
+given_job_in w inputs j m text plan d p q units same job u a s utf8 within e f = record {
+  description = d;
+  text = text;
+  plan = p;
+  units = units;
+  job = subst (λ (x : JobInputView). IsJob w x d text units) (sym same) job;
+  found = u;
+  agree = subst (λ (x : JobInputView). AllAgree d x) (sym same) a;
+  serving = s;
+  utf8 = utf8;
+  within = subst (λ (x : Planned). plan_error x.slots x.certificate ≡ None) f within;
+  is = ap (λ (x : List ℕ). written text x units) (e ∙ ap plan_text f);
+}
+
+-- their streams are those of the input
+pub found_in_input : (made : Bool) (inputs : List (List FindingView)) (j : JoinedInputsView) (m : JobInputView) → j.input ≡ m → AreStreamsIn made inputs j →
+    AllZip (IsFoundIn made inputs) j.origins m.streams × All FitsQueue m.streams
+found_in_input made inputs j m same streams =
+    (subst (λ (x : JobInputView). AllZip (IsFoundIn made inputs) j.origins x.streams) same streams.found, subst (λ (x : JobInputView). All FitsQueue x.streams) same streams.fits)
+
+-- what is so of an input is so of the joined inputs that it is
+pub described_in : (w : JobOptionsView) (j : JoinedInputsView) (m : JobInputView) (output : List ℕ) → j.input ≡ m → IsDescription w m output → IsDescription w j.input output
+described_in w j m output same is = subst (λ (x : JobInputView). IsDescription w x output) (sym same) is
+
+pub units_given_in : (j : JoinedInputsView) (m : JobInputView) (output : List ℕ) → j.input ≡ m → GivesUnits m output → GivesUnits j.input output
+units_given_in j m output same is = subst (λ (x : JobInputView). GivesUnits x output) (sym same) is
+
+pub reasons_given_in : (w : JobOptionsView) (j : JoinedInputsView) (m : JobInputView) (output : List ℕ) → j.input ≡ m → GivesReasons w m output → GivesReasons w j.input output
+reasons_given_in w j m output same is = subst (λ (x : JobInputView). GivesReasons w x output) (sym same) is
+
+-- a whole job is given, where it is asked for
+pub whole_given : (subcommand : Subcommand) (w v : JobOptionsView) (findings : List FindingView) (m : JobInputView) (r : Result (List ℕ) JobError) → subcommand ≡ Whole → w ≡ v →
+    ((all : List FindingView) → AreStreams w.make_dts all m → IfOk r (λ p. GivesJob w all m p)) → AreStreams v.make_dts findings m → IfOk r (λ p. Gives subcommand v findings m p)
+whole_given subcommand w v findings m r is same given streams =
+    subst (λ (x : Subcommand). IfOk r (λ p. Gives x v findings m p)) (sym is)
+    (subst (λ (x : JobOptionsView). IfOk r (λ p. GivesJob x findings m p)) same (given findings (subst (λ (x : JobOptionsView). AreStreams x.make_dts findings m) (sym same) streams)))
+
+-- four texts, one after another
+pub four_texts : (a b c d first second third fourth : List ℕ) → a ≡ first → b ≡ a ++ second → c ≡ b ++ third → d ≡ c ++ fourth → d ≡ first ++ second ++ third ++ fourth
+four_texts a b c d first second third fourth e f h k =
+    k ∙ ap (λ (x : List ℕ). x ++ fourth) (h ∙ ap (λ (x : List ℕ). x ++ third) (f ∙ ap (λ (x : List ℕ). x ++ second) e))
+
+-- reasons, and what is found by trying rates
+pub told_nothing : (w : JobOptionsView) (m : JobInputView) (lines output : List ℕ) → (length lines == 0) ≡ true → output ≡ lines →
+    IsTold (length lines == 0) w m lines output
+told_nothing w m lines output e h = subst (λ (b : Bool). IsTold b w m lines output) (sym e) h
+
+pub told_found : (w : JobOptionsView) (m : JobInputView) (lines output : List ℕ) (found : Option ℕ) → (length lines == 0) ≡ false →
+    IsFound w m found → output ≡ lines ++ found_line found → IsTold (length lines == 0) w m lines output
+told_found w m lines output found e f h =
+    subst (λ (b : Bool). IsTold b w m lines output) (sym e) (record { found = found; tried = f; is = h })
+
+-- 2. What a job input leads to
+
+undescribed : (rate : Option ℕ) (w : JobOptionsView) (m : JobInputView) → IsWhyNoDescription rate w m Memory
+undescribed (Some arguments) w m = refl
+undescribed None w m = tt
+
+unreasoned : (rate : Option ℕ) (w : JobOptionsView) (m : JobInputView) → IsWhyNoReasons rate w m Memory
+unreasoned (Some arguments) w m = tt
+unreasoned None w m = tt
+
+-- there is no memory for what a subcommand gives
+pub no_memory : (subcommand : Subcommand) (w : JobOptionsView) (m : JobInputView) (error : JobError) → error ≡ Memory → Withholds subcommand w m error
+no_memory Whole w m error e = subst (λ (x : JobError). Withholds Whole w m x) (sym e) tt
+no_memory Describe w m error e = subst (λ (x : JobError). Withholds Describe w m x) (sym e) (undescribed w.rate w m)
+no_memory Units w m error e = e
+no_memory Why w m error e = subst (λ (x : JobError). Withholds Why w m x) (sym e) (unreasoned w.rate w m)
+
+pub withheld : (arguments : JobArgumentsView) (notes : PacketNotesView) (findings : List FindingView) (m : JobInputView) (error : JobError) (o : Outcome) →
+    Withholds arguments.subcommand arguments.options m error → ReportsWhy error o → InputLeads arguments notes findings (Ok m) o
+withheld arguments notes findings m Memory o h t = absurd t
+withheld arguments notes findings m (Refused refusal) o h t = inr (record { refusal = refusal; holds = h; is = t })
+
+-- there is a job input
+answered : (r : Result JobInputView JobRefusal) (m : JobInputView) → Answers r (Ok m) → r ≡ Ok m
+unfolding Answers
+answered r m a = a
+
+pub with_input : (arguments : JobArgumentsView) (notes : PacketNotesView) (count : ℕ) (findings : List FindingView) (m : JobInputView) (o : Outcome) →
+    Answers (job_input arguments.options count findings) (Ok m) → InputLeads arguments notes findings (Ok m) o → FindingsLead arguments notes count findings o
+with_input arguments notes count findings m o a l =
+    subst (λ (r : Result JobInputView JobRefusal). InputLeads arguments notes findings r o) (sym (answered (job_input arguments.options count findings) m a)) l
+
+-- there is none
+refused : (arguments : JobArgumentsView) (notes : PacketNotesView) (findings : List FindingView) (r : Result JobInputView JobRefusal) (error : JobError) (o : Outcome) →
+    Answers r (Err error) → ReportsWhy error o → InputLeads arguments notes findings r o
+unfolding Answers Refuses
+refused arguments notes findings r Memory o a t = absurd t
+refused arguments notes findings r (Refused refusal) o a t = subst (λ (r : Result JobInputView JobRefusal). InputLeads arguments notes findings r o) (sym a) t
+
+pub without_input : (arguments : JobArgumentsView) (notes : PacketNotesView) (count : ℕ) (findings : List FindingView) (error : JobError) (o : Outcome) →
+    Answers (job_input arguments.options count findings) (Err error) → ReportsWhy error o → FindingsLead arguments notes count findings o
+without_input arguments notes count findings error o a t = refused arguments notes findings (job_input arguments.options count findings) error o a t
+
+-- 3. What was read leads to it
+
+-- a stream that was read
+pub carried_lead : (arguments : JobArgumentsView) (bytes : List ℕ) (notes : PacketNotesView) (size : ℕ) (findings found : List FindingView) (o : Outcome) →
+    IsOfStream bytes notes found size → findings ≡ found → FindingsLead arguments notes (size / 188) findings o → BytesLead arguments bytes None o
+carried_lead arguments bytes notes size findings found o t f l =
+    subst (λ (x : PacketNotesView). FindingsLead arguments x (length (carried bytes) / 188) (findings_of (carried bytes)) o) t.notes_are
+    (subst (λ (x : List FindingView). FindingsLead arguments notes (length (carried bytes) / 188) x o) (f ∙ t.found_is)
+    (subst (λ (n : ℕ). FindingsLead arguments notes (n / 188) findings o) t.size_is l))
+
+pub none_lead : (arguments : JobArgumentsView) (bytes : List ℕ) (o : Outcome) → None ≡ other_packets bytes → BytesLead arguments bytes None o → Leads arguments bytes o
+none_lead arguments bytes o e l = subst (λ (x : Option OtherPackets). BytesLead arguments bytes x o) e l
+
+pub other_lead : (arguments : JobArgumentsView) (bytes : List ℕ) (packets : OtherPackets) (o : Outcome) → Some packets ≡ other_packets bytes → o ≡ reported (packets_line packets) → Leads arguments bytes o
+other_lead arguments bytes packets o e l = subst (λ (x : Option OtherPackets). BytesLead arguments bytes x o) e l
+
+pub outcome_written : (arguments : JobArgumentsView) (r : ReadingView) (o : Outcome) (input output faults : Device) (status : ℕ) → IsReadAs input (λ bytes. IsRead bytes r) →
+    ((bytes : List ℕ) → IsRead bytes r → Leads arguments bytes o) → IsWritten o output faults status → Performs (Leads arguments) input output faults status
+outcome_written arguments r o input output faults status s l (inl w) =
+    performed (Leads arguments) s.bytes o input output faults status s.read (l s.bytes s.is) w.0 w.1 w.2 w.3
+outcome_written arguments r o input output faults status s l (inr w) =
+    unwritten (Leads arguments) s.bytes o input output faults status s.read (l s.bytes s.is) w.0 w.1 w.2 w.3
+
+pub no_memory_left : (arguments : JobArgumentsView) (r : ReadingView) (input output faults : Device) (status : ℕ) →
+    IsReadAs input (λ bytes. IsRead bytes r) → IsUntouched output → Reports faults (halt_line halt.Memory) → status ≡ 3 → Performs (Leads arguments) input output faults status
+no_memory_left arguments r input output faults status s u m e = no_room (Leads arguments) s.bytes input output faults status s.read u m e

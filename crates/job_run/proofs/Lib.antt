@@ -1,0 +1,5 @@
+pub mod WarningLines
+pub mod Carrying
+pub mod JobOutcomes
+pub mod Fronts
+mod StreamFiles

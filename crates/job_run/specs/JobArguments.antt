@@ -1,0 +1,11 @@
+-- What is asked for of a stream.
+use Rattle.std.specs.Prelude.{ℕ, Bool, List, Option}
+use Rattle.stream_jobs.specs.JobOptions.{JobOptionsView}
+use Rattle.job_run.specs.declared.job_arguments.Subcommand.{Subcommand}
+
+-- what is written, the file of a description for a stream that comes, whether the input is said to be whole, and the options of the job
+pub record JobArgumentsView : Type 0 where
+  pub subcommand : Subcommand
+  pub stream : Option (List ℕ)
+  pub whole : Bool
+  pub options : JobOptionsView

@@ -1,0 +1,183 @@
+-- The outcome for a transport stream.
+use Rattle.std.specs.Prelude.{◌≡◌, ◌⊎◌, ℕ, ◌/◌, ◌==◌, ◌||◌, not, Bool, true, false, List, ◌++◌, length, map, codes, decimal, if◌then◌else◌, Option, Some, None, Result, Ok, Err}
+use Rattle.std.specs.List.{list_any}
+use Rattle.std.specs.Str.{IsUtf8}
+use Rattle.pes_packet.specs.AccessUnits.{AccessUnit}
+use Rattle.demux.specs.Views.{FindingView}
+use Rattle.description.specs.Described.{Described}
+use Rattle.diagnosis.specs.ReasonLines.{reason_lines}
+use Rattle.slot_plan.specs.Conditions.{IsServing}
+use Rattle.slot_plan.specs.Planned.{Planned, plan_error}
+use Rattle.slot_plan.specs.Text.{plan_text}
+use Rattle.es_units.specs.Merging.{AreMerged}
+use Rattle.stream_jobs.specs.Jobs.{AllAgree, AreUnits, IsDescription, IsJob, IsUnplanned}
+use Rattle.stream_jobs.specs.JobInput.{JobInputView, job_input}
+use Rattle.other_tables.specs.OtherTables.{other_tables}
+use Rattle.other_tables.specs.TableKinds.{is_loss}
+use Rattle.other_tables.specs.declared.tables.OtherTable.{OtherTable}
+use Rattle.packet_sync.specs.Fields.{is_loss as is_field_loss}
+use Rattle.packet_sync.specs.OtherPackets.{other_packets}
+use Rattle.packet_sync.specs.Slips.{carried}
+use Rattle.packet_sync.specs.declared.left_out.FieldLeftOut.{FieldLeftOut}
+use Rattle.packet_sync.specs.declared.packet_sizes.OtherPackets.{OtherPackets}
+use Rattle.packet_sync.specs.declared.slip.Slip.{Slip}
+use Rattle.stream_jobs.specs.Warnings.{are_damaged}
+use Rattle.stream_jobs.specs.declared.warning.Warning.{Warning}
+use Rattle.stream_jobs.specs.WhyNoJob.{IsWhyNoDescription, IsWhyNoJob, IsWhyNoPlan, IsWhyNoReasons}
+use Rattle.stream_jobs.specs.Rates.{IsServed, IsTried}
+use Rattle.stream_jobs.specs.JobOptions.{JobOptionsView}
+use Rattle.stream_jobs.specs.declared.refusal.JobError.{JobError}
+use Rattle.stream_jobs.specs.declared.refusal.JobError.TheVariants.{Memory, Refused}
+use Rattle.stream_jobs.specs.declared.refusal.JobRefusal.{JobRefusal}
+use Rattle.devices.specs.Devices.{Device, HasFailed, IsClean, Takes}
+use Rattle.devices.specs.Outcomes.{halt_line, Outcome, reported}
+use Rattle.devices.specs.Lines.{Reports, Stopped}
+use Rattle.devices.specs.declared.halt.Halt.TheVariants.{Write}
+use Rattle.job_run.specs.declared.job_arguments.Subcommand.{Subcommand}
+use Rattle.job_run.specs.declared.job_arguments.Subcommand.TheVariants.{Whole, Describe, Units, Why}
+use Rattle.job_run.specs.JobArguments.{JobArgumentsView}
+use Rattle.job_run.specs.FieldLines.{field_lines, told_fields}
+use Rattle.es_feed.specs.Records.{records_of, written}
+use Rattle.job_run.specs.RefusalLine.{refusal_line}
+use Rattle.job_run.specs.SlipLines.{packets_line, slip_lines}
+use Rattle.job_run.specs.Streams.{PacketNotesView, findings_of, notes_of}
+use Rattle.job_run.specs.TableLines.{other_table_lines, told_tables}
+use Rattle.job_run.specs.WarningLines.{told_warnings, warning_lines}
+
+-- 1. What is written
+
+-- a job: the text of its description, in UTF-8, which has the programs and streams of the input; that of a plan that serves it,
+-- whose numbers are a plan's; and the records of its units, which are the units of the stream, with their DTS or with DTS made from
+-- the PTS
+pub record GivesJob (w : JobOptionsView) (findings : List FindingView) (m : JobInputView) (output : List ℕ) : Type 0 where
+  pub description : Described
+  pub text : List ℕ
+  pub plan : Planned
+  pub units : List (ℕ × AccessUnit)
+  pub job : IsJob w m description text units
+  pub found : AreUnits w.make_dts findings description units
+  pub agree : AllAgree description m
+  pub serving : IsServing description plan
+  pub utf8 : IsUtf8 text
+  pub within : plan_error plan.slots plan.certificate ≡ None
+  pub is : output ≡ written text (plan_text plan) units
+
+-- the records of the units of all streams by their DTS
+pub record GivesUnits (m : JobInputView) (output : List ℕ) : Type 0 where
+  pub units : List (ℕ × AccessUnit)
+  pub merged : AreMerged (map (λ s. s.units) m.streams) units
+  pub is : output ≡ records_of units
+
+-- the line of the first rate at which a plan is found, of those that are tried
+unfoldable pub found_line : Option ℕ → List ℕ
+found_line (Some rate) = codes "rate " ++ decimal rate ++ codes " has a plan, the first found\n"
+found_line None = codes "no rate that was tried has a plan\n"
+
+-- no plan is found, or rates cannot be tried
+pub record IsNotFound (w : JobOptionsView) (m : JobInputView) : Type 0 where
+  pub refusal : JobRefusal
+  pub why : IsWhyNoPlan None w m (Refused refusal)
+
+-- what is found by trying rates, whatever rate is asked for
+abbrev pub IsFound : JobOptionsView → JobInputView → Option ℕ → Type 0
+IsFound w m (Some rate) = IsTried w m rate × IsServed w m rate
+IsFound w m None = IsNotFound w m
+
+-- a line for what is found stands after those for reasons
+pub record IsFoundAfter (w : JobOptionsView) (m : JobInputView) (lines output : List ℕ) : Type 0 where
+  pub found : Option ℕ
+  pub tried : IsFound w m found
+  pub is : output ≡ lines ++ found_line found
+
+-- nothing is tried where there are none
+abbrev pub IsTold : Bool → JobOptionsView → JobInputView → List ℕ → List ℕ → Type 0
+IsTold true w m lines output = output ≡ lines
+IsTold false w m lines output = IsFoundAfter w m lines output
+
+-- a line for each reason why no plan serves the description
+pub record GivesReasons (w : JobOptionsView) (m : JobInputView) (output : List ℕ) : Type 0 where
+  pub description : Described
+  pub unplanned : IsUnplanned w m description
+  pub told : IsTold (length (reason_lines description) == 0) w m (reason_lines description) output
+
+-- the output of a subcommand
+abbrev pub Gives : Subcommand → JobOptionsView → List FindingView → JobInputView → List ℕ → Type 0
+Gives Whole w findings m output = GivesJob w findings m output
+Gives Describe w findings m output = IsDescription w m output
+Gives Units w findings m output = GivesUnits m output
+Gives Why w findings m output = GivesReasons w m output
+
+-- why a subcommand has no output; for units, only out of memory
+abbrev pub Withholds : Subcommand → JobOptionsView → JobInputView → JobError → Type 0
+Withholds Whole w m error = IsWhyNoJob w m error
+Withholds Describe w m error = IsWhyNoDescription w.rate w m error
+Withholds Units w m error = error ≡ Memory
+Withholds Why w m error = IsWhyNoReasons w.rate w m error
+
+-- 2. The outcome for a stream
+
+-- there are slips, fields or tables that a viewer misses, or one of the warnings says that something is lost
+abbrev pub is_less : List Slip → List FieldLeftOut → List OtherTable → List Warning → Bool
+is_less slips fields tables warnings =
+    not (length slips == 0) || list_any (λ f. is_field_loss f.field) fields || list_any (λ t. is_loss t.kind) tables || are_damaged warnings
+
+-- a line for each slip, for each field of a PID that is not written again, for each PID with tables that are not carried, and
+-- for each warning that is told
+abbrev pub loss_lines : List Slip → List FieldLeftOut → List OtherTable → List Warning → List ℕ
+loss_lines slips fields tables warnings = slip_lines slips ++ field_lines fields ++ other_table_lines tables ++ warning_lines warnings
+
+-- the same of a stream of which a job takes this
+abbrev pub told_lines : Bool → PacketNotesView → List FindingView → JobInputView → List ℕ
+told_lines whole notes findings m = loss_lines notes.slips (told_fields m notes.fields) (told_tables m (other_tables findings)) (told_warnings whole m.warnings)
+
+abbrev pub is_told_less : Bool → PacketNotesView → List FindingView → JobInputView → Bool
+is_told_less whole notes findings m = is_less notes.slips (told_fields m notes.fields) (told_tables m (other_tables findings)) (told_warnings whole m.warnings)
+
+-- the status 1: of reasons where there is one, else where something is lost
+abbrev pub status_of : Subcommand → List ℕ → Bool → ℕ
+status_of Whole output less = if less then 1 else 0
+status_of Describe output less = if less then 1 else 0
+status_of Units output less = if less then 1 else 0
+status_of Why output less = if length output == 0 then 0 else 1
+
+-- the output, the lines of what is left out, and the status
+pub record IsGiven (arguments : JobArgumentsView) (notes : PacketNotesView) (findings : List FindingView) (m : JobInputView) (o : Outcome) : Type 0 where
+  pub gives : Gives arguments.subcommand arguments.options findings m o.output
+  pub report_is : o.report ≡ told_lines arguments.whole notes findings m
+  pub status_is : o.status ≡ status_of arguments.subcommand o.output (is_told_less arguments.whole notes findings m)
+
+-- nothing is written but the line of the refusal, and the status is 1
+pub record IsRefused (arguments : JobArgumentsView) (m : JobInputView) (o : Outcome) : Type 0 where
+  pub refusal : JobRefusal
+  pub holds : Withholds arguments.subcommand arguments.options m (Refused refusal)
+  pub is : o ≡ reported (refusal_line refusal)
+
+-- for the job input of a stream, or for a stream that is refused
+abbrev pub InputLeads : JobArgumentsView → PacketNotesView → List FindingView → Result JobInputView JobRefusal → Outcome → Type 0
+InputLeads arguments notes findings (Ok m) o = IsGiven arguments notes findings m o ⊎ IsRefused arguments m o
+InputLeads arguments notes findings (Err refusal) o = o ≡ reported (refusal_line refusal)
+
+-- for the findings in a stream of `count` whole packets
+abbrev pub FindingsLead : JobArgumentsView → PacketNotesView → ℕ → List FindingView → Outcome → Type 0
+FindingsLead arguments notes count findings o = InputLeads arguments notes findings (job_input arguments.options count findings) o
+
+-- for the bytes of a stream that are in no slip; a stream of packets of another size is refused
+abbrev pub BytesLead : JobArgumentsView → List ℕ → Option OtherPackets → Outcome → Type 0
+BytesLead arguments bytes (Some packets) o = o ≡ reported (packets_line packets)
+BytesLead arguments bytes None o = FindingsLead arguments (notes_of bytes) (length (carried bytes) / 188) (findings_of (carried bytes)) o
+
+abbrev pub Leads : JobArgumentsView → List ℕ → Outcome → Type 0
+Leads arguments bytes o = BytesLead arguments bytes (other_packets bytes) o
+
+-- the line of the refusal, unless the error is out of memory
+abbrev pub ReportsWhy : JobError → Outcome → Type 0
+ReportsWhy Memory o = ⊥
+ReportsWhy (Refused refusal) o = o ≡ reported (refusal_line refusal)
+
+-- 3. How it is written
+
+-- whole, and then the report; or the writer failed, and that is reported
+abbrev pub IsWritten : Outcome → Device → Device → ℕ → Type 0
+IsWritten o output faults status =
+    (Takes output o.output × IsClean output × Reports faults o.report × (status ≡ o.status))
+    ⊎ (Stopped o.output output × HasFailed output × Reports faults (halt_line Write) × (status ≡ 3))

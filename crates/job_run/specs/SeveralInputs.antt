@@ -1,0 +1,147 @@
+-- The outcome for several transport streams as one job, each in a file of its own.
+use Rattle.std.specs.Prelude.{◌≡◌, ◌⊎◌, ℕ, ◌+◌, ◌/◌, ◌==◌, ◌||◌, Bool, false, List, [], ◌∷◌, ◌++◌, length, map, if◌then◌else◌, Option, Some, None, Result, Ok, Err}
+use Rattle.std.specs.Str.{IsUtf8}
+use Rattle.pes_packet.specs.AccessUnits.{AccessUnit}
+use Rattle.demux.specs.Views.{FindingView}
+use Rattle.description.specs.Described.{Described}
+use Rattle.slot_plan.specs.Conditions.{IsServing}
+use Rattle.slot_plan.specs.Planned.{Planned, plan_error}
+use Rattle.slot_plan.specs.Text.{plan_text}
+use Rattle.packet_sync.specs.OtherPackets.{other_packets}
+use Rattle.packet_sync.specs.Slips.{carried}
+use Rattle.packet_sync.specs.declared.packet_sizes.OtherPackets.{OtherPackets}
+use Rattle.stream_jobs.specs.Jobs.{AllAgree, IsDescription, IsJob}
+use Rattle.stream_jobs.specs.JobInput.{JobInputView, job_input}
+use Rattle.stream_jobs.specs.JobOptions.{JobOptionsView}
+use Rattle.stream_jobs.specs.JoinedInputs.{AreUnitsIn, JoinedInputsView, joined_inputs}
+use Rattle.stream_jobs.specs.declared.refusal.JobError.TheVariants.{Refused}
+use Rattle.stream_jobs.specs.declared.refusal.JobRefusal.{JobRefusal}
+use Rattle.stream_jobs.specs.declared.refusal.JobRefusal.TheVariants.{NoStream}
+use Rattle.devices.specs.Outcomes.{Outcome, reported}
+use Rattle.job_run.specs.InputLines.{are_lost, input_line, note_lines}
+use Rattle.job_run.specs.RefusalLine.{refusal_line}
+use Rattle.job_run.specs.SlipLines.{packets_line}
+use Rattle.es_feed.specs.Records.{written}
+use Rattle.job_run.specs.declared.job_arguments.Subcommand.{Subcommand}
+use Rattle.job_run.specs.declared.job_arguments.Subcommand.TheVariants.{Whole, Describe, Units, Why}
+use Rattle.job_run.specs.JobArguments.{JobArgumentsView}
+use Rattle.job_run.specs.Outcomes.{GivesReasons, GivesUnits, Withholds, is_told_less, status_of, told_lines}
+use Rattle.job_run.specs.Streams.{findings_of, notes_of}
+
+-- a stream: the name of its file, and its bytes
+pub record NamedStream : Type 0 where
+  pub name : List ℕ
+  pub bytes : List ℕ
+
+abbrev pub names_of : List NamedStream → List (List ℕ)
+names_of streams = map (λ s. s.name) streams
+
+-- what is found in each
+abbrev pub all_findings : List NamedStream → List (List FindingView)
+all_findings streams = map (λ s. findings_of (carried s.bytes)) streams
+
+-- 1. What a job takes of each, by the options as they stand; or the line that says why it takes nothing
+
+unfoldable pub input_or_line : Result JobInputView JobRefusal → Result JobInputView (List ℕ)
+input_or_line (Ok m) = Ok m
+input_or_line (Err refusal) = Err (refusal_line refusal)
+
+unfoldable pub packets_input : JobOptionsView → List ℕ → Option OtherPackets → Result JobInputView (List ℕ)
+packets_input options bytes (Some packets) = Err (packets_line packets)
+packets_input options bytes None = input_or_line (job_input options (length (carried bytes) / 188) (findings_of (carried bytes)))
+
+abbrev pub stream_input : JobOptionsView → List ℕ → Result JobInputView (List ℕ)
+stream_input options bytes = packets_input options bytes (other_packets bytes)
+
+-- one more before those that are given; a line stands under the number and the name of its input
+unfoldable pub with_first : ℕ → List ℕ → Result JobInputView (List ℕ) → Result (List JobInputView) (List ℕ) → Result (List JobInputView) (List ℕ)
+with_first number name (Err line) rest = Err (input_line number name ++ line)
+with_first number name (Ok m) (Err lines) = Err lines
+with_first number name (Ok m) (Ok ms) = Ok (m ∷ ms)
+
+-- of all, numbered from `number` on; the first line that says why there is none
+unfoldable pub stream_inputs : JobOptionsView → ℕ → List NamedStream → Result (List JobInputView) (List ℕ)
+stream_inputs options number [] = Ok []
+stream_inputs options number (s ∷ streams) = with_first number s.name (stream_input options s.bytes) (stream_inputs options (number + 1) streams)
+
+-- 2. What is told
+
+-- of a stream of which a job takes this
+abbrev pub stream_lines : Bool → JobInputView → List ℕ → List ℕ
+stream_lines whole m bytes = told_lines whole (notes_of bytes) (findings_of (carried bytes)) m
+
+-- under the number and the name of its input, if there is anything
+unfoldable pub under : ℕ → List ℕ → List ℕ → List ℕ
+under number name lines = if length lines == 0 then [] else input_line number name ++ lines
+
+-- of all, one after another, numbered from `number` on
+unfoldable pub streams_lines : Bool → ℕ → List NamedStream → List JobInputView → List ℕ
+streams_lines whole number (s ∷ streams) (m ∷ ms) = under number s.name (stream_lines whole m s.bytes) ++ streams_lines whole (number + 1) streams ms
+streams_lines whole number streams ms = []
+
+-- and then what becomes of those after the first
+abbrev pub all_lines : Bool → List NamedStream → List JobInputView → JoinedInputsView → List ℕ
+all_lines whole streams ms j = streams_lines whole 0 streams ms ++ note_lines (names_of streams) j.notes
+
+-- something of a stream is lost
+abbrev pub is_stream_less : Bool → JobInputView → List ℕ → Bool
+is_stream_less whole m bytes = is_told_less whole (notes_of bytes) (findings_of (carried bytes)) m
+
+unfoldable pub are_streams_less : Bool → List NamedStream → List JobInputView → Bool
+are_streams_less whole (s ∷ streams) (m ∷ ms) = is_stream_less whole m s.bytes || are_streams_less whole streams ms
+are_streams_less whole streams ms = false
+
+abbrev pub is_any_less : Bool → List NamedStream → List JobInputView → JoinedInputsView → Bool
+is_any_less whole streams ms j = are_streams_less whole streams ms || are_lost j.notes
+
+-- 3. What is written
+
+-- a job as of one stream; its units are those that are found in the streams
+pub record GivesJobIn (w : JobOptionsView) (inputs : List (List FindingView)) (j : JoinedInputsView) (output : List ℕ) : Type 0 where
+  pub description : Described
+  pub text : List ℕ
+  pub plan : Planned
+  pub units : List (ℕ × AccessUnit)
+  pub job : IsJob w j.input description text units
+  pub found : AreUnitsIn w.make_dts inputs j.origins description units
+  pub agree : AllAgree description j.input
+  pub serving : IsServing description plan
+  pub utf8 : IsUtf8 text
+  pub within : plan_error plan.slots plan.certificate ≡ None
+  pub is : output ≡ written text (plan_text plan) units
+
+abbrev pub GivesIn : Subcommand → JobOptionsView → List (List FindingView) → JoinedInputsView → List ℕ → Type 0
+GivesIn Whole w inputs j output = GivesJobIn w inputs j output
+GivesIn Describe w inputs j output = IsDescription w j.input output
+GivesIn Units w inputs j output = GivesUnits j.input output
+GivesIn Why w inputs j output = GivesReasons w j.input output
+
+-- 4. The outcome
+
+pub record IsGivenIn (arguments : JobArgumentsView) (streams : List NamedStream) (ms : List JobInputView) (j : JoinedInputsView) (o : Outcome) : Type 0 where
+  pub gives : GivesIn arguments.subcommand arguments.options (all_findings streams) j o.output
+  pub report_is : o.report ≡ all_lines arguments.whole streams ms j
+  pub status_is : o.status ≡ status_of arguments.subcommand o.output (is_any_less arguments.whole streams ms j)
+
+-- nothing is written but the line of the refusal, and the status is 1
+pub record IsRefusedIn (arguments : JobArgumentsView) (j : JoinedInputsView) (o : Outcome) : Type 0 where
+  pub refusal : JobRefusal
+  pub holds : Withholds arguments.subcommand arguments.options j.input (Refused refusal)
+  pub is : o ≡ reported (refusal_line refusal)
+
+-- for what is joined of the streams
+abbrev pub JoinedLead : JobArgumentsView → List NamedStream → List JobInputView → Result JoinedInputsView JobRefusal → Outcome → Type 0
+JoinedLead arguments streams ms (Ok j) o = IsGivenIn arguments streams ms j o ⊎ IsRefusedIn arguments j o
+JoinedLead arguments streams ms (Err refusal) o = o ≡ reported (refusal_line refusal)
+
+-- for what a job takes of each of the streams
+unfoldable pub all_joined : List JobInputView → Result JoinedInputsView JobRefusal
+all_joined [] = Err NoStream
+all_joined (first ∷ more) = joined_inputs first more
+
+abbrev pub InputsLead : JobArgumentsView → List NamedStream → Result (List JobInputView) (List ℕ) → Outcome → Type 0
+InputsLead arguments streams (Err lines) o = o ≡ reported lines
+InputsLead arguments streams (Ok ms) o = JoinedLead arguments streams ms (all_joined ms) o
+
+abbrev pub StreamsLead : JobArgumentsView → List NamedStream → Outcome → Type 0
+StreamsLead arguments streams o = InputsLead arguments streams (stream_inputs arguments.options 0 streams) o

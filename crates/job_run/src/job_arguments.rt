@@ -1,0 +1,113 @@
+//! The requests about a stream.
+
+ghost use Rattle.std.specs.Prelude.{◌≡◌, option_map};
+
+use given_values::{ClockBase, DeclareBy, NetworkName, ServiceName};
+use std::marker::Model;
+use stream_coding::PidBuffers;
+use stream_jobs::JobOptions;
+
+/// The kind of output.
+#[derive(Clone, Copy, Debug, PartialEq, Eq)]
+pub enum Subcommand {
+    /// The whole job.
+    Whole,
+    /// Its description.
+    Describe,
+    /// Its unit records.
+    Units,
+    /// Why no plan serves its description.
+    Why,
+}
+
+/// The subcommand and the options of a command line.
+#[derive(Drop)]
+pub struct JobArguments<'a> {
+    pub subcommand: Subcommand,
+    /// The file of a description whose units are written while the stream comes.
+    pub stream: Option<&'a str>,
+    /// Whether the input is declared to end with its last PES packets: then an unknown end is no warning.
+    pub whole: bool,
+    /// The rate in bits a second, 100,000 to 100,000,000; none: the least rate at which a plan is found.
+    pub rate: Option<u64>,
+    /// The moment of the first slot, if it is given.
+    pub start: Option<&'a str>,
+    /// The greatest time between two clock references, 1 to 100 ms.
+    pub pcr_limit: u8,
+    /// The longest time from a unit's arrival to its decoding, 1 to 90,000 units of 90 kHz.
+    pub lead: u32,
+    /// By what the packets of units are declared.
+    pub declare_by: DeclareBy,
+    /// Whether DTS are made from PTS.
+    pub make_dts: bool,
+    /// What the system clock shows as the run begins.
+    pub base: ClockBase,
+    /// The network, in place of the stream's network.
+    pub network: Option<NetworkName<'a>>,
+    /// Names of services in place of the stream's names.
+    pub names: Vec<ServiceName<'a>>,
+    /// The programs that are taken; none: all.
+    pub programs: Vec<u16>,
+    /// The PIDs that are left out.
+    pub without: Vec<u16>,
+    /// Buffers in place of the buffers by coding and level.
+    pub buffers: Vec<PidBuffers>,
+}
+
+// A contract sees its lists and its text.
+impl<'a> Model for JobArguments<'a> {
+    ghost use Rattle.std.specs.Prelude.{option_map};
+    ghost use Rattle.given_values.specs.GivenNames.{network_name_view};
+    ghost use Rattle.job_run.specs.JobArguments.{JobArgumentsView};
+
+    ghost Value = { JobArgumentsView };
+
+    ghost view = { λ a. record {
+      subcommand = a.subcommand;
+      stream = option_map (λ s. s.now) a.stream;
+      whole = a.whole;
+      options = record {
+        rate = a.rate;
+        start = option_map (λ s. s.now) a.start;
+        pcr_limit = a.pcr_limit;
+        lead = a.lead;
+        declare_by = a.declare_by;
+        make_dts = a.make_dts;
+        base = a.base;
+        network = option_map network_name_view a.network;
+        names = a.names.items;
+        programs = a.programs.items;
+        without = a.without.items;
+        buffers = a.buffers.items;
+      };
+    } };
+}
+
+impl JobArguments<'_> {
+    /// Returns the file of a description, where one is named.
+    pub fn stream(&self) -> Option<&str>
+        ensures { option_map (λ s. s.now) result ≡ self.now.stream }
+    {
+        self.stream
+    }
+
+    /// Returns the options of the job.
+    pub fn options(&self) -> JobOptions<'_>
+        ensures { result ≡ self.now.options }
+    {
+        JobOptions {
+            rate: self.rate,
+            start: self.start,
+            pcr_limit: self.pcr_limit,
+            lead: self.lead,
+            declare_by: self.declare_by,
+            make_dts: self.make_dts,
+            base: self.base,
+            network: self.network,
+            names: &self.names,
+            programs: &self.programs,
+            without: &self.without,
+            buffers: &self.buffers,
+        }
+    }
+}

@@ -1,0 +1,369 @@
+//! The outcome for a stream, from its findings.
+
+ghost use Rattle.std.specs.Prelude.{◌≡◌, ◌==◌, ◌&&◌, ◌≤◌, IfErr, IfOk, List, None, Ok, ℕ, length, map, string_bytes};
+ghost use Rattle.demux.specs.Shown.{finding_view};
+ghost use Rattle.demux.specs.Views.{FindingView};
+ghost use Rattle.other_tables.specs.OtherTables as found;
+ghost use Rattle.packet_sync.specs.OtherPackets.{other_packets};
+ghost use Rattle.slot_plan.specs.Planned.{plan_error};
+ghost use Rattle.slot_plan.specs.Text.{plan_text};
+ghost use Rattle.stream_jobs.specs.Jobs.{AreStreams, IsDescription};
+ghost use Rattle.stream_jobs.specs.WhyNoJob.{IsWhyNoDescription, IsWhyNoJob};
+ghost use Rattle.stream_jobs.specs.declared.refusal.JobError.TheVariants.{Memory};
+ghost use Rattle.stream_jobs.specs.JoinedInputs.{AreStreamsIn, JoinedInputsView};
+ghost use Rattle.job_run.specs.Outcomes as spec;
+ghost use Rattle.job_run.specs.SeveralInputs.{GivesIn, GivesJobIn};
+ghost use Rattle.job_run.specs.Streams.{IsRead};
+ghost use Rattle.devices.specs.Outcomes.{reported};
+ghost use Rattle.job_run.specs.SlipLines.{packets_line};
+
+use crate::carried_stream::{PacketNotes, ReadStream};
+use crate::field_lines::{are_needed, told_fields, write_fields};
+use crate::job_arguments::{JobArguments, Subcommand};
+use crate::reading::StreamReading;
+use crate::reason_output::reason_output;
+use crate::refusal_line::write_refusal;
+use crate::slip_lines::{write_packets, write_slips};
+use crate::table_lines::{are_missed, told_tables, write_other_tables};
+use crate::warning_lines::{is_damaged, told_warnings, write_warnings};
+use demux::Finding;
+use other_tables::{OtherTable, other_tables};
+use packet_sync::{FieldLeftOut, OtherPackets, Slip};
+use pes_packet::Unit;
+use slot_plan::Plan;
+use std::alloc::{AllocError, Global};
+use std::marker::Model;
+use stream_jobs::{
+    Job, JobError, JobInput, JobOptions, Warning, describe, job_input, make_job, units,
+};
+
+/// The output, the lines for the second writer, and the status.
+#[derive(Drop)]
+pub struct JobOutcome {
+    pub output: JobText,
+    pub report: String,
+    pub status: u8,
+}
+
+// A contract sees what is written as bytes.
+impl Model for JobOutcome {
+    ghost use Rattle.std.specs.Prelude.{string_bytes};
+    ghost use Rattle.devices.specs.Outcomes.{Outcome};
+
+    ghost Value = { Outcome };
+
+    ghost view = { λ o. record { output = o.output; report = string_bytes o.report; status = o.status } };
+}
+
+/// A text, the text of a plan after it, and units, whose records come after these.
+#[derive(Drop)]
+pub struct JobText {
+    pub text: String,
+    pub plan: String,
+    pub units: Vec<(u8, Unit)>,
+}
+
+// A contract sees the bytes that are written.
+impl Model for JobText {
+    ghost use Rattle.std.specs.Prelude.{ℕ, List, string_bytes};
+    ghost use Rattle.es_feed.specs.Records.{written};
+
+    ghost Value = { List ℕ };
+
+    ghost view = { λ p. written (string_bytes p.text) (string_bytes p.plan) p.units.items };
+}
+
+/// Returns a text alone.
+#[tactic(auto, using(crate::proofs::JobOutcomes::text_alone))]
+pub fn only_text(alloc: Global, text: String) -> JobText
+    ensures { result ≡ string_bytes text }
+{
+    JobText {
+        text,
+        plan: String::new(alloc),
+        units: Vec::new(alloc),
+    }
+}
+
+// The text of a plan, whose numbers are those of one.
+fn plan_text(alloc: Global, plan: &Plan) -> Result<String, AllocError>
+    ensures text { IfOk result (λ text. string_bytes text ≡ plan_text plan.now) }
+    ensures within { plan_error plan.now.slots plan.now.certificate ≡ None }
+{
+    let _slots = plan.slots();
+    plan.write_text(alloc)
+}
+
+// The whole job.
+fn job_output(alloc: Global, options: &JobOptions<'_>, input: JobInput) -> Result<JobText, JobError>
+    requires { length input.streams ≤ 32 }
+    ensures given { (findings : List FindingView) → AreStreams options.now.make_dts findings input →
+        IfOk result (λ p. spec.GivesJob options.now findings input p) }
+    ensures given_in { (inputs : List (List FindingView)) (j : JoinedInputsView) → j.input ≡ input →
+        AreStreamsIn options.now.make_dts inputs j → IfOk result (λ p. GivesJobIn options.now inputs j p) }
+    ensures withheld { IfErr result (IsWhyNoJob options.now input) }
+{
+    let Job { text, plan, units } = make_job(alloc, options, input)?;
+    let plan = plan_text(alloc, plan.plan())?;
+    Ok(JobText { text, plan, units })
+}
+
+// Its description.
+fn description_output(
+    alloc: Global,
+    options: &JobOptions<'_>,
+    input: &JobInput,
+) -> Result<JobText, JobError>
+    ensures given { IfOk result (λ p. IsDescription options.now input.now p) }
+    ensures withheld { IfErr result (IsWhyNoDescription options.now.rate options.now input.now) }
+{
+    let text = describe(alloc, options, input)?;
+    Ok(only_text(alloc, text))
+}
+
+// Its units.
+fn unit_output(alloc: Global, input: JobInput) -> Result<JobText, JobError>
+    requires { length input.streams ≤ 32 }
+    ensures given { IfOk result (λ p. spec.GivesUnits input p) }
+    ensures withheld { IfErr result (λ error. error ≡ Memory) }
+{
+    let units = units(alloc, input)?;
+    Ok(JobText {
+        text: String::new(alloc),
+        plan: String::new(alloc),
+        units,
+    })
+}
+
+// The output of a subcommand.
+pub(crate) fn output_for(
+    alloc: Global,
+    arguments: &JobArguments<'_>,
+    input: JobInput,
+) -> Result<JobText, JobError>
+    requires { length input.streams ≤ 32 }
+    ensures given { (findings : List FindingView) → AreStreams arguments.now.options.make_dts findings input →
+        IfOk result (λ p. spec.Gives arguments.now.subcommand arguments.now.options findings input p) }
+    ensures given_in { (inputs : List (List FindingView)) (j : JoinedInputsView) → j.input ≡ input →
+        AreStreamsIn arguments.now.options.make_dts inputs j →
+        IfOk result (λ p. GivesIn arguments.now.subcommand arguments.now.options inputs j p) }
+    ensures withheld { IfErr result (spec.Withholds arguments.now.subcommand arguments.now.options input) }
+{
+    let options = arguments.options();
+    match arguments.subcommand {
+        Subcommand::Whole => job_output(alloc, &options, input),
+        Subcommand::Describe => description_output(alloc, &options, &input),
+        Subcommand::Units => unit_output(alloc, input),
+        Subcommand::Why => reason_output(alloc, &options, &input),
+    }
+}
+
+// The lines of what is left out.
+#[tactic(auto, using(crate::proofs::JobOutcomes::four_texts))]
+fn loss_report(
+    alloc: Global,
+    slips: &[Slip],
+    fields: &[FieldLeftOut],
+    tables: &[OtherTable],
+    told: &[Warning],
+) -> Result<String, AllocError>
+    ensures { IfOk result (λ lines. string_bytes lines
+        ≡ spec.loss_lines slips.now fields.now tables.now told.now) }
+{
+    let mut lines = String::new(alloc);
+    write_slips(slips, &mut lines)?;
+    write_fields(fields, &mut lines)?;
+    write_other_tables(tables, &mut lines)?;
+    write_warnings(told, &mut lines)?;
+    Ok(lines)
+}
+
+// Whether one of these says that something is lost.
+fn is_less(slips: &[Slip], fields: &[FieldLeftOut], tables: &[OtherTable], told: &[Warning]) -> bool
+    ensures { result ≡ spec.is_less slips.now fields.now tables.now told.now }
+{
+    !slips.is_empty() || are_needed(fields) || are_missed(tables) || is_damaged(told)
+}
+
+// Whether all three hold.
+fn are_all(text: bool, plan: bool, units: bool) -> bool
+    ensures { result ≡ (text && (plan && units)) }
+{
+    text && (plan && units)
+}
+
+// Whether nothing is to be written.
+#[tactic(auto, using(crate::proofs::JobOutcomes::nothing_written))]
+fn is_empty(output: &JobText) -> bool
+    ensures { result ≡ (length output.now == 0) }
+{
+    let text = output.text.as_str();
+    let plan = output.plan.as_str();
+    let units = output.units.as_slice();
+    are_all(text.is_empty(), plan.is_empty(), units.is_empty())
+}
+
+// The status of an output, beside which something is lost or not.
+pub(crate) fn status_of(subcommand: Subcommand, output: &JobText, less: bool) -> u8
+    ensures { result ≡ spec.status_of subcommand output.now less }
+{
+    let bad = match subcommand {
+        Subcommand::Why => !is_empty(output),
+        Subcommand::Whole | Subcommand::Describe | Subcommand::Units => less,
+    };
+    if bad { 1 } else { 0 }
+}
+
+// What is told of a stream of which a job takes this, with these tables beside it, and whether something of it is lost.
+pub(crate) fn told_of(
+    alloc: Global,
+    whole: bool,
+    notes: &PacketNotes,
+    others: &[OtherTable],
+    input: &JobInput,
+) -> Result<(String, bool), AllocError>
+    ensures lines { (findings : List FindingView) → others.now ≡ found.other_tables findings →
+        IfOk result (λ t. string_bytes t.0 ≡ spec.told_lines whole notes.now findings input.now) }
+    ensures less { (findings : List FindingView) → others.now ≡ found.other_tables findings →
+        IfOk result (λ t. t.1 ≡ spec.is_told_less whole notes.now findings input.now) }
+{
+    let told = told_warnings(alloc, whole, &input.warnings)?;
+    let fields = told_fields(alloc, input, &notes.fields)?;
+    let tables = told_tables(alloc, input, others)?;
+    let lines = loss_report(alloc, &notes.slips, &fields, &tables, &told)?;
+    let less = is_less(&notes.slips, &fields, &tables, &told);
+    Ok((lines, less))
+}
+
+// The outcome for a stream that is not refused.
+#[tactic(auto, using(crate::proofs::JobOutcomes::no_memory))]
+fn job_outcome(
+    alloc: Global,
+    arguments: &JobArguments<'_>,
+    notes: &PacketNotes,
+    others: &[OtherTable],
+    input: JobInput,
+) -> Result<JobOutcome, JobError>
+    requires { length input.streams ≤ 32 }
+    ensures given { (findings : List FindingView) → AreStreams arguments.now.options.make_dts findings input →
+        others.now ≡ found.other_tables findings → IfOk result (λ a. spec.IsGiven arguments.now notes.now findings input a) }
+    ensures withheld { IfErr result (spec.Withholds arguments.now.subcommand arguments.now.options input) }
+{
+    let (report, less) = told_of(alloc, arguments.whole, notes, others, &input)?;
+    let output = output_for(alloc, arguments, input)?;
+    let status = status_of(arguments.subcommand, &output, less);
+    Ok(JobOutcome {
+        output,
+        report,
+        status,
+    })
+}
+
+// An outcome without output.
+fn without_output(alloc: Global, report: String) -> JobOutcome
+    ensures { result ≡ reported (string_bytes report) }
+{
+    JobOutcome {
+        output: only_text(alloc, String::new(alloc)),
+        report,
+        status: 1,
+    }
+}
+
+// The outcome for a stream that is refused.
+pub(crate) fn refused_outcome(alloc: Global, error: JobError) -> Result<JobOutcome, AllocError>
+    ensures { IfOk result (λ a. spec.ReportsWhy error a) }
+{
+    let JobError::Refused(refusal) = error else {
+        return Err(AllocError);
+    };
+    let mut report = String::new(alloc);
+    write_refusal(refusal, &mut report)?;
+    Ok(without_output(alloc, report))
+}
+
+// The outcome for a stream of this input.
+#[tactic(auto, using(crate::proofs::JobOutcomes::withheld))]
+fn input_outcome(
+    alloc: Global,
+    arguments: &JobArguments<'_>,
+    notes: &PacketNotes,
+    others: &[OtherTable],
+    input: JobInput,
+) -> Result<JobOutcome, AllocError>
+    requires { length input.streams ≤ 32 }
+    ensures { (findings : List FindingView) → AreStreams arguments.now.options.make_dts findings input →
+        others.now ≡ found.other_tables findings →
+        IfOk result (λ a. spec.InputLeads arguments.now notes.now findings (Ok input) a) }
+{
+    match job_outcome(alloc, arguments, notes, others, input) {
+        Ok(outcome) => Ok(outcome),
+        Err(error) => refused_outcome(alloc, error),
+    }
+}
+
+// The outcome for a stream of `count` whole packets with these findings.
+#[tactic(auto, using(crate::proofs::JobOutcomes::with_input, crate::proofs::JobOutcomes::without_input))]
+fn findings_outcome(
+    alloc: Global,
+    arguments: &JobArguments<'_>,
+    notes: &PacketNotes,
+    count: u64,
+    findings: Vec<Finding<'static>>,
+) -> Result<JobOutcome, AllocError>
+    ensures { IfOk result (λ a. spec.FindingsLead arguments.now notes.now count
+        (map finding_view findings.entry.items) a) }
+{
+    let others = other_tables(alloc, &findings)?;
+    match job_input(alloc, &arguments.options(), count, findings) {
+        Ok(input) => input_outcome(alloc, arguments, notes, &others, input),
+        Err(error) => refused_outcome(alloc, error),
+    }
+}
+
+// The outcome for a stream of packets of another size.
+pub(crate) fn packets_outcome(
+    alloc: Global,
+    packets: OtherPackets,
+) -> Result<JobOutcome, AllocError>
+    ensures { IfOk result (λ a. a ≡ reported (packets_line packets)) }
+{
+    let mut report = String::new(alloc);
+    write_packets(packets, &mut report)?;
+    Ok(without_output(alloc, report))
+}
+
+// The outcome for a stream that was read, of packets of 188 bytes.
+#[tactic(auto, using(crate::proofs::JobOutcomes::carried_lead))]
+fn carried_outcome(
+    alloc: Global,
+    arguments: &JobArguments<'_>,
+    stream: StreamReading,
+) -> Result<JobOutcome, AllocError>
+    ensures { (bytes : List ℕ) → IsRead bytes stream → other_packets bytes ≡ None →
+        IfOk result (λ a. spec.BytesLead arguments.now bytes None a) }
+{
+    let ReadStream { notes, demux, size } = stream.end()?;
+    let count = size as u64 / 188;
+    let outcome = findings_outcome(alloc, arguments, &notes, count, demux.into_findings())?;
+    Ok(outcome)
+}
+
+/// Returns the outcome for a stream that was read.
+#[tactic(auto, using(crate::proofs::JobOutcomes::none_lead, crate::proofs::JobOutcomes::other_lead))]
+pub(crate) fn stream_outcome(
+    alloc: Global,
+    arguments: &JobArguments<'_>,
+    stream: StreamReading,
+) -> Result<JobOutcome, AllocError>
+    ensures { (bytes : List ℕ) → IsRead bytes stream → IfOk result (λ a. spec.Leads arguments.now bytes a) }
+{
+    match stream.other_packets() {
+        Some(packets) => {
+            // By a call: at the end of a function the drop of each part would be a step of its proof.
+            drop(stream);
+            Ok(packets_outcome(alloc, packets)?)
+        }
+        None => Ok(carried_outcome(alloc, arguments, stream)?),
+    }
+}

@@ -1,0 +1,213 @@
+//! What a job takes of streams in files by their names.
+
+ghost use Rattle.std.specs.Prelude.{◌≡◌, ◌++◌, IfOk, List, None, OnOk, ℕ, map, string_bytes};
+ghost use Rattle.demux.specs.Shown.{finding_view};
+ghost use Rattle.demux.specs.Views.{FindingView};
+ghost use Rattle.devices.specs.Files.{files_of};
+ghost use Rattle.other_tables.specs.OtherTables as tables;
+ghost use Rattle.packet_sync.specs.OtherPackets.{other_packets};
+ghost use Rattle.job_run.specs.Outcomes.{is_told_less, told_lines};
+ghost use Rattle.job_run.specs.StreamFiles as spec;
+ghost use Rattle.job_run.specs.Streams.{IsRead};
+
+use crate::carried_stream::{PacketNotes, ReadStream};
+use crate::input_lines::write_input;
+use crate::job_arguments::JobArguments;
+use crate::outcome::{JobOutcome, only_text, packets_outcome, refused_outcome, told_of};
+use crate::reading::{StreamReading, read_stream};
+use demux::Finding;
+use devices::{Halt, NamedFiles};
+use other_tables::{OtherTable, other_tables};
+use std::alloc::{AllocError, Global};
+use std::marker::Model;
+use stream_jobs::{JobInput, job_input};
+
+/// What a job takes of a stream, the lines that are told of it, and whether something of it is lost.
+#[derive(Drop)]
+pub(crate) struct TakenStream {
+    pub input: JobInput,
+    pub lines: String,
+    pub less: bool,
+}
+
+// A contract sees its lines as bytes.
+impl Model for TakenStream {
+    ghost use Rattle.std.specs.Prelude.{string_bytes};
+    ghost use Rattle.job_run.specs.StreamFiles.{TakenView};
+
+    ghost Value = { TakenView };
+
+    ghost view = { λ t. record { input = t.input; lines = string_bytes t.lines; less = t.less } };
+}
+
+// What a job takes of a stream, with these tables beside it.
+fn taken(
+    alloc: Global,
+    arguments: &JobArguments<'_>,
+    notes: &PacketNotes,
+    others: &[OtherTable],
+    input: JobInput,
+) -> Result<TakenStream, AllocError>
+    ensures input { IfOk result (λ t. t.input ≡ input) }
+    ensures lines { (findings : List FindingView) → others.now ≡ tables.other_tables findings →
+        IfOk result (λ t. t.lines ≡ told_lines arguments.now.whole notes.now findings input) }
+    ensures less { (findings : List FindingView) → others.now ≡ tables.other_tables findings →
+        IfOk result (λ t. t.less ≡ is_told_less arguments.now.whole notes.now findings input) }
+{
+    let (lines, less) = told_of(alloc, arguments.whole, notes, others, &input)?;
+    Ok(TakenStream { input, lines, less })
+}
+
+// Or the outcome for one that is refused.
+#[tactic(auto, using(crate::proofs::StreamFiles::is_taken_of, crate::proofs::StreamFiles::is_refusal_of))]
+fn taken_or_refused(
+    alloc: Global,
+    arguments: &JobArguments<'_>,
+    notes: &PacketNotes,
+    count: u64,
+    findings: Vec<Finding<'static>>,
+) -> Result<Result<TakenStream, JobOutcome>, AllocError>
+    ensures { IfOk result (spec.IsInputOf arguments.now notes.now count (map finding_view findings.entry.items)) }
+{
+    let others = other_tables(alloc, &findings)?;
+    match job_input(alloc, &arguments.options(), count, findings) {
+        Ok(input) => Ok(Ok(taken(alloc, arguments, notes, &others, input)?)),
+        Err(error) => Ok(Err(refused_outcome(alloc, error)?)),
+    }
+}
+
+// What a job takes of a stream that was read, of packets of 188 bytes.
+#[tactic(auto, using(crate::proofs::StreamFiles::carried_is_input))]
+fn carried_input(
+    alloc: Global,
+    arguments: &JobArguments<'_>,
+    stream: StreamReading,
+) -> Result<Result<TakenStream, JobOutcome>, AllocError>
+    ensures { (bytes : List ℕ) → IsRead bytes stream → other_packets bytes ≡ None →
+        IfOk result (spec.IsInput arguments.now bytes) }
+{
+    let ReadStream { notes, demux, size } = stream.end()?;
+    let count = size as u64 / 188;
+    let taken = taken_or_refused(alloc, arguments, &notes, count, demux.into_findings())?;
+    Ok(taken)
+}
+
+// What a job takes of a stream that was read.
+#[tactic(auto, using(crate::proofs::StreamFiles::other_is_input))]
+fn read_input(
+    alloc: Global,
+    arguments: &JobArguments<'_>,
+    stream: StreamReading,
+) -> Result<Result<TakenStream, JobOutcome>, AllocError>
+    ensures { (bytes : List ℕ) → IsRead bytes stream → IfOk result (spec.IsInput arguments.now bytes) }
+{
+    match stream.other_packets() {
+        Some(packets) => {
+            // By a call: at the end of a function the drop of each part would be a step of its proof.
+            drop(stream);
+            Ok(Err(packets_outcome(alloc, packets)?))
+        }
+        None => Ok(carried_input(alloc, arguments, stream)?),
+    }
+}
+
+// The outcome for a file that can't be opened.
+fn unopened(alloc: Global) -> Result<JobOutcome, AllocError>
+    ensures { IfOk result (λ o. o ≡ spec.stopped_by spec.open_line) }
+{
+    let mut report = String::new(alloc);
+    report.push_str("open\n")?;
+    Ok(stopped(alloc, report))
+}
+
+// For one that can't be read to its end.
+fn unread(alloc: Global) -> Result<JobOutcome, AllocError>
+    ensures { IfOk result (λ o. o ≡ spec.stopped_by spec.read_line) }
+{
+    let mut report = String::new(alloc);
+    report.push_str("read\n")?;
+    Ok(stopped(alloc, report))
+}
+
+// An outcome without output of a device that failed.
+fn stopped(alloc: Global, report: String) -> JobOutcome
+    ensures { result ≡ spec.stopped_by (string_bytes report) }
+{
+    JobOutcome {
+        output: only_text(alloc, String::new(alloc)),
+        report,
+        status: 3,
+    }
+}
+
+// What a job takes of the stream in the file of a name.
+fn named_input<F: NamedFiles>(
+    alloc: Global,
+    arguments: &JobArguments<'_>,
+    files: &F,
+    name: &str,
+) -> Result<Result<TakenStream, JobOutcome>, AllocError>
+    ensures { IfOk result (spec.IsNamedInput arguments.now
+        (files_of (F.contents_of files.now) (F.opens files.now) F.never_fails) name.now) }
+{
+    let Some(mut file) = files.open_named(name) else {
+        return Ok(Err(unopened(alloc)?));
+    };
+    match read_stream(alloc, &mut file) {
+        Ok(stream) => read_input(alloc, arguments, stream),
+        Err(Halt::Memory) => Err(AllocError),
+        Err(_) => Ok(Err(unread(alloc)?)),
+    }
+}
+
+// An outcome with the line of an input above what it tells.
+fn told_under(
+    alloc: Global,
+    number: usize,
+    name: &str,
+    outcome: JobOutcome,
+) -> Result<JobOutcome, AllocError>
+    ensures { IfOk result (λ o. o ≡ spec.told_under number name.now outcome) }
+{
+    let mut report = String::new(alloc);
+    write_input(number, name, &mut report)?;
+    report.push_str(outcome.report.as_str())?;
+    Ok(JobOutcome { report, ..outcome })
+}
+
+/// What a job takes of several streams.
+#[derive(Drop)]
+pub(crate) struct TakenStreams {
+    pub streams: Vec<TakenStream>,
+}
+
+// A contract sees a list.
+impl Model for TakenStreams {
+    ghost use Rattle.std.specs.Prelude.{List};
+    ghost use Rattle.job_run.specs.StreamFiles.{TakenView};
+
+    ghost Value = { List TakenView };
+
+    ghost view = { λ t. t.streams.items };
+}
+
+/// Returns what a job takes of the streams in the files of these names; or the outcome for the first of which it takes
+/// nothing.
+pub(crate) fn named_inputs<F: NamedFiles>(
+    alloc: Global,
+    arguments: &JobArguments<'_>,
+    files: &F,
+    names: &[&str],
+) -> Result<Result<TakenStreams, JobOutcome>, AllocError>
+    ensures { IfOk result (spec.AreNamedInputs arguments.now
+        (files_of (F.contents_of files.now) (F.opens files.now) F.never_fails) (map (λ s. s.now) names.now)) }
+{
+    let mut streams = Vec::new(alloc);
+    for (number, name) in names.iter().enumerate() {
+        match named_input(alloc, arguments, files, name)? {
+            Ok(stream) => streams.push(stream)?,
+            Err(outcome) => return Ok(Err(told_under(alloc, number, name, outcome)?)),
+        }
+    }
+    Ok(Ok(TakenStreams { streams }))
+}

@@ -1,0 +1,73 @@
+//! The lines for tables that no job is made of.
+
+ghost use Rattle.std.specs.Prelude.{◌≡◌, ◌++◌, IfOk, OnOk, string_bytes};
+ghost use Rattle.std.specs.List.{list_any};
+ghost use Rattle.other_tables.specs.TableKinds.{is_loss};
+ghost use Rattle.job_run.specs.TableLines as spec;
+
+use other_tables::{OtherTable, TableKind};
+use std::alloc::{AllocError, Global};
+use std::fmt::Write;
+use stream_jobs::JobInput;
+
+// The name of a table.
+#[tactic(auto, unfolding(crate::specs::TableLines::kind_name))]
+fn kind_name(kind: TableKind) -> &'static str
+    ensures { result.now ≡ spec.kind_name kind }
+{
+    match kind {
+        TableKind::ConditionalAccess => "CAT, ECM or EMM",
+        TableKind::Objects => "DSM-CC",
+        TableKind::Network => "NIT",
+        TableKind::Services => "SDT of other streams or BAT",
+        TableKind::Events => "EIT",
+        TableKind::Time => "TOT",
+        TableKind::Running => "RST",
+        TableKind::Applications => "AIT",
+        TableKind::Splices => "SCTE 35",
+        TableKind::Private => "another table",
+    }
+}
+
+// The line of a table.
+#[tactic(auto, unfolding(crate::specs::TableLines::other_table_line))]
+fn write_other_table(table: &OtherTable, text: &mut String) -> Result<(), AllocError>
+    ensures { OnOk result (string_bytes text.new ≡ string_bytes text.old ++ spec.other_table_line table.now) }
+{
+    let OtherTable { pid, kind, count } = *table;
+    write!(text, "pid {pid} has {count} sections of ")?;
+    text.push_str(kind_name(kind))?;
+    text.push_str(": left out\n")
+}
+
+/// Appends a line for each table.
+pub fn write_other_tables(tables: &[OtherTable], text: &mut String) -> Result<(), AllocError>
+    ensures { OnOk result (string_bytes text.new ≡ string_bytes text.old ++ spec.other_table_lines tables.now) }
+{
+    for table in tables {
+        write_other_table(table, text)?;
+    }
+    Ok(())
+}
+
+/// Returns the tables that are not carried.
+pub fn told_tables(
+    alloc: Global,
+    input: &JobInput,
+    tables: &[OtherTable],
+) -> Result<Vec<OtherTable>, AllocError>
+    ensures { IfOk result (λ told. told.items ≡ spec.told_tables input.now tables.now) }
+{
+    tables
+        .iter()
+        .filter(|table| !input.carries_table(table.pid))
+        .copied()
+        .collect(alloc)
+}
+
+/// Returns whether a viewer loses anything without these tables.
+pub fn are_missed(tables: &[OtherTable]) -> bool
+    ensures { result ≡ list_any (λ t. is_loss t.kind) tables.now }
+{
+    tables.iter().any(|table| table.kind.is_loss())
+}

@@ -1,0 +1,59 @@
+-- Streams with units that are left out: a job can't carry them.
+use Rattle.std.specs.Prelude.{◌≡◌, ⊤, ℕ, ◌-◌, ◌%◌, ◌^◌, nat_lt, if◌then◌else◌, List, None, Some, Option, option_map, Result, Ok, Err}
+use Rattle.demux.specs.Views.{FindingView}
+use Rattle.given_values.specs.declared.declare_by.DeclareBy.{DeclareBy}
+use Rattle.es_units.specs.Stamps.{first_fault}
+use Rattle.stream_jobs.specs.declared.refusal.JobError.{JobError}
+use Rattle.stream_jobs.specs.declared.refusal.JobError.TheVariants.{Memory, Refused}
+use Rattle.stream_jobs.specs.declared.refusal.JobRefusal.{JobRefusal}
+use Rattle.stream_jobs.specs.Declarations.{UnitCountsView, buffers_refusal, is_declared, length_refusal, unit_counts}
+use Rattle.stream_jobs.specs.JobOptions.{JobOptionsView}
+use Rattle.stream_jobs.specs.JobStreams.{TimedStreamView, WireStreamView}
+use Rattle.stream_jobs.specs.Moments.{first_dts, stamps_refusal, wire_of, with_moments}
+
+-- 1. Stamps that are no moments, whatever the clock shows as the run begins
+
+-- what it shows if the first unit is due at once
+unfoldable pub own_base : WireStreamView → ℕ
+own_base w = first_dts w.units % 2 ^ 33
+
+-- the error of a call for a stream with this refusal, if it has one: it, or out of memory
+unfoldable pub IsOddBy : Option JobRefusal → JobError → Type 0
+IsOddBy odd Memory = ⊤
+IsOddBy odd (Refused why) = odd ≡ Some why
+
+unfoldable pub odd_stamps : List FindingView → WireStreamView → Option JobRefusal
+odd_stamps findings w = option_map (stamps_refusal findings w.pid) (first_fault (own_base w) None 0 (wire_of w))
+
+-- 2. Units that nothing declares: too many, too large, or more than their buffers let in, even if the output is as fast as can be
+
+-- the stream, its first unit due at once
+unfoldable pub alone : WireStreamView → TimedStreamView
+alone w = with_moments (own_base w) w
+
+abbrev pub greatest_sum : ℕ
+greatest_sum = 2 ^ 64 - 1
+
+unfoldable pub odd_buffers : DeclareBy → ℕ → TimedStreamView → UnitCountsView → Option JobRefusal
+odd_buffers declare_by lead t c =
+    if is_declared declare_by lead greatest_sum t.units c then None else Some (buffers_refusal declare_by lead greatest_sum t c)
+
+unfoldable pub odd_counts : JobOptionsView → TimedStreamView → Result UnitCountsView JobRefusal → Option JobRefusal
+odd_counts options t (Ok c) = odd_buffers options.declare_by options.lead t c
+odd_counts options t (Err why) = Some why
+
+-- the first of two
+unfoldable pub first_odd : Option JobRefusal → Option JobRefusal → Option JobRefusal
+first_odd (Some why) later = Some why
+first_odd None later = later
+
+unfoldable pub odd_units : JobOptionsView → TimedStreamView → Option JobRefusal
+odd_units options t = first_odd (length_refusal t) (odd_counts options t (unit_counts options.buffers t))
+
+-- 3. Why a stream with units is left out, if it is: video, of stream_id 0xE0 and more, for its stamps alone, so that its bytes stay where they are found
+
+unfoldable pub odd_bytes : JobOptionsView → WireStreamView → Option JobRefusal
+odd_bytes options w = if nat_lt w.stream_id 0xE0 then odd_units options (alone w) else None
+
+unfoldable pub odd_stream : JobOptionsView → List FindingView → WireStreamView → Option JobRefusal
+odd_stream options findings w = first_odd (odd_stamps findings w) (odd_bytes options w)
