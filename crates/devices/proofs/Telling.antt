@@ -1,5 +1,5 @@
 -- Texts that are reported one after another.
-use Rattle.std.proofs.Common.{◌≡◌, ℕ, List, [], ◌∷◌, ◌++◌, refl, subst}
+use Rattle.std.proofs.Common.{ℕ, List, [], ◌∷◌, ◌++◌, refl, subst}
 use Rattle.devices.specs.Devices.{Port, between}
 use Rattle.devices.specs.Lines.{Reports, Tells}
 

@@ -1,18 +1,20 @@
 //! A program over the real reader and writers.
-ghost use Rattle.std.specs.Prelude.{◌≡◌, ◌⊎◌, codes};
+ghost use Rattle.std.specs.Prelude.{◌≡◌, ◌⊎◌, None, codes};
 ghost use Rattle.std.specs.List.{list_any};
 ghost use Rattle.std.specs.Process.{exit_status};
 ghost use Rattle.std.specs.Str.{bytes_eq};
 
 use crate::files::NamedFiles;
 use crate::halt::{Halt, report_halt};
+use crate::output_files::OutputFiles;
 use crate::watched::Watched;
 use counted_io::{Counted, Sink};
 use held_input::{BufferedInput, HeldInput};
 use std::alloc::Global;
+use std::cell::Cell;
 use std::env;
 use std::fs::metadata;
-use std::io::{BufReader, Error, ErrorKind, IsTerminal, Stderr, Stdin, Stdout};
+use std::io::{self, BufReader, Error, ErrorKind, IsTerminal, Stderr, Stdin, Stdout, Write};
 use std::process::ExitCode;
 
 /// The room of the input's buffer, in bytes: what one call gives of a pipe. A read of as many bytes or more goes past
@@ -21,8 +23,9 @@ const INPUT_ROOM: usize = 1 << 16;
 
 /// A program over any files, a reader that shows which bytes it holds, and two writers.
 pub trait Program {
-    /// Reads the input, writes the output, reports faults, and returns the exit status. It may open files by name.
-    fn run<F: NamedFiles, R: HeldInput, W: Sink, E: Sink>(
+    /// Reads the input, writes the output, reports faults, and returns the exit status. It may open files by name, and
+    /// write files by name.
+    fn run<F: NamedFiles + OutputFiles, R: HeldInput, W: Sink, E: Sink>(
         alloc: Global,
         words: &[&str],
         files: &F,
@@ -38,9 +41,65 @@ pub trait Program {
 
 /// The writers of a process: the types say which is which.
 #[derive(Drop)]
-struct Writers {
-    output: Counted<Stdout>,
-    faults: Counted<Stderr>,
+struct Writers<W, E> {
+    output: Counted<W>,
+    faults: Counted<E>,
+}
+
+/// Standard output, which notes whether its reader has gone away.
+#[derive(Drop)]
+struct PipedOutput<'a> {
+    inner: Stdout,
+    is_gone: &'a Cell<bool>,
+}
+
+impl Write for PipedOutput<'_> {
+    ghost contents = { λ _. None };
+
+    fn write(&mut self, buf: &[u8]) -> io::Result<usize> {
+        let written = self.inner.write(buf);
+        if is_broken(&written) {
+            self.is_gone.set(true);
+        }
+        written
+    }
+
+    fn flush(&mut self) -> io::Result<()> {
+        self.inner.flush()
+    }
+}
+
+/// Standard error, until the reader of standard output has gone away. It takes all later bytes, and writes none.
+#[derive(Drop)]
+struct PipedFaults<'a> {
+    inner: Stderr,
+    is_gone: &'a Cell<bool>,
+}
+
+impl Write for PipedFaults<'_> {
+    ghost contents = { λ _. None };
+
+    fn write(&mut self, buf: &[u8]) -> io::Result<usize> {
+        if self.is_gone.get() {
+            return Ok(buf.len());
+        }
+        self.inner.write(buf)
+    }
+
+    fn flush(&mut self) -> io::Result<()> {
+        self.inner.flush()
+    }
+}
+
+/// Returns whether a call of a writer failed because its reader has gone away.
+fn is_broken(written: &io::Result<usize>) -> bool {
+    match written {
+        Ok(_) => false,
+        Err(error) => match error.kind() {
+            ErrorKind::BrokenPipe => true,
+            _ => false,
+        },
+    }
 }
 
 /// Returns the code with which a process ends, of a status.
@@ -92,10 +151,10 @@ fn input_of<'a>(
 }
 
 /// Returns the status of a program with the words of the command line.
-fn status_of<P: Program>(rt: &HostRuntime, writers: &mut Writers) -> u8 {
+fn status_of<P: Program, W: Write, E: Write>(rt: &HostRuntime, writers: &mut Writers<W, E>) -> u8 {
     let args = match env::args(rt) {
         Ok(args) => args,
-        Err(error) => return without_words::<P, Counted<Stderr>>(error, &mut writers.faults),
+        Err(error) => return without_words::<P, Counted<E>>(error, &mut writers.faults),
     };
     let words: Vec<String> = match args.skip(1).collect(rt.alloc()) {
         Ok(words) => words,
@@ -109,7 +168,7 @@ fn status_of<P: Program>(rt: &HostRuntime, writers: &mut Writers) -> u8 {
     let Ok(reader) = BufReader::with_capacity(rt.alloc(), INPUT_ROOM, input) else {
         return report_halt(&mut writers.faults, Halt::Memory);
     };
-    P::run::<HostRuntime, _, Counted<Stdout>, Counted<Stderr>>(
+    P::run::<HostRuntime, _, Counted<W>, Counted<E>>(
         rt.alloc(),
         texts.as_slice(),
         rt,
@@ -119,11 +178,30 @@ fn status_of<P: Program>(rt: &HostRuntime, writers: &mut Writers) -> u8 {
     )
 }
 
-/// Runs a program with the words of the command line, from standard input to standard output and standard error.
+/// Runs a program with the words of the command line, from standard input to standard output and standard error. If the
+/// reader of standard output goes away, as of the pipe `tsview FILE | head`, nothing more is reported.
 pub fn run_program<P: Program>(rt: &HostRuntime) -> ExitCode {
+    let is_gone = Cell::new(false);
+    let output = PipedOutput {
+        inner: rt.stdout(),
+        is_gone: &is_gone,
+    };
+    let faults = PipedFaults {
+        inner: rt.stderr(),
+        is_gone: &is_gone,
+    };
+    let mut writers = Writers {
+        output: Counted::new(output),
+        faults: Counted::new(faults),
+    };
+    exit_code(status_of::<P, _, _>(rt, &mut writers))
+}
+
+/// Runs a program in the same way, except that it also reports that the reader of standard output has gone away.
+pub fn run_reporting_program<P: Program>(rt: &HostRuntime) -> ExitCode {
     let mut writers = Writers {
         output: Counted::new(rt.stdout()),
         faults: Counted::new(rt.stderr()),
     };
-    exit_code(status_of::<P>(rt, &mut writers))
+    exit_code(status_of::<P, Stdout, Stderr>(rt, &mut writers))
 }

@@ -1,10 +1,10 @@
 //! `tsmux`: a constant-rate MPEG-2 transport stream multiplexer (ISO/IEC 13818-1, EN 300 468, TR 101 290).
 //!
-//! The program is `tsmux_cli::run` over any reader and two writers; `devices::run_program` runs it over the real ones.
+//! The program is `tsmux_cli::run` over any reader and two writers; `devices::run_reporting_program` runs it over the real ones.
 #![tactic(auto)]
 
 use counted_io::Sink;
-use devices::{NamedFiles, Program, run_program};
+use devices::{NamedFiles, Program, run_reporting_program};
 use held_input::HeldInput;
 use std::alloc::Global;
 use std::process::ExitCode;
@@ -30,5 +30,5 @@ impl Program for Tsmux {
 }
 
 fn main(rt: HostRuntime) -> ExitCode {
-    run_program::<Tsmux>(&rt)
+    run_reporting_program::<Tsmux>(&rt)
 }

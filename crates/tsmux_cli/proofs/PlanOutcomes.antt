@@ -4,7 +4,7 @@ use Rattle.std.specs.Prelude.{codes}
 use Rattle.description.specs.Described.{Described}
 use Rattle.description.specs.declared.fault.DescError.{DescError}
 use Rattle.description.specs.declared.fault.DescError.TheVariants.{Refused, Memory}
-use Rattle.plan_search.specs.PlainPlan.{plain_plan, serves}
+use Rattle.plan_maker.specs.PlainPlan.{plain_plan, serves}
 use Rattle.checked_jobs.specs.Jobs.{BadDescription, described}
 use Rattle.checked_jobs.specs.JobFaults.{fault_line}
 use Rattle.devices.specs.Lines.{line_text}

@@ -6,7 +6,7 @@ use Rattle.description.specs.declared.fault.DescError.TheVariants.{Refused, Memo
 use Rattle.slot_plan.specs.Conditions.{IsServing}
 use Rattle.slot_plan.specs.Planned.{Planned}
 use Rattle.slot_plan.specs.Text.{plan_text}
-use Rattle.plan_search.specs.PlainPlan.{plain_plan, serves}
+use Rattle.plan_maker.specs.PlainPlan.{plain_plan, serves}
 use Rattle.checked_jobs.specs.Jobs.{BadDescription, described}
 use Rattle.checked_jobs.specs.JobFaults.{fault_line}
 use Rattle.devices.specs.Devices.{Device}

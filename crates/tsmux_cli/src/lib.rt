@@ -24,4 +24,7 @@ mod request;
 mod rest_taker;
 mod unit_list;
 
+pub use multiplexing::{rate_of, report_error, slots_of, write_packets};
+pub use mux_jobs::{MuxFault, MuxJob, MuxJobError, read_mux_job, report_mux_fault};
 pub use program::{report_usage, run};
+pub use request::MuxOptions;

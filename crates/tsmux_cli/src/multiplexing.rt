@@ -18,7 +18,7 @@ use mux_core::{MuxError, multiplex_as, multiplex_switch_as};
 use std::alloc::Global;
 
 /// Returns the rate of a job's description, in bits a second.
-fn rate_of(plans: &JobPlans) -> u64
+pub fn rate_of(plans: &JobPlans) -> u64
     ensures rate { result ≡ (plans_view plans.now []).description.rate }
     ensures upper { result ≤ 100_000_000 }
 {
@@ -29,7 +29,7 @@ fn rate_of(plans: &JobPlans) -> u64
 }
 
 /// Returns the number of slots of a job: that of the option, else the slots up to the greatest DTS.
-fn slots_of(options: MuxOptions, job: &MuxJob) -> u64
+pub fn slots_of(options: MuxOptions, job: &MuxJob) -> u64
     ensures { result ≡ spec.slots_of options (mux_job_view job.now) }
 {
     match options.slots {
@@ -39,7 +39,7 @@ fn slots_of(options: MuxOptions, job: &MuxJob) -> u64
 }
 
 /// Writes the packets of a job.
-fn write_packets<W: Sink>(
+pub fn write_packets<W: Sink>(
     alloc: Global,
     options: MuxOptions,
     job: MuxJob,
@@ -65,7 +65,7 @@ fn write_packets<W: Sink>(
 
 /// Reports why not all packets were written, and returns the status.
 #[tactic(auto, unfolding(crate::specs::Multiplexing::error_outcome))]
-fn report_error<E: Sink>(faults: &mut E, error: MuxError) -> u8
+pub fn report_error<E: Sink>(faults: &mut E, error: MuxError) -> u8
     ensures report { Reports (writes E.Sink faults.old faults.new) (spec.error_outcome error).report }
     ensures status { result ≡ (spec.error_outcome error).status }
 {

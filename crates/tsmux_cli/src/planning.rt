@@ -1,6 +1,6 @@
 //! `plan`: the text of a plan that serves a description.
 ghost use Rattle.std.specs.Prelude.{◌≡◌, IfOk, IfErr, false, string_bytes};
-ghost use Rattle.plan_search.specs.PlainPlan.{plain_plan, serves};
+ghost use Rattle.plan_maker.specs.PlainPlan.{plain_plan, serves};
 ghost use Rattle.devices.specs.Devices.{reads, writes};
 ghost use Rattle.devices.specs.Runs.{Performs};
 ghost use Rattle.tsmux_cli.specs.Planning.{IsPlanText, ReportsUnread, MakesPlan};

@@ -8,3 +8,4 @@ pub mod GivenOptions
 pub mod WordFaults
 pub mod NamedWords
 pub mod UsageReport
+pub mod SortedWords

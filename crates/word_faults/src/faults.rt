@@ -35,8 +35,8 @@ fn is_help(word: &str) -> bool
     word == "--help" || word == "-h"
 }
 
-// Whether a word is this option.
-fn is_option(option: &str, word: &str) -> bool
+/// Returns whether a word is this option.
+pub(crate) fn is_option(option: &str, word: &str) -> bool
     ensures { result ≡ spec.is_option option.now word.now }
 {
     is_dashed(word) && split_word(word).0 == option
@@ -157,8 +157,8 @@ fn alone_reason(before: &[&str], rest: &[&str]) -> Option<Reason>
     }
 }
 
-// Whether the words after a word are names of files.
-fn is_file_mark(known: KnownWords, word: &str) -> bool
+/// Returns whether the words after a word are names of files.
+pub(crate) fn is_file_mark(known: KnownWords, word: &str) -> bool
     ensures { result ≡ spec.is_file_mark (known_of known) word.now }
 {
     word == "--" && known.is_word(word)
@@ -202,8 +202,8 @@ fn reason_at(
     }
 }
 
-// Whether a value is to come after a word.
-fn wants_value(known: KnownWords, word: &str) -> bool
+/// Returns whether a value is to come after a word.
+pub(crate) fn wants_value(known: KnownWords, word: &str) -> bool
     ensures { result ≡ spec.wants_value (known_of known) word.now }
 {
     if !is_dashed(word) {

@@ -11,7 +11,8 @@
 //! beside the options (`specs/WordFaults`). `usage_report` is the line that says what is wrong, with the usage after
 //! it, and `answer_other_words` reports it, or prints the version for `--version` alone (`specs/UsageReport`). The
 //! words that the line names are really there (`faults_name_words`: `specs/NamedWords`). `answer_words` also answers calls for help, and
-//! says what to type: what an option takes, or the nearest known word (`specs/Hints`; `hints_are_nearest`: `specs/NearWords`).
+//! says what to type: what an option takes, or the nearest known word (`specs/Hints`; `hints_are_nearest`: `specs/NearWords`). `sorted_words` puts
+//! the names of files among the words of a command line after its options (`specs/SortedWords`).
 #![tactic(auto)]
 
 mod faults;
@@ -21,6 +22,7 @@ mod laws;
 mod option_row;
 mod option_values;
 mod other_words;
+mod sorting;
 mod usage;
 mod version;
 mod word_fault;
@@ -31,5 +33,8 @@ pub use laws::{faults_name_words, hints_are_nearest};
 pub use option_row::{OptionRow, Row, ValueKind};
 pub use option_values::{given_options, number_if, number_of, numbers_of, subcommand};
 pub use other_words::{answer_other_words, answer_words};
+pub use sorting::{
+    are_taken, name_words, option_words, push_words, sorted_words, value_given, words_without,
+};
 pub use usage::usage_report;
 pub use word_fault::{Reason, WordFault};

@@ -1,0 +1,147 @@
+//! Files that are written by name, and what standard output is.
+ghost use Rattle.std.specs.Prelude.{◌≡◌, ℕ, List, [], None, Some, Option, Bool, IfSome, is_some};
+ghost use Rattle.devices.specs.Files.{IsAsKnown};
+
+use counted_io::{Counted, Sink};
+use std::alloc::Global;
+use std::fs::{File, canonicalize, metadata, remove_file, rename};
+use std::io::{self, ErrorKind, IsTerminal, Write};
+
+/// Files that are written by name: a new file has its name when it is whole, and not before.
+pub trait OutputFiles {
+    type Writer: Sink + Drop;
+
+    // Whether a file of a name can be created, if that is known.
+    ghost creates: { Self → List ℕ → Option Bool };
+
+    // Whether standard output is a terminal, if that is known.
+    ghost shows: { Self → Option Bool };
+
+    /// Returns a writer of a new file that is to have this name; none if it can't be created.
+    fn create_named(&self, name: &str) -> Option<Self::Writer>
+        ensures empty { IfSome result (λ writer. (bytes : List ℕ) → Self.Writer.contents writer ≡ Some bytes → bytes ≡ []) }
+        ensures creates { IsAsKnown (creates self.now name.now) (is_some result) };
+
+    /// Gives a new file its name, in place of a file that had it. Returns whether it has the name now.
+    fn keep_file(&self, writer: Self::Writer) -> bool;
+
+    /// Removes a new file.
+    fn discard_file(&self, writer: Self::Writer);
+
+    /// Returns whether standard output is a terminal.
+    fn shows_output(&self) -> bool
+        ensures { IsAsKnown (shows self.now) result };
+}
+
+/// The two names of a new file.
+#[derive(Drop)]
+struct NewNames {
+    /// The name under which it is written.
+    unfinished: String,
+    /// The name that it is to have.
+    wanted: String,
+}
+
+/// A new file. It is written in place if its name is the name of a device or a pipe: then it has no other name.
+#[derive(Drop)]
+pub struct NewFile {
+    file: File,
+    names: Option<NewNames>,
+}
+
+impl Write for NewFile {
+    ghost contents = { λ _. None };
+
+    fn write(&mut self, buf: &[u8]) -> io::Result<usize> {
+        self.file.write(buf)
+    }
+
+    fn flush(&mut self) -> io::Result<()> {
+        Ok(())
+    }
+}
+
+/// Returns the two names of a file that is to have this name.
+fn new_names(alloc: Global, path: &str) -> Option<NewNames> {
+    let mut wanted = String::new(alloc);
+    wanted.push_str(path).ok()?;
+    let mut unfinished = String::new(alloc);
+    unfinished.push_str(path).ok()?;
+    unfinished.push_str(".unfinished").ok()?;
+    Some(NewNames { unfinished, wanted })
+}
+
+/// Returns a new file beside the one that has this name, or that is to have it.
+fn create_beside(rt: &HostRuntime, path: &str) -> Option<NewFile> {
+    let names = new_names(rt.alloc(), path)?;
+    let file = File::create(rt, names.unfinished.as_str()).ok()?;
+    Some(NewFile {
+        file,
+        names: Some(names),
+    })
+}
+
+/// Returns a new file beside the plain file of this name; where the name is a link, beside the file to which it leads.
+fn create_in_place_of(rt: &HostRuntime, name: &str) -> Option<NewFile> {
+    let path = canonicalize(rt, name).ok()?;
+    create_beside(rt, path.as_str())
+}
+
+/// Returns a writer of the device or the pipe of this name.
+fn open_device(rt: &HostRuntime, name: &str) -> Option<NewFile> {
+    let file = File::create(rt, name).ok()?;
+    Some(NewFile { file, names: None })
+}
+
+/// Returns a new file that is to have this name.
+fn create_new(rt: &HostRuntime, name: &str) -> Option<NewFile> {
+    match metadata(rt, name) {
+        Ok(known) => {
+            if known.is_file() {
+                create_in_place_of(rt, name)
+            } else {
+                open_device(rt, name)
+            }
+        }
+        Err(error) => match error.kind() {
+            ErrorKind::NotFound => create_beside(rt, name),
+            _ => None,
+        },
+    }
+}
+
+impl OutputFiles for HostRuntime {
+    type Writer = Counted<NewFile>;
+
+    ghost creates = { λ _ _. None };
+
+    ghost shows = { λ _. None };
+
+    fn create_named(&self, name: &str) -> Option<Counted<NewFile>> {
+        match create_new(self, name) {
+            Some(file) => Some(Counted::new(file)),
+            None => None,
+        }
+    }
+
+    fn keep_file(&self, writer: Counted<NewFile>) -> bool {
+        let NewFile { file, names } = writer.into_inner();
+        drop(file);
+        match names {
+            Some(names) => rename(self, names.unfinished.as_str(), names.wanted.as_str()).is_ok(),
+            None => true,
+        }
+    }
+
+    fn discard_file(&self, writer: Counted<NewFile>) {
+        let NewFile { file, names } = writer.into_inner();
+        drop(file);
+        if let Some(names) = names {
+            let _ = remove_file(self, names.unfinished.as_str());
+        }
+    }
+
+    fn shows_output(&self) -> bool {
+        self.stdout().is_terminal()
+    }
+}

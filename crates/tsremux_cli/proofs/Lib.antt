@@ -1,0 +1,2 @@
+mod Remuxed
+mod Written

@@ -1,0 +1,55 @@
+-- Both programs, one after the other.
+use Rattle.std.proofs.Common.{◌≡◌, ℕ, true, false, List, [], Some, Result, Ok, Err, refl, inl, inr, subst}
+use Rattle.word_faults.specs.CommandLine.{Text}
+use Rattle.devices.specs.Devices.{Device, Port, between, IsUntouched}
+use Rattle.devices.specs.Files.{Files}
+use Rattle.tsremux_cli.specs.Muxing.{IsMuxed, MuxesBytes}
+use Rattle.tsremux_cli.specs.Remuxing.{MakesJob, Remuxes, RunsJob, is_job}
+use Rattle.tsremux_cli.specs.declared.figures.Figures.{Figures}
+use Rattle.tsremux_cli.specs.declared.figures.Remuxed.TheVariants.{Whole, Ended}
+
+-- the bytes are the job
+pub held : (bytes : List ℕ) (job packets faults : Device) (result : Result Figures ℕ) → job.before.bytes ≡ Some bytes → IsMuxed job packets faults result →
+    MuxesBytes bytes packets faults result
+held bytes job packets faults result begins muxed = record { job = job; begins = begins; muxed = muxed }
+
+-- the job is made
+pub made : (words : List Text) (files : Files) (input job faults : Device) (bytes : List ℕ) (status : ℕ) → job.before.bytes ≡ Some [] → job.after.bytes ≡ Some bytes →
+    RunsJob words files input job faults status → MakesJob words files input faults bytes status
+made words files input job faults bytes status empty are runs = record { job = job; empty = empty; bytes_are = are; runs = runs }
+
+-- there is none
+pub stopped : (words : List Text) (files : Files) (input packets : Device) (before after : Port) (bytes : List ℕ) (status : ℕ) →
+    MakesJob words files input (between before after) bytes status → is_job bytes status ≡ false → IsUntouched packets →
+    Remuxes words files input packets (between before after) (Ended status)
+stopped words files input packets before after bytes status makes none unwritten = record {
+  bytes = bytes;
+  job_status = status;
+  told = after;
+  makes = makes;
+  goes_on = inl (record { none = none; unwritten = unwritten; silent = refl; status_is = refl });
+}
+
+-- there is one, and not all its packets are written
+pub failed_then : (words : List Text) (files : Files) (input packets : Device) (before mid after : Port) (bytes shown : List ℕ) (job_status status : ℕ) →
+    MakesJob words files input (between before mid) bytes job_status → is_job bytes job_status ≡ true → shown ≡ bytes →
+    MuxesBytes shown packets (between mid after) (Err status) → Remuxes words files input packets (between before after) (Ended status)
+failed_then words files input packets before mid after bytes shown job_status status makes is same muxed = record {
+  bytes = bytes;
+  job_status = job_status;
+  told = mid;
+  makes = makes;
+  goes_on = inr (record { is = is; muxed = subst (λ (xs : List ℕ). MuxesBytes xs packets (between mid after) (Err status)) same muxed });
+}
+
+-- all are written
+pub whole : (words : List Text) (files : Files) (input packets : Device) (before mid after : Port) (bytes shown : List ℕ) (status : ℕ) (figures : Figures) →
+    MakesJob words files input (between before mid) bytes status → is_job bytes status ≡ true → shown ≡ bytes → MuxesBytes shown packets (between mid after) (Ok figures) →
+    Remuxes words files input packets (between before after) (Whole figures status)
+whole words files input packets before mid after bytes shown status figures makes is same muxed = record {
+  bytes = bytes;
+  job_status = status;
+  told = mid;
+  makes = makes;
+  goes_on = record { is = is; muxed = subst (λ (xs : List ℕ). MuxesBytes xs packets (between mid after) (Ok figures)) same muxed; status_is = refl };
+}

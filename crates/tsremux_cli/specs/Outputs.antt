@@ -1,0 +1,67 @@
+-- Packets of streams to standard output, or to a file.
+use Rattle.std.specs.Prelude.{◌≡◌, ◌⊎◌, ℕ, Bool, true, false, List, [], Option, Some, codes}
+use Rattle.word_faults.specs.CommandLine.{Text}
+use Rattle.devices.specs.Devices.{Device, IsUntouched, Port, between}
+use Rattle.devices.specs.Files.{Files, IsAsKnown}
+use Rattle.devices.specs.Lines.{Reports}
+use Rattle.tsremux_cli.specs.Lines.{TellsHeld, TellsOf, terminal_line, uncreated_text, unnamed_text}
+use Rattle.tsremux_cli.specs.Remuxing.{Remuxes}
+use Rattle.tsremux_cli.specs.declared.figures.Remuxed.{Remuxed}
+use Rattle.tsremux_cli.specs.declared.figures.Remuxed.TheVariants.{Whole, Ended}
+
+-- 1. Standard output
+
+-- what holds of the packets is reported, if all are written
+abbrev pub Concludes : Text → Remuxed → Device → ℕ → Type 0
+Concludes name (Whole figures ended) faults status = (status ≡ ended) × TellsHeld name figures faults
+Concludes name (Ended ended) faults status = (status ≡ ended) × IsUntouched faults
+
+abbrev pub output_name : Text
+output_name = codes "standard output"
+
+pub record WritesOutput (words : List Text) (files : Files) (input output faults : Device) (status : ℕ) : Type 0 where
+  pub result : Remuxed
+  pub told : Port
+  pub remuxes : Remuxes words files input output (between faults.before told) result
+  pub concludes : Concludes output_name result (between told faults.after) status
+
+-- no packets go to a terminal
+pub record IsTerminal (shows : Option Bool) (input output faults : Device) (status : ℕ) : Type 0 where
+  pub shown : IsAsKnown shows true
+  pub unread : IsUntouched input
+  pub unwritten : IsUntouched output
+  pub reports : Reports faults terminal_line
+  pub status_is : status ≡ 2
+
+abbrev pub ToOutput : Option Bool → List Text → Files → Device → Device → Device → ℕ → Type 0
+ToOutput shows words files input output faults status =
+    IsTerminal shows input output faults status ⊎ (IsAsKnown shows false × WritesOutput words files input output faults status)
+
+-- 2. A file
+
+-- what holds of the packets is reported, if all are written and the file has its name
+abbrev pub Finishes : Text → Remuxed → Device → ℕ → Type 0
+Finishes name (Whole figures ended) faults status =
+    ((status ≡ ended) × TellsHeld name figures faults) ⊎ ((status ≡ 3) × TellsOf name unnamed_text faults)
+Finishes name (Ended ended) faults status = (status ≡ ended) × IsUntouched faults
+
+-- the packets go to a new file
+pub record WritesFile (creates : Option Bool) (name : Text) (words : List Text) (files : Files) (input faults : Device) (status : ℕ) : Type 0 where
+  pub created : IsAsKnown creates true
+  pub file : Device
+  pub empty : (bytes : List ℕ) → file.before.bytes ≡ Some bytes → bytes ≡ []
+  pub result : Remuxed
+  pub told : Port
+  pub remuxes : Remuxes words files input file (between faults.before told) result
+  pub finishes : Finishes name result (between told faults.after) status
+
+-- it can't be created: nothing is read
+pub record HasNoFile (creates : Option Bool) (name : Text) (input faults : Device) (status : ℕ) : Type 0 where
+  pub uncreated : IsAsKnown creates false
+  pub unread : IsUntouched input
+  pub tells : TellsOf name uncreated_text faults
+  pub status_is : status ≡ 3
+
+abbrev pub ToFile : Option Bool → Text → List Text → Files → Device → Device → ℕ → Type 0
+ToFile creates name words files input faults status =
+    WritesFile creates name words files input faults status ⊎ HasNoFile creates name input faults status

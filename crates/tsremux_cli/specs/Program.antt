@@ -1,0 +1,27 @@
+-- What the program does with words that can be taken.
+use Rattle.std.specs.Prelude.{◌⊎◌, ℕ, Bool, List, Option, Some, None}
+use Rattle.word_faults.specs.CommandLine.{Text}
+use Rattle.devices.specs.Devices.{Device, IsUntouched}
+use Rattle.devices.specs.Files.{Files}
+use Rattle.devices.specs.Runs.{LacksMemory}
+use Rattle.tsremux_cli.specs.Outputs.{ToFile, ToOutput}
+use Rattle.tsremux_cli.specs.Words.{job_words, output_file}
+
+-- what is known of files that are written: whether one can be created, and whether standard output is a terminal
+pub record Outputs : Type 0 where
+  pub creates : List ℕ → Option Bool
+  pub shows : Option Bool
+
+abbrev pub outputs_of : (List ℕ → Option Bool) → Option Bool → Outputs
+outputs_of creates shows = record { creates = creates; shows = shows }
+
+-- the packets go to standard output, or to the file of a name
+abbrev pub WritesTo : Outputs → Option Text → List Text → Files → Device → Device → Device → ℕ → Type 0
+WritesTo outputs None words files input output faults status = ToOutput outputs.shows words files input output faults status
+WritesTo outputs (Some name) words files input output faults status =
+    ToFile (outputs.creates name) name words files input faults status × IsUntouched output
+
+-- of sorted words; or memory runs out for the words
+abbrev pub Answers : Outputs → List Text → Files → Device → Device → Device → ℕ → Type 0
+Answers outputs words files input output faults status =
+    WritesTo outputs (output_file words) (job_words words) files input output faults status ⊎ LacksMemory input output faults status

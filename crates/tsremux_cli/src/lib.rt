@@ -1,0 +1,17 @@
+//! What the program `tsremux` does, over any files, a reader and two writers (`run`): `tsjob` and `tsmux mux` in one step.
+//!
+//! `options` is the table of options, with the usage; `words` sorts the words of the command line, and has the words for `tsjob` and the
+//! name of the file that is written. `remuxing` runs `tsjob` into memory and writes the packets of its job, by `muxing`; `outputs` writes
+//! them to standard output or to a file, and reports by `lines` what holds of them. `program` is `run`.
+#![tactic(auto)]
+
+mod figures;
+mod lines;
+mod muxing;
+mod options;
+mod outputs;
+mod program;
+mod remuxing;
+mod words;
+
+pub use program::{report_usage, run};

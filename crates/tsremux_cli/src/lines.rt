@@ -1,0 +1,63 @@
+//! What is reported of an output.
+ghost use Rattle.std.specs.Prelude.{◌≡◌, ◌++◌, IfOk, OnOk, string_bytes};
+ghost use Rattle.devices.specs.Devices.{writes};
+ghost use Rattle.tsremux_cli.specs.Lines as spec;
+
+use crate::figures::Figures;
+use counted_io::Sink;
+use devices::report_text;
+use std::alloc::{AllocError, Global};
+use std::fmt::Write;
+
+// The length of an output, in tenths of a second.
+fn tenths_of(figures: Figures) -> u128
+    ensures { result ≡ spec.tenths_of figures }
+{
+    u128::from(figures.packets) * 15_040 / u128::from(figures.rate.max(1))
+}
+
+// Appends a length in tenths of a second.
+fn write_time(text: &mut String, tenths: u128) -> Result<(), AllocError>
+    ensures { OnOk result (string_bytes text.new ≡ string_bytes text.old ++ spec.time_text tenths) }
+{
+    let (seconds, tenth) = (tenths / 10, tenths % 10);
+    write!(text, "{seconds}.{tenth} s, ")
+}
+
+// Appends the figures of an output.
+fn write_figures(text: &mut String, figures: Figures) -> Result<(), AllocError>
+    ensures { OnOk result (string_bytes text.new ≡ string_bytes text.old ++ spec.figures_text figures) }
+{
+    let Figures { rate, packets } = figures;
+    write!(text, ": {rate} bit/s, ")?;
+    write_time(text, tenths_of(figures))?;
+    write!(text, "{packets} packets")
+}
+
+// What holds of the output of this name.
+fn held_line(alloc: Global, name: &str, figures: Figures) -> Result<String, AllocError>
+    ensures { IfOk result (λ text. string_bytes text ≡ spec.held_line name.now figures) }
+{
+    let mut text = String::new(alloc);
+    text.push_str(name)?;
+    write_figures(&mut text, figures)?;
+    text.push_str(": every accepted unit by its DTS, no buffer over its size\n")?;
+    Ok(text)
+}
+
+/// Reports what holds of the output of this name, unless memory for the line runs out.
+pub(crate) fn report_held<E: Sink>(alloc: Global, name: &str, figures: Figures, faults: &mut E)
+    ensures { spec.TellsHeld name.now figures (writes E.Sink faults.old faults.new) }
+{
+    if let Ok(text) = held_line(alloc, name, figures) {
+        report_text(faults, text.as_str());
+    }
+}
+
+/// Reports what is wrong with the file of this name.
+pub(crate) fn report_of<E: Sink>(name: &str, text: &str, faults: &mut E)
+    ensures { spec.TellsOf name.now text.now (writes E.Sink faults.old faults.new) }
+{
+    report_text(faults, name);
+    report_text(faults, text);
+}

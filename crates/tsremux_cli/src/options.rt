@@ -1,0 +1,196 @@
+//! The options of the program, and its usage.
+ghost use Rattle.std.specs.Prelude.{◌≡◌};
+ghost use Rattle.tsremux_cli.specs.Options as spec;
+ghost use Rattle.word_faults.specs.KnownWords.{known_of};
+
+use option_lists::Scale;
+use word_faults::{KnownWords, OptionRow, ValueKind};
+
+/// The options. Which word is a fault, and the usage, follow these rows.
+pub(crate) const OPTIONS: [OptionRow; 16] = [
+    OptionRow {
+        name: "rate",
+        value: ValueKind::Scaled {
+            scale: Scale::Bits,
+            least: 100_000,
+            greatest: 100_000_000,
+            default: None,
+        },
+        form: "",
+        unit: "bits a second, or with k or M",
+        apart: "",
+        help: "bits a second; else the least at which a plan is found",
+    },
+    OptionRow {
+        name: "program",
+        value: ValueKind::Numbers { greatest: 65_535 },
+        form: "N,..",
+        unit: "",
+        apart: "",
+        help: "the programs that are taken",
+    },
+    OptionRow {
+        name: "without",
+        value: ValueKind::Numbers { greatest: 8_191 },
+        form: "PID,..",
+        unit: "",
+        apart: "",
+        help: "PIDs that are left out",
+    },
+    OptionRow {
+        name: "buffers",
+        value: ValueKind::Buffers,
+        form: "PID:RX:MAIN,..",
+        unit: "bits a second and bytes",
+        apart: "",
+        help: "buffers of a PID, in bits a second and bytes",
+    },
+    OptionRow {
+        name: "lead",
+        value: ValueKind::Scaled {
+            scale: Scale::Ticks,
+            least: 1,
+            greatest: 90_000,
+            default: Some(90_000),
+        },
+        form: "",
+        unit: "units of 90 kHz, or with ms or s",
+        apart: "",
+        help: "the greatest lead of a unit, in units of 90 kHz",
+    },
+    OptionRow {
+        name: "declare",
+        value: ValueKind::Declare,
+        form: "groups|time",
+        unit: "",
+        apart: "",
+        help: "by what packets are declared; else by groups where they ask for little more",
+    },
+    OptionRow {
+        name: "pcr",
+        value: ValueKind::Scaled {
+            scale: Scale::Millis,
+            least: 1,
+            greatest: 100,
+            default: Some(40),
+        },
+        form: "",
+        unit: "ms",
+        apart: "",
+        help: "the greatest time between clock references, in ms",
+    },
+    OptionRow {
+        name: "start",
+        value: ValueKind::Moment,
+        form: "YYYY-MM-DDThh:mm:ss",
+        unit: "",
+        apart: "",
+        help: "the moment of the first packet",
+    },
+    OptionRow {
+        name: "base",
+        value: ValueKind::Base,
+        form: "",
+        unit: "units of 90 kHz",
+        apart: "",
+        help: "the system clock as the run begins, in units of 90 kHz, or that of the input",
+    },
+    OptionRow {
+        name: "network",
+        value: ValueKind::Network,
+        form: "ID:NAME[:ORIGINAL]",
+        unit: "",
+        apart: "",
+        help: "the network, and original_network_id",
+    },
+    OptionRow {
+        name: "name",
+        value: ValueKind::Names,
+        form: "N:NAME[:PROVIDER],..",
+        unit: "",
+        apart: "",
+        help: "the names of the services of programs",
+    },
+    OptionRow {
+        name: "make-dts",
+        value: ValueKind::Flag,
+        form: "",
+        unit: "",
+        apart: "",
+        help: "DTS are made from PTS",
+    },
+    OptionRow {
+        name: "progress",
+        value: ValueKind::Flag,
+        form: "",
+        unit: "",
+        apart: "",
+        help: "report each second how many bytes are read, on a terminal",
+    },
+    OptionRow {
+        name: "output",
+        value: ValueKind::File,
+        form: "FILE",
+        unit: "",
+        apart: "",
+        help: "or -o: the file that is written; else standard output",
+    },
+    OptionRow {
+        name: "version",
+        value: ValueKind::Alone,
+        form: "",
+        unit: "",
+        apart: "",
+        help: "or -V, alone: the version, and the kit that proved it",
+    },
+    OptionRow {
+        name: "help",
+        value: ValueKind::Alone,
+        form: "",
+        unit: "",
+        apart: "",
+        help: "or -h: this text, on standard output",
+    },
+];
+
+/// The usage, written to the first writer if the words ask for help, to the second on a usage error: a line for each option of the table.
+const USAGE: &str = "usage: tsremux [OPTIONS] [FILE..|-] -o OUT
+       tsremux [OPTIONS] [FILE..|-] > OUT
+  --rate 100000..100000000       bits a second; else the least at which a plan is found
+  --program N,..                 the programs that are taken
+  --without PID,..               PIDs that are left out
+  --buffers PID:RX:MAIN,..       buffers of a PID, in bits a second and bytes
+  --lead 1..90000                the greatest lead of a unit, in units of 90 kHz
+  --declare groups|time          by what packets are declared; else by groups where they ask for little more
+  --pcr 1..100                   the greatest time between clock references, in ms
+  --start YYYY-MM-DDThh:mm:ss    the moment of the first packet
+  --base 0..8589934591|input     the system clock as the run begins, in units of 90 kHz, or that of the input
+  --network ID:NAME[:ORIGINAL]   the network, and original_network_id
+  --name N:NAME[:PROVIDER],..    the names of the services of programs
+  --make-dts                     DTS are made from PTS
+  --progress                     report each second how many bytes are read, on a terminal
+  --output FILE                  or -o: the file that is written; else standard output
+  --version                      or -V, alone: the version, and the kit that proved it
+  --help                         or -h: this text, on standard output
+";
+
+/// Returns the usage.
+pub(crate) fn usage() -> &'static str
+    ensures { result.now ≡ spec.usage_text }
+{
+    USAGE
+}
+
+/// Returns what the program knows of its command line: options, and names of files after `--`.
+pub(crate) fn known_words() -> KnownWords
+    ensures { known_of result ≡ spec.known_words }
+{
+    KnownWords {
+        options: &OPTIONS,
+        words: &["--"],
+        names: false,
+        alone: &["-V"],
+        required: None,
+        barred: None,
+    }
+}

@@ -1,0 +1,116 @@
+//! Packets of streams to standard output, or to a file.
+ghost use Rattle.std.specs.Prelude.{◌≡◌, map};
+ghost use Rattle.devices.specs.Devices.{reads, writes};
+ghost use Rattle.devices.specs.Files.{files_of};
+ghost use Rattle.tsremux_cli.specs.Outputs as spec;
+
+use crate::figures::Remuxed;
+use crate::lines::{report_held, report_of};
+use crate::remuxing::remux;
+use counted_io::{Sink, Source};
+use devices::{NamedFiles, OutputFiles, report_text};
+use std::alloc::Global;
+
+// Reports what holds of standard output, if all packets are written, and returns the status.
+fn conclude<E: Sink>(alloc: Global, remuxed: Remuxed, faults: &mut E) -> u8
+    ensures { spec.Concludes spec.output_name remuxed (writes E.Sink faults.old faults.new) result }
+{
+    match remuxed {
+        Remuxed::Whole { figures, status } => {
+            report_held(alloc, "standard output", figures, faults);
+            status
+        }
+        Remuxed::Ended { status } => status,
+    }
+}
+
+// Writes the packets to standard output, and returns the status.
+fn write_output<F: NamedFiles, R: Source, W: Sink, E: Sink>(
+    alloc: Global,
+    words: &[&str],
+    files: &F,
+    input: &mut R,
+    output: &mut W,
+    faults: &mut E,
+) -> u8
+    ensures { spec.WritesOutput (map (λ s. s.now) words.now)
+        (files_of (F.contents_of files.now) (F.opens files.now) F.never_fails)
+        (reads R.Source input.old input.new) (writes W.Sink output.old output.new)
+        (writes E.Sink faults.old faults.new) result }
+{
+    let remuxed = remux(alloc, words, files, input, output, faults);
+    conclude(alloc, remuxed, faults)
+}
+
+/// Writes the packets to standard output, unless it is a terminal, and returns the status.
+pub(crate) fn remux_to_output<F: NamedFiles + OutputFiles, R: Source, W: Sink, E: Sink>(
+    alloc: Global,
+    words: &[&str],
+    files: &F,
+    input: &mut R,
+    output: &mut W,
+    faults: &mut E,
+) -> u8
+    ensures { spec.ToOutput (F.shows files.now) (map (λ s. s.now) words.now)
+        (files_of (F.contents_of files.now) (F.opens files.now) F.never_fails)
+        (reads R.Source input.old input.new) (writes W.Sink output.old output.new)
+        (writes E.Sink faults.old faults.new) result }
+{
+    if files.shows_output() {
+        report_text(
+            faults,
+            "standard output is a terminal: name a file by -o FILE\n",
+        );
+        return 2;
+    }
+    write_output(alloc, words, files, input, output, faults)
+}
+
+// Gives a new file its name if all packets are written, reports what holds of it, and returns the status.
+fn finish<F: OutputFiles, E: Sink>(
+    alloc: Global,
+    remuxed: Remuxed,
+    name: &str,
+    files: &F,
+    file: F::Writer,
+    faults: &mut E,
+) -> u8
+    ensures { spec.Finishes name.now remuxed (writes E.Sink faults.old faults.new) result }
+{
+    match remuxed {
+        Remuxed::Whole { figures, status } => {
+            if files.keep_file(file) {
+                report_held(alloc, name, figures, faults);
+                status
+            } else {
+                report_of(name, ": can't be renamed\n", faults);
+                3
+            }
+        }
+        Remuxed::Ended { status } => {
+            files.discard_file(file);
+            status
+        }
+    }
+}
+
+/// Writes the packets to the file of a name, and returns the status.
+pub(crate) fn remux_to_file<F: NamedFiles + OutputFiles, R: Source, E: Sink>(
+    alloc: Global,
+    name: &str,
+    words: &[&str],
+    files: &F,
+    input: &mut R,
+    faults: &mut E,
+) -> u8
+    ensures { spec.ToFile (F.creates files.now name.now) name.now (map (λ s. s.now) words.now)
+        (files_of (F.contents_of files.now) (F.opens files.now) F.never_fails)
+        (reads R.Source input.old input.new) (writes E.Sink faults.old faults.new) result }
+{
+    let Some(mut file) = files.create_named(name) else {
+        report_of(name, ": can't be created\n", faults);
+        return 3;
+    };
+    let remuxed = remux(alloc, words, files, input, &mut file, faults);
+    finish(alloc, remuxed, name, files, file, faults)
+}
