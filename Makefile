@@ -4,11 +4,12 @@ BINARY = crates/tsmux/out/tsmux
 TSJOB = crates/tsjob/out/tsjob
 TSAIR = crates/tsair/out/tsair
 TSVIEW = crates/tsview/out/tsview
+TSREMUX = crates/tsremux/out/tsremux
 
 PROGRAM ?= tsmux
 PREFIX ?= /usr/local
 
-.PHONY: help run try install dist deb test check-docs edits bench binary tsjob tsair tsview pages picture any-stream on-air clean
+.PHONY: help run try install dist deb test check-docs edits bench binary tsjob tsremux tsair tsview pages picture any-stream on-air clean
 
 help: ## List the targets.
 	@sed -n 's/^\([a-z-]*\):.*## \(.*\)/\1\t\2/p' $(MAKEFILE_LIST) | while IFS="$$(printf '\t')" read -r target text; do \
@@ -44,15 +45,15 @@ try:
 endif
 
 install: ## Copy the programs that are built to PREFIX/bin, manual pages and completions to PREFIX/share (default /usr/local).
-	@test -x $(BINARY) || test -x $(TSJOB) || test -x $(TSAIR) || test -x $(TSVIEW) || { echo "nothing is built: make run, make tsjob tsair tsview"; exit 1; }
+	@test -x $(BINARY) || test -x $(TSJOB) || test -x $(TSREMUX) || test -x $(TSAIR) || test -x $(TSVIEW) || { echo "nothing is built: make run, make tsremux tsjob tsair tsview"; exit 1; }
 	mkdir -p $(PREFIX)/bin
-	@for program in $(BINARY) $(TSJOB) $(TSAIR) $(TSVIEW); do \
+	@for program in $(BINARY) $(TSJOB) $(TSAIR) $(TSVIEW) $(TSREMUX); do \
 	    if test -x $$program; then install -m 755 $$program $(PREFIX)/bin/ && echo $(PREFIX)/bin/$${program##*/}; fi; done
 	tools/options --write $(PREFIX)/share
 
-dist: ## Make a tarball of the four built programs, manual pages, completions and documents in out/dist.
-	@for program in $(BINARY) $(TSJOB) $(TSAIR) $(TSVIEW); do test -x $$program || { echo "not built: make binary tsjob tsair tsview"; exit 1; }; done
-	tools/package $(BINARY) $(TSJOB) $(TSAIR) $(TSVIEW) out/dist
+dist: ## Make a tarball of the five built programs, manual pages, completions and documents in out/dist.
+	@for program in $(BINARY) $(TSJOB) $(TSAIR) $(TSVIEW) $(TSREMUX); do test -x $$program || { echo "not built: make binary tsjob tsair tsview tsremux"; exit 1; }; done
+	tools/package $(BINARY) $(TSJOB) $(TSAIR) $(TSVIEW) $(TSREMUX) out/dist
 
 # Needs dpkg-deb.
 deb: dist ## The same, as a Debian package.
@@ -66,11 +67,15 @@ binary: ## Prove and build tsmux.
 tsjob: ## Prove and build tsjob (27 minutes after tsmux).
 	cd crates/tsjob && { rt run < /dev/null; test -x out/tsjob; }
 
+# With empty input tsremux prints `no PAT` and exits with status 1.
+tsremux: ## Prove and build tsremux (2 minutes after tsmux and tsjob).
+	cd crates/tsremux && { rt run < /dev/null; test -x out/tsremux; }
+
 # With empty input tsair prints `job` and exits with status 1.
 tsair: ## Prove and build tsair (4 minutes more).
 	cd crates/tsair && { rt run < /dev/null; test -x out/tsair; }
 
-# With empty input tsview reports 0 packets and exits with status 0.
+# With empty input tsview writes `empty` and exits with status 1.
 tsview: ## Prove and build tsview (19 minutes more).
 	cd crates/tsview && { rt run < /dev/null; test -x out/tsview; }
 
@@ -91,7 +96,7 @@ any-stream: binary tsjob ## Take streams of ffmpeg and GStreamer through tsjob a
 # are processors: without RT_JOBS `rt ci` would also wait for memory that a check may take, and no check takes as much (GATE).
 test: ## The merge gate: all proofs and tests (docs/GATE.md).
 	RT_JOBS=$${RT_JOBS:-$$(nproc)} rt ci
-	tools/run-tests crates/tsmux/out/tsmux crates/tsjob/out/tsjob crates/tsair/out/tsair crates/tsview/out/tsview
+	tools/run-tests crates/tsmux/out/tsmux crates/tsjob/out/tsjob crates/tsair/out/tsair crates/tsview/out/tsview crates/tsremux/out/tsremux
 
 check-docs: ## Check the documents: links, words of commands, claims, generated tables, messages, options, plain English.
 	tools/links

@@ -136,7 +136,7 @@ def made(folder, rest, program):
     """What the program itself writes of a file: COMMAND < FILE."""
     command, _, name = rest.partition(" < ")
     status, out, told = run(program, shlex.split(command)[1:], bytes_of(folder / name))
-    if status or told:
+    if status:
         raise ValueError(f"{rest} ends with status {status}: {told.decode(errors='replace').strip()}")
     return out
 

@@ -26,9 +26,9 @@ class Refused(Exception):
 class Pid(syntax.Pid):
     """One PID: its PES packets with their bytes, its sections, and the rest as lines, each with the packet in which it begins."""
 
-    def __init__(self, pid):
+    def __init__(self, pid, accesses):
         super().__init__(pid, [])
-        self.found, self.begun = [], None
+        self.found, self.begun, self.accesses = [], None, accesses
 
     def look(self, packet):
         self.begun = packet if self.begun is None else self.begun
@@ -50,6 +50,7 @@ class Pid(syntax.Pid):
         data = self.part[1]
         body = data[length: length + size]
         marks = data[6] & 15 | (16 if data[8] == 36 else 0) if length > 6 else 0
+        marks |= jobs.RANDOM_ACCESS if self.begun in self.accesses else 0
         self.found.append((packet, self.begun, "pes", (number, dts if dts is not None else pts, pts, body, tail != "", marks)))
 
     def tell(self, packet, text):
@@ -80,8 +81,11 @@ def in_step(data):
     return b"".join(kept) + data[at:], lines, list(fields)
 
 
-RANDOM_ACCESS = "random access indicators left out"
-ADAPTATION = "splice countdown, private data or extension of adaptation fields left out"
+TRANSPORT_PRIORITY = "transport priority left out"
+INDICATORS = ((0x80, "discontinuity indicators left out"), (0x40, "random access indicators left out"),
+              (0x20, "elementary stream priority indicators left out"), (8, "original program clock references left out"),
+              (4, "splice countdown left out"), (2, "private data of adaptation fields left out"), (1, "extension of adaptation fields left out"))
+OF_PACKETS = (TRANSPORT_PRIORITY, *(name for _, name in INDICATORS))
 ALIGNMENT = "data alignment indicators left out"
 FLAGS = "priority, copyright or original flags of PES headers left out"
 SCRAMBLED = "scrambled in PES packets: taken as it is"
@@ -91,11 +95,17 @@ OTHER = "other data of PES headers left out"
 UNREAD = "PES header continues in another packet: not read"
 
 
+def adaptation_flags(p):
+    """The flags of the adaptation field of a packet; none without one, or if it has no byte of flags."""
+    return p[5] if p[3] & 0x20 and p[4] else 0
+
+
 def fields_of(p):
     """The fields of a packet and of a PES header at its front that are not written again."""
-    flags = p[5] if p[3] & 0x20 and p[4] else 0
-    told = [RANDOM_ACCESS] * bool(flags & 0x40) + [ADAPTATION] * bool(flags & 7)
     body = p[5 + p[4] if p[3] & 0x20 else 4:] if p[1] >> 6 == 1 and p[3] >> 6 == 0 and p[3] & 0x10 else b""
+    begins = len(body) > 8 and body[:3] == b"\0\0\1" and body[3] not in FLAGLESS and body[7] >= 0x80
+    flags = adaptation_flags(p) & ~(jobs.RANDOM_ACCESS if begins else 0)
+    told = [TRANSPORT_PRIORITY] * bool(p[1] & 0x20) + [name for bit, name in INDICATORS if flags & bit]
     if len(body) < 9:
         return told + [UNREAD] * bool(body)
     if body[:3] != b"\0\0\1" or body[3] in FLAGLESS:
@@ -125,6 +135,7 @@ class Stream:
     def __init__(self, data):
         data, slips, self.fields = in_step(data)
         self.count, self.pids, self.lines, self.bad = len(data) // 188, {}, slips, 0
+        accesses = {at // 188 for at in range(0, len(data) - 187, 188) if adaptation_flags(data[at: at + 188]) & jobs.RANDOM_ACCESS}
         for packet in range(self.count):
             fields = syntax.read_packet(data[188 * packet: 188 * packet + 188])
             if isinstance(fields, int):
@@ -133,7 +144,7 @@ class Stream:
             elif fields["error"]:
                 self.lines.append(f"packet {packet} errored")
             elif fields["pid"] != 8191:
-                self.pids.setdefault(fields["pid"], Pid(fields["pid"])).step(packet, fields)
+                self.pids.setdefault(fields["pid"], Pid(fields["pid"], accesses)).step(packet, fields)
         if len(data) % 188:
             self.lines.append(f"rest of {len(data) % 188} bytes")
         for pid in self.pids.values():
@@ -159,8 +170,9 @@ def descriptors(data):
 
 
 def of_multiplex(tag, body):
-    """Whether a descriptor speaks of the rates and buffers of the multiplex in which it stands: 12, 14, 16, STD without leak, managed HRD."""
-    return tag in (12, 14, 16) or tag == 17 and body[:1] != b"" and not body[0] & 1 or tag == 42 and body[:1] >= b"\x80"
+    """Whether a descriptor speaks of the rates and buffers of the multiplex in which it stands: 12, 14, 16, STD without leak, managed HRD of AVC and of HEVC."""
+    managed = tag == 42 and body[:1] >= b"\x80" or tag == 63 and body[:1] == b"\x03" and body[1:2] >= b"\x80"
+    return tag in (12, 14, 16) or tag == 17 and body[:1] != b"" and not body[0] & 1 or managed
 
 
 def kept(data):
