@@ -1,6 +1,6 @@
 -- A written header is one by the table of fields, and is read again.
-use Rattle.std.proofs.Common.{◌≡◌, ℕ, ◌+◌, ◌*◌, ◌/◌, ◌%◌, ◌^◌, ◌<◌, ◌≤◌, ◌==◌, ◌&&◌, ◌||◌, not, nat_le, zero, suc, ◌-◌, Bool, true, false, cond, Option, Some, None, is_some, option_map, IfSome, List, [], ◌∷◌, ◌++◌, length, replicate, refl, sym, ap, ◌∙◌, arith, ◌⊎◌, inl, inr, IsTrue}
-use Rattle.std.proofs.lemmas.Bool.{eqb-true, ne_eqb, and_parts, or_from, leb-true, le-leb}
+use Rattle.std.proofs.Common.{◌≡◌, ℕ, ◌+◌, ◌*◌, ◌/◌, ◌%◌, ◌^◌, ◌<◌, ◌≤◌, ◌==◌, ◌&&◌, ◌||◌, not, nat_le, zero, suc, ◌-◌, Bool, true, false, cond, Option, Some, None, is_some, option_map, IfSome, Ok, drop, List, [], ◌∷◌, ◌++◌, length, replicate, refl, sym, ap, ◌∙◌, arith, ◌⊎◌, inl, inr, IsTrue}
+use Rattle.std.proofs.lemmas.Bool.{eqb-true, ne_eqb, and_parts, or_from, leb-true, le-leb, le-ltb}
 use Rattle.std.proofs.lemmas.List.{length-append, length-replicate, take_at, drop_at}
 use Rattle.bit_fields.specs.Fields.{IsBytes, bit, flag}
 use Rattle.bit_fields.proofs.ByteLists.{IsBytes-cons, IsBytes-nil, IsBytes-append}
@@ -144,7 +144,7 @@ data_fits false true n h = omega arith
 data_fits false false n h = omega arith
 
 -- PES_private_data is read behind the stamps
-first_again : (bytes more : List ℕ) → first_sixteen (sixteen bytes ++ more) ≡ Some (sixteen bytes)
+pub first_again : (bytes more : List ℕ) → first_sixteen (sixteen bytes ++ more) ≡ Some (sixteen bytes)
 unfolding first_sixteen
 first_again bytes more =
     let some : 16 ≤ length (sixteen bytes ++ more) = omega (arith, length-append (sixteen bytes) more, sixteen_size bytes) in
@@ -153,11 +153,11 @@ first_again bytes more =
 private_again : (second : ℕ) (private : Option (List ℕ)) (wire more : List ℕ) → flag (second + 0) 1 ≡ false → flag (second + 1) 1 ≡ true
     → before_extension (second + 1) ≡ length wire → private_at (second + bit (is_some private)) (wire ++ (extension private ++ more)) ≡ option_map sixteen private
 unfolding private_at private_in
-private_again second None wire more no yes skips = rw no refl
-private_again second (Some bytes) wire more no yes skips =
+private_again second None wire more unset set skips = rw unset refl
+private_again second (Some bytes) wire more unset set skips =
     let behind : drop (before_extension (second + 1)) (wire ++ ((0x8E ∷ sixteen bytes) ++ more)) ≡ (0x8E ∷ sixteen bytes) ++ more =
     drop_at wire ((0x8E ∷ sixteen bytes) ++ more) (before_extension (second + 1)) (sym skips) in
-    rw (yes, behind) (first_again bytes more)
+    rw (set, behind) (first_again bytes more)
 
 -- a header with these stamps
 with_stands : (id size : ℕ) (marks : Marks) (second : ℕ) (stamps : Stamps) (wire rest : List ℕ) → id < 256 → has_flags id ≡ true
@@ -174,7 +174,7 @@ with_stands : (id size : ℕ) (marks : Marks) (second : ℕ) (stamps : Stamps) (
     })
     (length (header_with id size marks second wire))
 unfolding header_with pes_start_bytes
-with_stands id size marks second stamps wire rest hi flagged hs announced no yes skips short stand fits =
+with_stands id size marks second stamps wire rest hi flagged hs announced unset set skips short stand fits =
     let n : ℕ = length wire in
     let others : List ℕ = extension marks.private_data ++ stuffing marks n in
     let flags : List ℕ = (0x80 + flag_bits marks.flags) ∷ (second + bit (is_some marks.private_data)) ∷ data_length marks n ∷ [] in
@@ -203,7 +203,7 @@ with_stands id size marks second stamps wire rest hi flagged hs announced no yes
     three_bytes (0x80 + flag_bits marks.flags) (second + bit (is_some marks.private_data)) (data_length marks n) (flag_byte_fits marks.flags)
     (omega (arith, hs, bit_most (is_some marks.private_data))) below in
     let private : option_map sixteen marks.private_data ≡ private_at (second + bit (is_some marks.private_data)) (wire ++ others) =
-    sym (private_again second marks.private_data wire (stuffing marks n) no yes skips) in
+    sym (private_again second marks.private_data wire (stuffing marks n) unset set skips) in
     record {
       is = record {
         start = start;
@@ -225,7 +225,8 @@ with_stands id size marks second stamps wire rest hi flagged hs announced no yes
         });
       };
       read = start_again header start (flags ++ (wire ++ others)) rest (start_is_bytes id (packet_length (3 + data_length marks n + size)) hi (packet_length_fits (3 + data_length marks n + size)))
-          front (rw flagged (flagged_by header flags wire others rest flags_fit fits flag_bytes filled stand counted private));
+          front (rw flagged (flagged_by header flags wire others rest flags_fit fits flag_bytes filled stand counted private))
+          ∙ ap (λ (k : ℕ). Ok (header, k)) (sym (length-append start (flags ++ (wire ++ others))));
     }
 
 -- a header with a PTS alone

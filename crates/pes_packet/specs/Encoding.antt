@@ -30,7 +30,7 @@ unfoldable pub header_with : ℕ → ℕ → Marks → ℕ → List ℕ → List
 header_with id size marks second stamps =
     pes_start_bytes id (packet_length (3 + data_length marks (length stamps) + size))
     ++ ((0x80 + flag_bits marks.flags) ∷ (second + bit (is_some marks.private_data)) ∷ data_length marks (length stamps) ∷ [])
-    ++ stamps ++ extension marks.private_data ++ stuffing marks (length stamps)
+    ++ (stamps ++ (extension marks.private_data ++ stuffing marks (length stamps)))
 
 -- a header with a PTS alone
 unfoldable pub pts_header : ℕ → ℕ → Marks → ℕ → List ℕ

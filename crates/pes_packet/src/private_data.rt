@@ -1,9 +1,9 @@
 //! PES_private_data in the PES extension of a header (ISO/IEC 13818-1, 2.4.3.6 and 2.4.3.7).
 
-ghost use Rattle.std.specs.Prelude.{◌≡◌, ◌≤◌, ◌*◌, is_some, if◌then◌else◌};
+ghost use Rattle.std.specs.Prelude.{◌≡◌, ◌≤◌, ◌*◌, is_some, option_map, if◌then◌else◌};
 ghost use Rattle.arrayvec.specs.ArrayVec.{array_vec_len};
 ghost use Rattle.bit_fields.specs.Fields.{bit};
-ghost use Rattle.pes_packet.specs.Marks.{extension, first_sixteen};
+ghost use Rattle.pes_packet.specs.Marks.{extension, first_sixteen, sixteen};
 ghost use Rattle.pes_packet.specs.PrivateData.{before_extension, private_at, private_in};
 
 use arrayvec::ArrayVec;
@@ -37,6 +37,17 @@ pub(crate) fn extension(private_data: Option<[u8; 16]>) -> ArrayVec<u8, 17>
             extension
         }
         None => extension,
+    }
+}
+
+/// Returns PES_private_data as it is: 16 bytes, as its type says.
+#[tactic(auto, using(crate::proofs::Sixteen::sixteen_is))]
+pub(crate) fn exactly(private_data: Option<[u8; 16]>) -> Option<[u8; 16]>
+    ensures { result ≡ option_map sixteen private_data }
+{
+    match private_data {
+        Some(bytes) => Some(bytes),
+        None => None,
     }
 }
 

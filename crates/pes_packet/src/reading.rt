@@ -7,7 +7,7 @@ ghost use Rattle.pes_packet.specs.HeaderMarks.{header_marks};
 ghost use Rattle.pes_packet.specs.Syntax.{IsPesHeader};
 
 use crate::marks::{Marks, PesFlags};
-use crate::private_data::private_at;
+use crate::private_data::{exactly, private_at};
 use crate::refusal::PesError;
 use crate::stream_ids::has_flags;
 use crate::time_stamps::{Stamps, stamps_at};
@@ -36,7 +36,6 @@ pub struct PesHeader {
 impl PesHeader {
     /// Gives the marks that the header says: its flags, whether it has 45 bytes, and PES_private_data; the
     /// random_access_indicator is its packet's.
-    #[tactic(auto, using(crate::proofs::Sixteen::same_private))]
     pub fn marks(&self, random_access: bool) -> Marks
         ensures { result ≡ header_marks random_access self.now }
     {
@@ -44,7 +43,7 @@ impl PesHeader {
             random_access,
             flags: self.flags,
             long: self.data_length == 36,
-            private_data: self.private_data,
+            private_data: exactly(self.private_data),
         }
     }
 }
