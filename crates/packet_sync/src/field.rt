@@ -181,12 +181,21 @@ pub(crate) fn extension_flags(payload: &[u8]) -> u8
     }
 }
 
+// Whether the header data end before the 16 bytes of PES_private_data do.
+fn lacks_private_data(payload: &[u8]) -> bool
+    requires { 9 ≤ length payload.now }
+    ensures { result ≡ spec.lacks_private_data payload.now }
+{
+    let end = 9 + payload[8] as usize;
+    end < 17 || end - 17 < extension_place(payload[7])
+}
+
 /// Returns whether PES_private_data is there that no unit carries: of a PES packet that goes on with a unit, or not
 /// whole.
 pub(crate) fn loses_private_data(payload: &[u8]) -> bool
     requires { 9 ≤ length payload.now }
     ensures { result ≡ spec.loses_private_data payload.now }
 {
-    let lacks = 9 + (payload[8] as usize) < extension_place(payload[7]) + 17;
-    extension_flags(payload) / 128 == 1 && (payload[7] < 128 || lacks)
+    let is_lost = payload[7] < 128 || lacks_private_data(payload);
+    extension_flags(payload) / 128 == 1 && is_lost
 }
