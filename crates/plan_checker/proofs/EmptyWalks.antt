@@ -12,7 +12,7 @@ use Rattle.own_slots.proofs.Counts.{own_before_own, own_before_other, own_before
 use Rattle.own_slots.proofs.Extremes.{greatest_none, greatest_more}
 use Rattle.own_slots.proofs.PositionLemmas.{own_before_period, positions_law, position_turns}
 use Rattle.unit_timing.specs.EmptyBuffers.{empty_slots}
-use Rattle.plan_checker.specs.declared.empty_slots.EmptyWalk.{EmptyWalk}
+use Rattle.plan_checker.specs.declared.empties.EmptyWalk.{EmptyWalk}
 use Rattle.plan_checker.specs.EmptyWalks.{one_more, passed, round_gap, rounded}
 
 -- ---- which slots they are
@@ -41,7 +41,7 @@ empty_at rate drain start marks s mark work lt is now =
 -- ---- the walk
 
 -- from one of them to the next
-step : List Bool → ℕ → ℕ
+abbrev pub step : List Bool → ℕ → ℕ
 step E i = position E (i + 1) - position E i
 
 -- the walk has passed the first s slots of a period, in which these are marked

@@ -1,7 +1,7 @@
 -- A walk over the slots of a period, for those in which a buffer becomes empty.
 use Rattle.std.specs.Prelude.{ℕ, ◌+◌, ◌-◌, ◌==◌, max, Bool, if◌then◌else◌}
-use Rattle.plan_checker.specs.declared.empty_slots.EmptyWalk.{EmptyWalk}
-use Rattle.plan_checker.specs.declared.empty_slots.EmptySlots.{EmptySlots}
+use Rattle.plan_checker.specs.declared.empties.EmptyWalk.{EmptyWalk}
+use Rattle.plan_checker.specs.declared.empties.EmptySlots.{EmptySlots}
 
 -- past slot number `at`, one more of them
 abbrev pub one_more : EmptyWalk → ℕ → EmptyWalk

@@ -17,7 +17,7 @@ ghost use Rattle.plan_checker.specs.Failing.{after, search_of};
 use crate::claims::{claim_of_multiplexing, claim_of_program, claim_of_stream};
 use crate::comparison::at_most;
 use crate::conditions::ItemCondition;
-use crate::empty_slots::empty_slots;
+use crate::empties::empty_slots;
 use crate::failure_search::FailureSearch;
 use crate::plans::ShapedPlan;
 use crate::work::{Work, work_of};

@@ -1,3 +1,4 @@
 pub mod OnePlan
 pub mod OwnSlotsInTurn
 pub mod TwoPlans
+pub mod Waiting

@@ -22,29 +22,34 @@ use Rattle.unit_timing.specs.Plans.{StreamServed, ProgramServed}
 use Rattle.unit_timing.specs.Conditions.{lead_across, time_given, bytes_across, share_of, StreamSwitchConditions, ProgramSwitchConditions}
 use Rattle.unit_timing.specs.VideoPlans.{VideoSwitchConditions, VideoServed}
 use Rattle.unit_timing.specs.AccessUnits.{FramedSwitchConditions, framed_across}
+use Rattle.unit_timing.specs.EmptyBuffers.{EmptiesAcross}
+use Rattle.unit_timing.specs.EmptyPlans.{StreamEmptied, VideoEmptied}
 use Rattle.unit_timing.proofs.AccessUnitLemmas.{framed_law}
 use Rattle.unit_timing.proofs.PlanLemmas.{stream_switch_law, program_switch_law}
 use Rattle.unit_timing.proofs.VideoLemmas.{video_switch_law}
+use Rattle.unit_timing.proofs.EmptyPlanLemmas.{empty_switch_law}
 use Rattle.description.specs.Described.{Described, DescribedStream}
 use Rattle.description.specs.Ranges.{IsInRange}
 use Rattle.description.specs.Tables.{table_kinds, table_limit, round_packets}
 use Rattle.slot_plan.specs.declared.slot.Item.{Item}
 use Rattle.slot_plan.specs.declared.slot.Item.TheVariants.{Stream, Pcr, Table, System}
 use Rattle.slot_plan.specs.Planned.{Planned}
+use Rattle.slot_plan.specs.Entries.{Entry}
 use Rattle.slot_plan.specs.Items.{marks}
 use Rattle.slot_plan.specs.declared.condition.Condition.TheVariants.{PcrSwitch, TableSwitch, WorkSwitch, LeadSwitch, MainSwitch, ElementarySwitch}
 use Rattle.slot_plan.specs.Claims.{declaration, stream_claim, program_claim, stream_share, multiplexing_claim, elementary_declaration, elementary_share}
 use Rattle.slot_plan.specs.Conditions.{entries_from, group_part}
-use Rattle.slot_plan.specs.SwitchConditions.{gap_across, pcr_switch_entry, table_switch_entry, stream_work_entry, transport_work_entry, system_work_entry, multiplexing_work_entries, lead_switch_entry, main_switch_entry, frame_switch_entry, frame_switch_entries, elementary_switch_entry, elementary_switch_entries, owns_same, is_finer, continues, if_changed}
+use Rattle.slot_plan.specs.SwitchConditions.{gap_across, pcr_switch_entry, table_switch_entry, work_switch_entry, emptied_switch_entry, stream_work_entry, stream_work_entries, stream_emptied_switch_entries, transport_work_entry, system_work_entry, multiplexing_work_entries, lead_switch_entry, main_switch_entry, frame_switch_entry, frame_switch_entries, elementary_switch_entry, elementary_switch_entries, owns_same, is_finer, continues, if_changed}
 use Rattle.slot_plan.specs.Schedule.{OwnedLaw, single, switched, owned}
 use Rattle.slot_plan.specs.TableRounds.{first_packet}
 use Rattle.slot_plan.proofs.HeldConditions.{holds_both, holds_item, at_most_holds}
 use Rattle.slot_plan.proofs.ConditionLists.{Hold, serves, FollowingConditions, follows}
-use Rattle.slot_plan.proofs.ItemConditions.{holds_element, holds_count}
+use Rattle.slot_plan.proofs.ItemConditions.{holds_element, holds_count, holds_emptied_switch}
 use Rattle.plan_timing.specs.Promised.{leak_of, Promised, SwitchLaw}
 use Rattle.plan_timing.specs.FramesServed.{FramesServed}
-use Rattle.plan_timing.proofs.OnePlan.{length_marks, proper, proper_leak, claim_of, leak_claim_of, program_claim_of, stream_holds, framing_ranges, video_holds, program_holds, pcr_gap_holds, table_gap_holds, first_packet_below, plan_law}
+use Rattle.plan_timing.proofs.OnePlan.{length_marks, proper, proper_leak, claim_of, leak_claim_of, program_claim_of, stream_holds, framing_ranges, video_holds, emptied_holds, leak_emptied_holds, lead_short, program_holds, pcr_gap_holds, table_gap_holds, first_packet_below, plan_law}
 use Rattle.plan_timing.proofs.OwnSlotsInTurn.{owned_over, owned_on}
+use Rattle.plan_timing.proofs.Waiting.{waits_law}
 
 lead_joins : (d : Described) (first second : Planned) (i : ℕ) (s : DescribedStream) → Hold (entries_from (lead_switch_entry d first second i s) 1 (allowance_rows s.allowance)) →
     (m : ℕ) → 0 < m → m ≤ allowance_rows s.allowance →
@@ -65,6 +70,40 @@ mains_join d first second i s follows is changed = holds_both (main_switch_entry
     (rw changed at (holds_element (λ j t. if_changed d first second j (main_switch_entry d first second j t ∷ frame_switch_entries d first second j t t.framing))
     d.streams i s follows.main_buffers is))
 
+-- those of its transport buffer, and of its multiplexing buffer if it has one: of their work, and that they are empty at least once a
+-- second
+works_join : (d : Described) (first second : Planned) (i : ℕ) (s : DescribedStream) → FollowingConditions d first second → slice_get d.streams i ≡ Some s →
+    Hold (stream_work_entry d first second i s ∷ []) × Hold (stream_emptied_switch_entries d first second i s s.multiplexing)
+works_join d first second i s follows is = holds_both (stream_work_entry d first second i s ∷ []) (stream_emptied_switch_entries d first second i s s.multiplexing)
+    (holds_element (stream_work_entries d first second) d.streams i s follows.stream_works is)
+
+leak_work_entry : (d : Described) (first second : Planned) (i : ℕ) (b : LeakingBuffer) → Entry
+leak_work_entry d first second i b = work_switch_entry (length d.streams + 2 * length d.programs + i) d.rate b.rbx (multiplexing_claim first i).start
+    (marks (Stream i) first.slots) (multiplexing_claim second i).start
+
+leak_emptied_entry : (d : Described) (first second : Planned) (i : ℕ) (b : LeakingBuffer) → Entry
+leak_emptied_entry d first second i b = emptied_switch_entry (length d.streams + 2 * length d.programs + i) d.rate b.rbx (multiplexing_claim first i).start
+    (marks (Stream i) first.slots) (multiplexing_claim second i).start (marks (Stream i) second.slots)
+
+leak_works_join : (d : Described) (first second : Planned) (i : ℕ) (s : DescribedStream) (b : LeakingBuffer) → FollowingConditions d first second →
+    slice_get d.streams i ≡ Some s → s.multiplexing ≡ Some b → Hold (leak_work_entry d first second i b ∷ []) × Hold (leak_emptied_entry d first second i b ∷ [])
+leak_works_join d first second i s b follows is some = holds_both (leak_work_entry d first second i b ∷ []) (leak_emptied_entry d first second i b ∷ [])
+    (rw some at (holds_element (λ j t. multiplexing_work_entries d first second j t.multiplexing) d.streams i s follows.multiplexing_works is))
+
+emptied_joins : (d : Described) (first second : Planned) (i : ℕ) (s : DescribedStream) (b : LeakingBuffer) → FollowingConditions d first second →
+    slice_get d.streams i ≡ Some s → s.multiplexing ≡ Some b →
+    EmptiesAcross d.rate s.rx (stream_claim first i).start (marks (Stream i) first.slots) (stream_claim second i).start (marks (Stream i) second.slots)
+emptied_joins d first second i s b follows is some =
+    holds_emptied_switch i d.rate s.rx (stream_claim first i).start (marks (Stream i) first.slots) (stream_claim second i).start (marks (Stream i) second.slots)
+    (rw some at (works_join d first second i s follows is).1)
+
+leak_emptied_joins : (d : Described) (first second : Planned) (i : ℕ) (s : DescribedStream) (b : LeakingBuffer) → FollowingConditions d first second →
+    slice_get d.streams i ≡ Some s → s.multiplexing ≡ Some b →
+    EmptiesAcross d.rate b.rbx (multiplexing_claim first i).start (marks (Stream i) first.slots) (multiplexing_claim second i).start (marks (Stream i) second.slots)
+leak_emptied_joins d first second i s b follows is some =
+    holds_emptied_switch (length d.streams + 2 * length d.programs + i) d.rate b.rbx (multiplexing_claim first i).start (marks (Stream i) first.slots)
+    (multiplexing_claim second i).start (marks (Stream i) second.slots) (leak_works_join d first second i s b follows is some).1
+
 stream_joins : (d : Described) (first second : Planned) (i : ℕ) (s : DescribedStream) → FollowingConditions d first second → slice_get d.streams i ≡ Some s →
     continues d first second i ≡ false →
     StreamSwitchConditions d.rate (declaration s) (claim_of first i) (marks (Stream i) first.slots) (claim_of second i) (marks (Stream i) second.slots)
@@ -75,7 +114,7 @@ stream_joins d first second i s follows is changed =
     (mains_join d first second i s follows is changed).0 in
     record {
       work = at_most_holds WorkSwitch 0 i (work_left d.rate s.rx (stream_claim first i).start (marks (Stream i) first.slots)) (stream_claim second i).start
-          (holds_element (λ j t. stream_work_entry d first second j t ∷ []) d.streams i s follows.stream_works is);
+          (works_join d first second i s follows is).0;
       lead_serves = λ m some below.
           let shorter = rw (length_marks (Stream i) first.slots, length_marks (Stream i) second.slots) at (lead m some below) in
           rw (length_marks (Stream i) first.slots, length_marks (Stream i) second.slots) shorter;
@@ -122,7 +161,7 @@ video_joins d first second i s b follows is changed some = let joins = stream_jo
   transport = joins.work;
   multiplexing = at_most_holds WorkSwitch 0 (length d.streams + 2 * length d.programs + i)
       (work_left d.rate b.rbx (multiplexing_claim first i).start (marks (Stream i) first.slots)) (multiplexing_claim second i).start
-      (rw some at (holds_element (λ j t. multiplexing_work_entries d first second j t.multiplexing) d.streams i s follows.multiplexing_works is));
+      (leak_works_join d first second i s b follows is some).0;
   lead_serves = λ m one below.
       let shorter = rw (length_marks (Stream i) first.slots, length_marks (Stream i) second.slots) at (elementary_joins d first second i s b follows is changed some m one below) in
       rw (length_marks (Stream i) first.slots, length_marks (Stream i) second.slots) shorter;
@@ -177,6 +216,25 @@ switch_law law d first second periods ranges serving switchable =
             (proper d i s ranges is) (proper_leak d i s b ranges is some) (video_holds d first i s b k is some) (video_holds d second i s b f.serves is some)
             (video_joins d first second i s b f is changed some) keeps)
       ];
+      emptied = λ i s b units is some. elim (cases_Bool (continues d first second i)) [
+        | inl same ↦ (
+          subst (λ (o : ℕ → Bool). StreamEmptied o d.rate (declaration s) units) (on i same) (alone.emptied i s b units is some).0,
+          subst (λ (o : ℕ → Bool). VideoEmptied o d.rate (declaration s) (leak_of b) units) (on i same) (alone.emptied i s b units is some).1,
+        )
+        | inr changed ↦ (
+          subst (λ (o : ℕ → Bool). StreamEmptied o d.rate (declaration s) units) (owned_over law first.slots second.slots periods (Stream i))
+              (empty_switch_law.stream d.rate (declaration s) (claim_of first i) (marks (Stream i) first.slots) (claim_of second i) (marks (Stream i) second.slots) periods units
+              (proper d i s ranges is) (stream_holds d first i s k is) (stream_holds d second i s f.serves is) (stream_joins d first second i s f is changed)
+              (emptied_holds d first i s b k is some) (emptied_holds d second i s b f.serves is some) (emptied_joins d first second i s b f is some)),
+          subst (λ (o : ℕ → Bool). VideoEmptied o d.rate (declaration s) (leak_of b) units) (owned_over law first.slots second.slots periods (Stream i))
+              (empty_switch_law.video d.rate (declaration s) (leak_of b) (claim_of first i) (leak_claim_of first i) (marks (Stream i) first.slots)
+              (claim_of second i) (leak_claim_of second i) (marks (Stream i) second.slots) periods units
+              (proper d i s ranges is) (proper_leak d i s b ranges is some) (video_holds d first i s b k is some) (video_holds d second i s b f.serves is some)
+              (video_joins d first second i s b f is changed some) (leak_emptied_holds d first i s b k is some) (leak_emptied_holds d second i s b f.serves is some)
+              (leak_emptied_joins d first second i s b f is some)),
+        )
+      ];
+      waits = λ i s units n is. waits_law (owned (switched first.slots periods second.slots) (Stream i)) d.rate s.lead s.rx n units (lead_short d i s ranges is);
       frames = λ i s g packets is some cut keeps. elim (cases_Bool (continues d first second i)) [
         | inl same ↦ subst (λ (o : ℕ → Bool). FramesServed o d.rate (declaration s) g packets) (on i same) (alone.frames i s g packets is some cut keeps)
         | inr changed ↦ subst (λ (o : ℕ → Bool). FramesServed o d.rate (declaration s) g packets) (owned_over law first.slots second.slots periods (Stream i))

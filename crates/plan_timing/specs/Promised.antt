@@ -1,5 +1,5 @@
 -- What a description asks of the schedule that serves it, over runs of any length.
-use Rattle.std.specs.Prelude.{◌≡◌, ℕ, ◌+◌, ◌*◌, ◌<◌, ◌×◌, List, Some, length, map, slice_get, All}
+use Rattle.std.specs.Prelude.{◌≡◌, ℕ, ◌+◌, ◌*◌, ◌<◌, List, Some, length, map, slice_get, All}
 use Rattle.clock27.specs.Recurrence.{Recur}
 use Rattle.own_slots.specs.Slots.{own_slots}
 use Rattle.unit_timing.specs.PesPacket.{PesPacket}

@@ -3,7 +3,7 @@ use Rattle.own_slots.specs.Work.{work_at}
 use Rattle.unit_timing.specs.EmptyBuffers.{empty_slots}
 use Rattle.slot_plan.specs.Items.{marks}
 use Rattle.plan_checker.proofs.EmptyWalks.{Walks}
-use Rattle.plan_checker.proofs.empty_slots.empty_slots.Given as goal
+use Rattle.plan_checker.proofs.empties.empty_slots.Given as goal
 
 abbrev pub invariant-loop-at : goal.invariant-loop-at
 invariant-loop-at l = record {
