@@ -1,6 +1,6 @@
 -- A walk over the slots of a period finds those in which a buffer becomes empty.
-use Rattle.std.proofs.Common.{◌≡◌, ℕ, zero, suc, ◌+◌, ◌-◌, ◌*◌, ◌/◌, ◌%◌, ◌<◌, ◌≤◌, ◌==◌, ◌&&◌, max, not, nat_lt, Bool, true, false, cond, List, [], ◌∷◌, length, get_or, refl, ap, sym, ◌∙◌, inl, inr, arith, add-one}
-use Rattle.std.proofs.Math.Nat.{mod-eq_of_lt, zero-mul}
+use Rattle.std.proofs.Common.{◌≡◌, ℕ, zero, suc, ◌+◌, ◌-◌, ◌*◌, ◌/◌, ◌%◌, ◌<◌, ◌≤◌, ◌==◌, ◌&&◌, max, not, nat_lt, Bool, true, false, List, [], ◌∷◌, length, get_or, refl, ap, sym, ◌∙◌, inl, inr, arith, add-one}
+use Rattle.std.proofs.Math.Nat.{mod-eq_of_lt}
 use Rattle.std.proofs.lemmas.Bool.{cases_Bool, cases_lt}
 use Rattle.std.proofs.lemmas.Bool.Decides.{nat_tests}
 use Rattle.own_slots.specs.Slots.{own_before}
@@ -13,7 +13,7 @@ use Rattle.own_slots.proofs.Extremes.{greatest_none, greatest_more}
 use Rattle.own_slots.proofs.PositionLemmas.{own_before_period, positions_law, position_turns}
 use Rattle.unit_timing.specs.EmptyBuffers.{empty_slots}
 use Rattle.plan_checker.specs.declared.empties.EmptyWalk.{EmptyWalk}
-use Rattle.plan_checker.specs.EmptyWalks.{one_more, passed, round_gap, rounded}
+use Rattle.plan_checker.specs.EmptyWalks.{one_more, passed, round_gap}
 
 -- ---- which slots they are
 
@@ -93,9 +93,9 @@ walk_further E s w lt is one walks =
     let e : w.count + 1 - 1 ≡ w.count = omega arith in
     let f : w.count - 1 + 1 ≡ w.count = omega (arith, one) in
     let there : step E (w.count - 1) ≡ s - w.last = ap (λ (n : ℕ). position E n - position E (w.count - 1)) f
-        ∙ ap (λ (n : ℕ). n - position E (w.count - 1)) at ∙ ap (λ (n : ℕ). s - n) (walks.last one) in
+    ∙ ap (λ (n : ℕ). n - position E (w.count - 1)) at ∙ ap (λ (n : ℕ). s - n) (walks.last one) in
     let all : greatest w.count (step E) ≡ max (greatest (w.count - 1) (step E)) (step E (w.count - 1)) =
-        ap (λ (n : ℕ). greatest n (step E)) (sym f) ∙ greatest_more (w.count - 1) (step E) in
+    ap (λ (n : ℕ). greatest n (step E)) (sym f) ∙ greatest_more (w.count - 1) (step E) in
     record {
       counted = rw (add-one s) (omega (arith, own_before_own (own E) s is, walks.counted));
       first = λ more. walks.first one;

@@ -128,7 +128,13 @@ fn stream_overflow<A: Allocator>(
     let claim = claim_of_stream(plans.plan, i);
     let rate = plans.description.rate().bits_per_second();
     let item = Item::Stream(i as u8);
-    let work = work_of(plans.plan.slots(), item, rate, stream.rx as u64, claim.start);
+    let work = work_of(
+        plans.plan.slots(),
+        item,
+        rate,
+        stream.rx as u64,
+        claim.start,
+    );
     buffer(
         Condition::TransportBuffer,
         i as u32,

@@ -1,9 +1,9 @@
 -- The own slots of an item over two plans, by the marks of both periods; and if these are the same, those of the first plan alone.
-use Rattle.std.specs.Prelude.{ℕ, ◌+◌, ◌-◌, ◌*◌, ◌%◌, ◌≤◌, ◌==◌, ◌&&◌, Bool, true, false, List, [], ◌∷◌, length, nat_lt, slice_index_or}
+use Rattle.std.specs.Prelude.{ℕ, ◌+◌, ◌-◌, ◌*◌, ◌%◌, ◌≤◌, ◌==◌, Bool, true, false, List, [], ◌∷◌, length, nat_lt, slice_index_or}
 use Rattle.std.specs.Bool.{beq}
 use Rattle.std.specs.List.{list_all, zip}
 use Rattle.std.proofs.Common.{◌≡◌, refl, sym, ap, ap₂, ◌∙◌, inl, inr, arith}
-use Rattle.std.proofs.lemmas.Bool.{cases_Bool, and_parts, same_from_beq, eqb-true, ltb-false}
+use Rattle.std.proofs.lemmas.Bool.{cases_Bool, and_parts, eqb-true, ltb-false}
 use Rattle.std.proofs.Math.Nat.{add-mul-mod_self_right}
 use Rattle.own_slots.specs.Period.{own}
 use Rattle.own_slots.specs.Switch.{joined}
@@ -30,6 +30,12 @@ in_slot m periods s = elim (cases_Bool (nat_lt s (periods * length m))) [
 repeated_on : (m : List Bool) (periods : ℕ) → joined (own m) (own m) (periods * length m) ≡ own m
 repeated_on m periods i s = in_slot m periods s i
 
+same_mark : (x y : Bool) → beq x y ≡ true → x ≡ y
+same_mark true true e = refl
+same_mark true false e = sym e
+same_mark false true e = e
+same_mark false false e = refl
+
 -- an item owns the same slots of both periods: its marks are the same
 marked : (item : Item) (first second : List Slot) → length first ≡ length second →
     list_all (λ p. beq (is_own item p.0) (is_own item p.1)) (zip first second) ≡ true → marks item first ≡ marks item second
@@ -38,7 +44,7 @@ marked item [] (b ∷ second) e all = absurd (omega (arith, e))
 marked item (a ∷ first) [] e all = absurd (omega (arith, e))
 marked item (a ∷ first) (b ∷ second) e all =
     let both = and_parts (beq (is_own item a) (is_own item b)) (list_all (λ p. beq (is_own item p.0) (is_own item p.1)) (zip first second)) all in
-    ap₂ (λ (x : Bool) (xs : List Bool). x ∷ xs) (same_from_beq _ _ both.0) (marked item first second (omega (arith, e)) both.1)
+    ap₂ (λ (x : Bool) (xs : List Bool). x ∷ xs) (same_mark (is_own item a) (is_own item b) both.0) (marked item first second (omega (arith, e)) both.1)
 
 same_marks : (item : Item) (first second : List Slot) → owns_same item first second ≡ true → marks item first ≡ marks item second
 same_marks item first second same =

@@ -31,7 +31,6 @@ use Rattle.unit_timing.proofs.EmptyPlanLemmas.{empty_switch_law}
 use Rattle.description.specs.Described.{Described, DescribedStream}
 use Rattle.description.specs.Ranges.{IsInRange}
 use Rattle.description.specs.Tables.{table_kinds, table_limit, round_packets}
-use Rattle.slot_plan.specs.declared.slot.Item.{Item}
 use Rattle.slot_plan.specs.declared.slot.Item.TheVariants.{Stream, Pcr, Table, System}
 use Rattle.slot_plan.specs.Planned.{Planned}
 use Rattle.slot_plan.specs.Entries.{Entry}
@@ -77,11 +76,11 @@ works_join : (d : Described) (first second : Planned) (i : ℕ) (s : DescribedSt
 works_join d first second i s follows is = holds_both (stream_work_entry d first second i s ∷ []) (stream_emptied_switch_entries d first second i s s.multiplexing)
     (holds_element (stream_work_entries d first second) d.streams i s follows.stream_works is)
 
-leak_work_entry : (d : Described) (first second : Planned) (i : ℕ) (b : LeakingBuffer) → Entry
+abbrev leak_work_entry : (d : Described) (first second : Planned) (i : ℕ) (b : LeakingBuffer) → Entry
 leak_work_entry d first second i b = work_switch_entry (length d.streams + 2 * length d.programs + i) d.rate b.rbx (multiplexing_claim first i).start
     (marks (Stream i) first.slots) (multiplexing_claim second i).start
 
-leak_emptied_entry : (d : Described) (first second : Planned) (i : ℕ) (b : LeakingBuffer) → Entry
+abbrev leak_emptied_entry : (d : Described) (first second : Planned) (i : ℕ) (b : LeakingBuffer) → Entry
 leak_emptied_entry d first second i b = emptied_switch_entry (length d.streams + 2 * length d.programs + i) d.rate b.rbx (multiplexing_claim first i).start
     (marks (Stream i) first.slots) (multiplexing_claim second i).start (marks (Stream i) second.slots)
 

@@ -300,5 +300,7 @@ fn leaking_work<A: Allocator>(
     let next_slots = plans.second.slots();
     let rbx = buffer.rbx as u64;
     work_switch(slots, item, number, rate, rbx, start, next, search);
-    emptied_switch(slots, next_slots, item, number, rate, rbx, start, next, search);
+    emptied_switch(
+        slots, next_slots, item, number, rate, rbx, start, next, search,
+    );
 }

@@ -15,5 +15,5 @@ returns g c =
     let d = c.args.plans.now.description.now in
     let p = c.args.plans.now.plan.now in
     let rooms : List Entry = buffer_entries TransportBuffer c.args.i d.rate s.rx tb_size (stream_claim p c.args.i).start (stream_claim p c.args.i).peak
-        (marks (Stream c.args.i) p.slots) in
+    (marks (Stream c.args.i) p.slots) in
     then_next _ _ _ rooms (stream_emptied_entries d p c.args.i s s.multiplexing) c.stream_overflow.ensures c.stream_emptied.ensures

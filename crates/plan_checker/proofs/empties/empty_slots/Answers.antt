@@ -1,5 +1,4 @@
-use Rattle.std.proofs.Common.{◌≡◌, ℕ, ◌+◌, ◌-◌, ◌*◌, ◌<◌, Bool, false, List, length, get_or, ap, sym, ◌∙◌, subst, arith}
-use Rattle.own_slots.specs.Period.{own}
+use Rattle.std.proofs.Common.{◌≡◌, ℕ, ◌+◌, ◌-◌, ◌<◌, Bool, false, List, length, get_or, ap, sym, ◌∙◌, subst, arith}
 use Rattle.own_slots.specs.Work.{work_step, work_at}
 use Rattle.own_slots.proofs.WorkLemmas.{work_begin, work_more}
 use Rattle.unit_timing.specs.EmptyBuffers.{empty_slots}
@@ -27,9 +26,9 @@ loop-at-preserved c =
     let at : ℕ = c.loop-at.at in
     let within : c.loop-at.at < length (marks c.args.item c.args.slots.now) = omega (arith, length_marks c.args.item c.args.slots.now, c.loop-at-test.true) in
     let inside : c.loop-at.at < length (empty_slots c.args.rate c.args.drain c.args.start (marks c.args.item c.args.slots.now)) =
-        omega (arith, within, length-empty_slots c.args.rate c.args.drain c.args.start (marks c.args.item c.args.slots.now)) in
+    omega (arith, within, length-empty_slots c.args.rate c.args.drain c.args.start (marks c.args.item c.args.slots.now)) in
     let mark : get_or (marks c.args.item c.args.slots.now) c.loop-at.at false ≡ c.owns-owns.result =
-        mark_within c.args.item c.args.slots.now c.loop-at.at _ c.loop-at-test.true ∙ sym c.owns-owns.ensures in
+    mark_within c.args.item c.args.slots.now c.loop-at.at _ c.loop-at-test.true ∙ sym c.owns-owns.ensures in
     record {
       now = c.next_work-work.ensures.next
           ∙ ap (λ (w : ℕ). work_step c.args.rate c.args.drain w c.owns-owns.result) c.loop-at.invariant.now
@@ -48,7 +47,7 @@ at_end : (rate drain start : ℕ) (item : Item) (slots : List Slot) (at : ℕ) (
     Walks (empty_slots rate drain start (marks item slots)) (length (empty_slots rate drain start (marks item slots))) w
 at_end rate drain start item slots at w e walks =
     let all : at ≡ length (empty_slots rate drain start (marks item slots)) =
-        omega (arith, e, length_marks item slots, length-empty_slots rate drain start (marks item slots)) in
+    omega (arith, e, length_marks item slots, length-empty_slots rate drain start (marks item slots)) in
     subst (λ (n : ℕ). Walks (empty_slots rate drain start (marks item slots)) n w) all walks
 
 period : (rate drain start : ℕ) (item : Item) (slots : List Slot) → length slots ≡ length (empty_slots rate drain start (marks item slots))
