@@ -232,3 +232,11 @@ no_room_across = refl
 after_itself : switch_answer (framed 656) base_plan base_plan ≡ None
 unfolding switch_answer framed with_stream
 after_itself = refl
+
+-- a multiplexing buffer to which packets come as fast as it leaks is never empty
+leaking_slowly : Described
+leaking_slowly = with_stream (record base_stream { lead = 2700; multiplexing = Some (record { rbx = 376000; size = 235 }) })
+
+never_empty : answer leaking_slowly (claiming 70688000 282752000 base_slots) ≡ Some (at_most MultiplexingBuffer 4 0 1 0)
+unfolding answer leaking_slowly with_stream claiming
+never_empty = refl
