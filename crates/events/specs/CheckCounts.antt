@@ -6,7 +6,7 @@ use Rattle.events.specs.declared.check_counts.CheckCounts.{CheckCounts}
 use Rattle.events.specs.declared.check_counts.CheckTotals.{CheckTotals}
 use Rattle.events.specs.declared.check_counts.FaultCount.{FaultCount}
 use Rattle.events.specs.declared.event.Event.{Event}
-use Rattle.events.specs.declared.event.Event.TheVariants.{Input, Refused, Continuity, CheckWord, Check as CheckRow, Stream, Window, Held, Units, Excess, MainExcess, MultiplexingExcess, ElementaryExcess, SystemExcess, SystemMainExcess, Late, ElementaryLate, Ahead, PcrRepetition, PcrDiscontinuity, PcrAccuracy, TableRepetition, Unclocked, Transport, Main, Multiplexing, Elementary, System, Clock, Table, Pid, Unreferenced, Missing, End}
+use Rattle.events.specs.declared.event.Event.TheVariants.{Input, Refused, Continuity, CheckWord, Check as CheckRow, Stream, Window, Held, Units, Excess, MainExcess, MultiplexingExcess, ElementaryExcess, SystemExcess, SystemMainExcess, Late, ElementaryLate, Ahead, PcrRepetition, PcrDiscontinuity, PcrAccuracy, TableRepetition, Unclocked, Transport, Main, Multiplexing, Elementary, Marks, System, Clock, Table, Pid, Unreferenced, Missing, End}
 use Rattle.events.specs.declared.event.Event.TheVariants as events
 use Rattle.events.specs.declared.input_event.InputEvent.{InputEvent}
 use Rattle.events.specs.declared.input_event.InputEvent.TheVariants as inputs
@@ -63,6 +63,7 @@ check_of (Transport e) = None
 check_of (Main e) = None
 check_of (Multiplexing e) = None
 check_of (Elementary e) = None
+check_of (Marks e) = None
 check_of (System e) = None
 check_of (Clock e) = None
 check_of (Table e) = None
@@ -100,6 +101,7 @@ packet_of (Transport e) = 0
 packet_of (Main e) = 0
 packet_of (Multiplexing e) = 0
 packet_of (Elementary e) = 0
+packet_of (Marks e) = 0
 packet_of (System e) = 0
 packet_of (Clock e) = 0
 packet_of (Table e) = 0

@@ -2,6 +2,7 @@ pub mod PidNames
 pub mod Windows
 pub mod FieldViews
 pub mod ReportLines
+pub mod MarkLines
 pub mod EventLines
 pub mod Checks
 pub mod CheckCounts

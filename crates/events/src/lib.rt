@@ -15,6 +15,8 @@ mod figure_lines;
 mod input_event;
 mod input_lines;
 mod lines;
+mod mark_event;
+mod mark_lines;
 mod packet_fault;
 mod packet_lines;
 mod pid_name;
@@ -31,6 +33,7 @@ pub use event::{
 };
 pub use event_lines::write_events;
 pub use input_event::{FileForm, InputEvent, OtherRate, SlippedBytes};
+pub use mark_event::MarkTotals;
 pub use packet_fault::{CheckWordFault, CounterFault, RefusalCause, RefusedPacket};
 pub use pid_name::PidName;
 pub use video_event::{ElementaryLate, ElementaryTotals, MultiplexingTotals};
