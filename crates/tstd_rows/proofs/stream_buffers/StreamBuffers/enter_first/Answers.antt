@@ -3,7 +3,7 @@ use Rattle.arrival.specs.Arrivals.{has_times}
 use Rattle.tstd_rows.specs.HeldVideo.{nothing_of_video}
 use Rattle.tstd_rows.specs.Entering.{lead_in, size_of, takes_in}
 use Rattle.tstd_rows.proofs.Packets.{packet_entered, packet_held, packet_video, packet_video_entered, packet_video_unit, taken_in}
-use Rattle.tstd_rows.proofs.stream_buffers.StreamBuffers.enter_into.Goals as goal
+use Rattle.tstd_rows.proofs.stream_buffers.StreamBuffers.enter_first.Goals as goal
 
 pub returns-clause-held : goal.returns-clause-held
 returns-clause-held c = λ h k.
@@ -14,7 +14,7 @@ returns-clause-held c = λ h k.
     let lead : c.min-lead.result ≡ lead_in a p = search rules in
     let takes : takes_in h a p ≡ true =
     taken_in c.args.self.now h a p k (omega (arith, c.if-packet-ge-LAST_INDEX.false)) (omega (arith, c.if-self-gt-LAST_BYTES.false)) times in
-    packet_held c.args.self.now c.pass_if-before.new.self c.pass_if-header.new.self c.begin.new.self c.take-payload.new.self h a p c.min-size.result c.min-lead.result k takes size lead
+    packet_held c.args.self.now c.pass_if-before.new.self c.pass_if-header.new.self c.begin.new.self c.take-payload.new.self h a p c.min-size.result c.min-lead.result c.args.count k takes size lead
     c.pass_if-before.ensures.held c.pass_if-header.ensures.held c.in_ok-begin.ensures.held c.take-payload.ensures.held
 
 pub returns-clause-entered : goal.returns-clause-entered
@@ -28,7 +28,7 @@ returns-clause-entered c = λ h k.
     taken_in c.args.self.now h a p k (omega (arith, c.if-packet-ge-LAST_INDEX.false)) (omega (arith, c.if-self-gt-LAST_BYTES.false)) times in
     packet_entered c.args.self.now c.pass_if-before.new.self c.pass_if-header.new.self c.begin.new.self h a p
     (record { lead = _; header = _; payload = _; main = _; unit = _; transport_most = _; main_most = _; main_least = _; video = nothing_of_video })
-    c.min-size.result c.min-lead.result c.pass_if-before.result c.pass_if-header.result c.take-payload.result.transport k takes size lead
+    c.min-size.result c.min-lead.result c.args.count c.pass_if-before.result c.pass_if-header.result c.take-payload.result.transport k takes size lead
     (record {
       first = c.pass_if-before.ensures.held;
       lead = c.pass_if-before.ensures.ended;
@@ -55,7 +55,7 @@ returns-clause-video c = λ h sizes k v.
     let lead : c.min-lead.result ≡ lead_in a p = search rules in
     let takes : takes_in h a p ≡ true =
     taken_in c.args.self.now h a p k (omega (arith, c.if-packet-ge-LAST_INDEX.false)) (omega (arith, c.if-self-gt-LAST_BYTES.false)) times in
-    packet_video c.args.self.now c.pass_if-before.new.self c.pass_if-header.new.self c.begin.new.self c.take-payload.new.self sizes h a p c.min-size.result c.min-lead.result k v takes size lead
+    packet_video c.args.self.now c.pass_if-before.new.self c.pass_if-header.new.self c.begin.new.self c.take-payload.new.self sizes h a p c.min-size.result c.min-lead.result c.args.count k v takes size lead
     (record {
       first = c.pass_if-before.ensures.held;
       header = c.pass_if-header.ensures.held;
@@ -75,7 +75,7 @@ returns-clause-entered_video c = λ h sizes k v.
     let lead : c.min-lead.result ≡ lead_in a p = search rules in
     let takes : takes_in h a p ≡ true =
     taken_in c.args.self.now h a p k (omega (arith, c.if-packet-ge-LAST_INDEX.false)) (omega (arith, c.if-self-gt-LAST_BYTES.false)) times in
-    packet_video_entered c.args.self.now c.pass_if-before.new.self c.pass_if-header.new.self c.begin.new.self sizes h a p c.min-size.result c.min-lead.result _ k v takes size lead
+    packet_video_entered c.args.self.now c.pass_if-before.new.self c.pass_if-header.new.self c.begin.new.self sizes h a p c.min-size.result c.min-lead.result c.args.count _ k v takes size lead
     (record {
       first = c.pass_if-before.ensures.held;
       header = c.pass_if-header.ensures.held;
