@@ -1,5 +1,5 @@
 -- What is left out of the body of a PES packet decides nothing.
-use Rattle.std.proofs.Common.{◌≡◌, ℕ, ◌-◌, ◌+◌, Bool, true, false, cond, List, [], ◌∷◌, ◌++◌, length, take, drop, map, replicate, Option, Some, None, Result, Ok, Err, refl, sym, ap, ap₂, subst, ◌∙◌, arith, ◌<◌, length-append, append_assoc, ◌≤◌, ◌==◌}
+use Rattle.std.proofs.Common.{◌≡◌, ℕ, ◌-◌, ◌+◌, Bool, true, false, cond, List, [], ◌∷◌, ◌++◌, length, take, drop, map, replicate, Option, Some, None, Result, Ok, Err, refl, sym, ap, ap₂, subst, ◌∙◌, arith, length-append, append_assoc, ◌≤◌, ◌==◌}
 use Rattle.std.specs.Prelude.{nat_lt, min, option_map}
 use Rattle.std.proofs.lemmas.List.{append-nil, length-drop, length-replicate, length-take, length-take-le, map-append, take-append-le, take_at}
 use Rattle.pes_packet.specs.Reading.{header_at}

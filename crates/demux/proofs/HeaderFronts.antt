@@ -1,5 +1,5 @@
 -- A PES header is read of its own bytes alone.
-use Rattle.std.proofs.Common.{◌≡◌, ℕ, zero, suc, ◌+◌, ◌*◌, ◌/◌, ◌≤◌, ◌<◌, ◌==◌, Bool, true, false, cond, Result, Ok, Err, List, [], ◌∷◌, length, take, get_or, refl, sym, ap, subst, ◌∙◌, arith, ltb}
+use Rattle.std.proofs.Common.{◌≡◌, ℕ, zero, suc, ◌+◌, ◌*◌, ◌/◌, ◌≤◌, ◌<◌, Bool, true, false, cond, Result, Ok, Err, List, [], ◌∷◌, length, take, get_or, refl, sym, ap, ◌∙◌, arith, ltb}
 use Rattle.std.proofs.lemmas.Bool.{ltb-false, le-ltb}
 use Rattle.std.proofs.lemmas.List.{length-take-le, take_all}
 use Rattle.bit_fields.specs.Fields.{IsBytes}
@@ -9,7 +9,6 @@ use Rattle.pes_packet.specs.Reading.{data_at, flags_at, start_at, misses_prefix,
 use Rattle.pes_packet.specs.declared.refusal.PesError.{PesError}
 use Rattle.pes_packet.specs.declared.refusal.PesError.TheVariants.{Short, Prefix, BadFlags, Length}
 use Rattle.pes_packet.specs.declared.time_stamps.Stamps.{Stamps}
-use Rattle.pes_packet.specs.declared.time_stamps.Stamps.TheVariants.{Absent}
 use Rattle.pes_packet.specs.declared.reading.PesHeader.{PesHeader}
 
 abbrev Read : Type 0

@@ -1,5 +1,5 @@
 -- A stream of headers alone, step by step.
-use Rattle.std.proofs.Common.{◌≡◌, ℕ, zero, suc, true, List, [], ◌∷◌, ◌++◌, map, slice_get, Option, Some, None, OnOk, Result, Ok, Err, refl, sym, ap, ap₂, subst, ◌∙◌}
+use Rattle.std.proofs.Common.{◌≡◌, ℕ, zero, suc, true, List, [], ◌∷◌, ◌++◌, map, slice_get, Option, Some, None, OnOk, Result, Ok, Err, refl, sym, ap, ◌∙◌}
 use Rattle.std.specs.Prelude.{IfSome}
 use Rattle.std.proofs.lemmas.List.{map-append}
 use Rattle.demux.specs.Views.{FindingView}
@@ -53,3 +53,7 @@ pub ends_besides : {V E : Type 0} (result : Result V E) (packet index : ℕ) (st
     slice_get (states_without_bodies states) index ≡ Some x → OnOk result (AddsHeaders old new (map (with_pid x.0 packet) (ended true x.1.open_unit)))
 ends_besides result packet index states x old new h e =
     ends_by result packet (slice_get states index) x old new h (entry_ends packet index states x e) (is_there index states x e)
+
+pub ok_besides : {V E : Type 0} (result : Result V E) (old new found : List FindingView) → OnOk result (new ≡ old ++ found) → OnOk result (AddsHeaders old new found)
+ok_besides (Ok v) old new found e = added_besides old new found e
+ok_besides (Err v) old new found e = tt

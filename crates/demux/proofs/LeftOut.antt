@@ -1,5 +1,5 @@
 -- An open unit whose body is left out.
-use Rattle.std.proofs.Common.{◌≡◌, ℕ, ◌+◌, ◌≤◌, Bool, true, false, List, [], ◌∷◌, ◌++◌, length, replicate, Option, Some, None, is_some, Result, Ok, Err, refl, sym, ap, ap₂, subst, ◌∙◌, arith, length-append}
+use Rattle.std.proofs.Common.{◌≡◌, ℕ, ◌+◌, ◌≤◌, Bool, true, false, List, [], ◌++◌, length, replicate, Option, Some, None, is_some, Result, Ok, Err, refl, sym, ap, ap₂, subst, ◌∙◌, arith, length-append}
 use Rattle.std.specs.Prelude.{is_err}
 use Rattle.std.proofs.lemmas.List.{append-nil, length-replicate}
 use Rattle.pes_packet.specs.Reading.{header_at}

@@ -19,7 +19,7 @@ use Rattle.demux.specs.Views.{WhatView, IsDuplicate, BreaksCounter, IsScrambled,
 use Rattle.demux.specs.OpenUnits.{UnitKind, decided, of_pes, of_section}
 use Rattle.demux.specs.declared.open_unit.UnitKind.TheVariants as unit_kinds
 use Rattle.demux.specs.Findings.{ended}
-use Rattle.demux.specs.Machine.{PidState, fresh, found_by, step}
+use Rattle.demux.specs.Machine.{PidState, found_by, step}
 use Rattle.demux.specs.Shown.{with_pid}
 use Rattle.demux.specs.Stream.{States, StreamState, completed, ended_found, entry_of, finished, findings_by, found_in, held_found, packet_pushed, pushed, start, state_of, states_by, taken, with_state, without_pid}
 use Rattle.demux.specs.FoundSoFar.{with_found}

@@ -1,6 +1,6 @@
 -- A stream of which, of open PES packets, the headers alone are kept, and of each body the number of its bytes. A body that is left out has as
 -- many zeros.
-use Rattle.std.specs.Prelude.{◌≡◌, ◌≤◌, ℕ, false, List, [], ◌++◌, length, take, drop, map, replicate, Option, None, Some, option_map, Result, Ok, Err}
+use Rattle.std.specs.Prelude.{◌≡◌, ◌≤◌, ℕ, false, List, [], ◌++◌, length, take, drop, map, replicate, None, option_map, Result, Ok, Err}
 use Rattle.bit_fields.specs.Fields.{IsBytes}
 use Rattle.ts_packet.specs.PidList.{Entry}
 use Rattle.pes_packet.specs.Reading.{header_at}

@@ -1,5 +1,4 @@
 use Rattle.std.proofs.Common.{◌≡◌, ◌∙◌, ◌<◌, ◌≤◌, length, refl, ap, sym, arith, add-one}
-use Rattle.demux.specs.Stream.{States}
 use Rattle.demux.proofs.LeftOutStates.{all_left_out, first_left_out, first_length, next_left_out}
 use Rattle.demux.proofs.states.leave_out_each.Goals as goal
 

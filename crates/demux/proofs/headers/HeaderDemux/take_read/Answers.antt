@@ -1,4 +1,4 @@
-use Rattle.std.proofs.Common.{◌≡◌, ◌∙◌, ap, map, subst}
+use Rattle.std.proofs.Common.{◌∙◌, ap, map, subst}
 use Rattle.demux.specs.Shown.{finding_view}
 use Rattle.demux.specs.Stream.{StreamState, found_in}
 use Rattle.demux.specs.Bodies.{AddsHeaders, headers_taken}

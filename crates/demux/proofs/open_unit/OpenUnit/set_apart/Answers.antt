@@ -1,4 +1,4 @@
-use Rattle.std.proofs.Common.{◌≡◌, ◌∙◌, ◌≤◌, ◌++◌, [], ℕ, List, Option, Some, length, ap, sym, subst, arith}
+use Rattle.std.proofs.Common.{◌≡◌, ◌∙◌, ◌≤◌, ◌++◌, ℕ, List, Option, length, ap, sym, subst, arith}
 use Rattle.pes_packet.specs.declared.reading.PesHeader.{PesHeader}
 use Rattle.demux.specs.OpenUnits.{IsFront, OpenUnit, max_unbounded_pes}
 use Rattle.demux.specs.declared.open_unit.UnitKind.TheVariants as unit_kinds
@@ -34,10 +34,9 @@ invariant_of-self-2 g c =
     let all = alone unit.header unit.kind unit.front.items _ unit.bytes.items unit.left_out c.if-is_some.ensures c.self.invariant.0.1.1.1 c.self.invariant.1 in
     let few : length bytes ≤ max_unbounded_pes = omega (arith, c.self.invariant.0.0, ap length all.1, ap length c.deref.ensures.value) in
     let read = subst (λ (o : Option PesHeader). IsFront o unit_kinds.Pes head.front.now bytes) c.in-Some.is c.head_of-head.ensures.front in
-    let apart : c.try_extend_from_slice.new.self.items ≡ head.front.now = c.in-Ok.ensures.ok ∙ ap (λ (xs : List ℕ). xs ++ head.front.now) all.0 in
-    (
+    let apart : c.try_extend_from_slice.new.self.items ≡ head.front.now = c.in-Ok.ensures.ok ∙ ap (λ (xs : List ℕ). xs ++ head.front.now) all.0 in (
       first_left_open c.in-Some.header unit.kind head.front.now head.rest.now c.give_back-2.new.bytes.items bytes c.try_extend_from_slice.new.self.items head.least
-      pes few c.head_of-head.ensures.bound c.head_of-head.ensures.waits read c.head_of-head.ensures.joined apart c.give_back-2.ensures,
+          pes few c.head_of-head.ensures.bound c.head_of-head.ensures.waits read c.head_of-head.ensures.joined apart c.give_back-2.ensures,
       tt,
     )
 
