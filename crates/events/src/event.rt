@@ -7,6 +7,8 @@ use crate::input_event::InputEvent;
 use crate::mark_event::MarkTotals;
 use crate::packet_fault::{CheckWordFault, CounterFault, RefusedPacket};
 use crate::pid_name::PidName;
+use crate::rule_event::RuleEvent;
+use crate::summary::SummaryEvent;
 use crate::video_event::{ElementaryLate, ElementaryTotals, MultiplexingTotals};
 use std::marker::Model;
 
@@ -275,4 +277,6 @@ pub enum Event {
     Missing(u16),
     Check(CheckTotals),
     End(ReportEnd),
+    Rule(RuleEvent),
+    Summary(SummaryEvent),
 }
