@@ -1,5 +1,5 @@
 -- The buffers of streams over one plan, and over two plans in turn, that are empty at least once a second.
-use Rattle.std.proofs.Common.{ℕ, ◌*◌, ◌<◌, max, Bool, List, length, arith}
+use Rattle.std.proofs.Common.{ℕ, max, Bool, List, arith}
 use Rattle.own_slots.specs.Period.{own}
 use Rattle.own_slots.specs.Work.{BoundsWork}
 use Rattle.own_slots.proofs.PositionLemmas.{per_period_le}

@@ -79,8 +79,11 @@ after_packet before after step r first prev last busy left h = omega (arith, bus
 left_packet : (own : ℕ → Bool) (rate r room peak : ℕ) (W : ℕ → ℕ) (s prev : ℕ) → BoundsWork own rate r room peak W → own s ≡ true → Left r W s prev →
     Left r W (suc s) (last_left rate prev (bytes_from r (188 * s) 188))
 left_packet own rate r room peak W s prev b y h = rw (← add-one s)
-    (omega (arith, after_packet (W s) (W (s + 1)) rate r (188 * s * r) prev (last_left rate prev (bytes_from r (188 * s) 188)) ((b s).busy y) h
-    (omega (arith, packet_row rate r s prev))))
+    (omega (
+      arith,
+      after_packet (W s) (W (s + 1)) rate r (188 * s * r) prev (last_left rate prev (bytes_from r (188 * s) 188)) ((b s).busy y) h
+          (omega (arith, packet_row rate r s prev)),
+    ))
 
 -- ---- a slot in which a queue becomes empty
 
