@@ -74,6 +74,7 @@ fn add_unit(
             stamps: Stamps::Pts(pts),
             flags: PesFlags::NONE,
             data_length: 5,
+            private_data: None,
         },
         unended: false,
         body: Part::Joined(vec![in alloc; 7u8; size]?),
