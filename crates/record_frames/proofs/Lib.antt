@@ -1,0 +1,3 @@
+pub mod HalfRecords
+pub mod Writers
+pub mod Steps
