@@ -1,3 +1,4 @@
 pub mod HalfRecords
 pub mod Writers
 pub mod Steps
+pub mod Unframing

@@ -28,8 +28,8 @@ pub enum Place {
 #[derive(Drop)]
 pub struct OpenFrame {
     alloc: Global,
-    place: Place,
-    begun: OpenRecord,
+    pub(crate) place: Place,
+    pub(crate) begun: OpenRecord,
 }
 
 impl OpenFrame {
@@ -54,8 +54,8 @@ impl OpenFrame {
         self.begun = OpenRecord::new(self.alloc);
     }
 
-    // Returns whether a record has begun since the mark.
-    fn has_begun(&self) -> bool
+    /// Returns whether a record has begun since the mark.
+    pub(crate) fn has_begun(&self) -> bool
         requires { IsOpen self.now.begun }
         ensures cut { result ≡ true → at_mark (state_of self.now) ≡ Err Dropped }
         ensures none { result ≡ false → at_mark (state_of self.now) ≡ Ok None }

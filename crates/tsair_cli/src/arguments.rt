@@ -22,6 +22,8 @@ pub struct AirOptions {
     pub hex: bool,
     /// Whether the first record that is refused ends the run.
     pub stop: bool,
+    /// Whether frames are read, and their records written, in place of a job.
+    pub unframe: bool,
 }
 
 // The values of the options; none where one is out of its range.
@@ -44,6 +46,7 @@ fn options_of(matches: &ArgMatches<'_>) -> Option<AirOptions>
         periods,
         hex: is_given(text_of(matches, "hex")),
         stop: is_given(text_of(matches, "stop")),
+        unframe: is_given(text_of(matches, "unframe")),
     })
 }
 

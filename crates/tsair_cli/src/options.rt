@@ -7,7 +7,7 @@ use option_lists::Scale;
 use word_faults::{KnownWords, OptionRow, ValueKind};
 
 /// The options. What is read, which word is a fault, and the usage follow these rows.
-pub(crate) const OPTIONS: [OptionRow; 10] = [
+pub(crate) const OPTIONS: [OptionRow; 11] = [
     OptionRow {
         name: "wait",
         value: ValueKind::Scaled {
@@ -87,6 +87,14 @@ pub(crate) const OPTIONS: [OptionRow; 10] = [
         help: "the periods of the first plan before the second",
     },
     OptionRow {
+        name: "unframe",
+        value: ValueKind::Flag,
+        form: "",
+        unit: "",
+        apart: "",
+        help: "read frames of records instead of a job, and write their records",
+    },
+    OptionRow {
         name: "progress",
         value: ValueKind::Flag,
         form: "",
@@ -121,6 +129,7 @@ const USAGE: &str = "usage: tsair [OPTIONS] < JOB > PACKETS
   --slots 0..1099511627776       the number of packets; else those up to the greatest DTS
   --room 1..1048576              the units of each stream that may wait; else as many as its lead needs
   --switch Q                     the periods of the first plan before the second
+  --unframe                      read frames of records instead of a job, and write their records
   --progress                     report each second how many bytes are read, on a terminal
   --version                      or -V, alone: the version, and the kit that proved it
   --help                         or -h: this text, on standard output
