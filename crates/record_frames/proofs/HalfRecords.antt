@@ -6,7 +6,9 @@ use Rattle.byteorder.specs.Endian.{big_from, big_number, big_bytes}
 use Rattle.byteorder.specs.Numbers.{big_from-take, length-bytes_high_first}
 use Rattle.pes_packet.specs.AccessUnits.{AccessUnit}
 use Rattle.unit_records.specs.Laws.{FitsRecord}
-use Rattle.unit_records.specs.Records.{after_record, max_unit_size, record_at, record_bytes, record_head, size_at, size_in, word_of}
+use Rattle.unit_records.specs.Records.{after_record, max_unit_size, private_bytes, private_size, record_at, record_bytes, record_head, size_at, size_in, word_of}
+use Rattle.std.specs.Prelude.{if◌then◌else◌, is_some}
+use Rattle.pes_packet.proofs.Sixteen.{sixteen_size}
 use Rattle.unit_records.specs.declared.reading.UnitFileError.{UnitFileError}
 use Rattle.unit_records.specs.declared.reading.UnitFileError.TheVariants.{Cut}
 use Rattle.unit_records.proofs.RecordBytes.{records_are_read}
@@ -36,14 +38,21 @@ nothing_after : (entry : ℕ × AccessUnit) → FitsRecord entry.1 → after_rec
 nothing_after entry fits =
     ap (λ (xs : List ℕ). after_record xs) (sym (append-nil (record_bytes entry.0 entry.1))) ∙ (records_are_read entry.0 entry.1 [] fits).rest_is
 
-record_size : (entry : ℕ × AccessUnit) → length (record_bytes entry.0 entry.1) ≡ 21 + length entry.1.bytes
+private_length : (o : Option (List ℕ)) → length (private_bytes o) ≡ (if is_some o then 16 else 0)
+private_length None = refl
+private_length (Some p) = sixteen_size p
+
+record_size : (entry : ℕ × AccessUnit) → length (record_bytes entry.0 entry.1) ≡ 21 + (private_size entry.1.marks + length entry.1.bytes)
 unfolding record_head
 record_size entry = omega (
   arith,
   length-append (record_head entry.0 entry.1.marks (length entry.1.bytes) entry.1.dts entry.1.pts) entry.1.bytes,
-  length-append (big_bytes 4 (word_of entry.1.marks (length entry.1.bytes))) (big_bytes 8 entry.1.dts ++ big_bytes 8 entry.1.pts),
-  length-append (big_bytes 8 entry.1.dts) (big_bytes 8 entry.1.pts),
-  length-bytes_high_first 4 (word_of entry.1.marks (length entry.1.bytes)),
+  length-append (big_bytes 4 (word_of entry.1.marks (private_size entry.1.marks + length entry.1.bytes)))
+      (big_bytes 8 entry.1.dts ++ (big_bytes 8 entry.1.pts ++ private_bytes entry.1.marks.private_data)),
+  length-append (big_bytes 8 entry.1.dts) (big_bytes 8 entry.1.pts ++ private_bytes entry.1.marks.private_data),
+  length-append (big_bytes 8 entry.1.pts) (private_bytes entry.1.marks.private_data),
+  private_length entry.1.marks.private_data,
+  length-bytes_high_first 4 (word_of entry.1.marks (private_size entry.1.marks + length entry.1.bytes)),
   length-bytes_high_first 8 entry.1.dts,
   length-bytes_high_first 8 entry.1.pts,
 )
@@ -66,7 +75,7 @@ pub beginning_is_cut : (entry : ℕ × AccessUnit) → FitsRecord entry.1 → (x
 beginning_is_cut entry fits xs y ys is some =
     let all = record_bytes entry.0 entry.1 in
     let count : length xs + (length ys + 1) ≡ length all = omega (arith, length-append xs (y ∷ ys), ap (length {A = ℕ}) is) in
-    cut_of all xs (length entry.1.bytes) some (omega (arith, count)) (record_size entry) fits.size
+    cut_of all xs (private_size entry.1.marks + length entry.1.bytes) some (omega (arith, count)) (record_size entry) fits.size
     (record_long all entry (whole_is entry fits)) (nothing_after entry fits)
     (λ many. ap (λ (zs : List ℕ). size_at zs) (sym is) ∙ size_front xs (y ∷ ys) many)
 
