@@ -105,69 +105,54 @@ passed_last run a entry packet from to start now old new h moves far many p f t 
           (subst (λ (m : MuxState). Carries run (job_of a) m) (sym mux) h.mux)),
     )
 
--- what is written before the slots that a record settles
-pub admitted_output : (run : Run) (a : Air) (entry : ℕ × AccessUnit) (refused : Option AirRefusal) (m : MuxState) (start now : Option (List ℕ)) (old : AirState) (hex : Bool) (packets : Buffered) →
-    IsOnAir run a start now old → packets ≡ old.packets → hex ≡ old.packets.hex → Admits run a entry refused m →
-    IsOutput start now packets (output_of hex run.scheduled (job_history (accepted_by a entry refused) a.slots))
-admitted_output run a entry refused m start now old hex packets h same like admits =
-    let before : air_output run a ≡ output_of hex run.scheduled (job_history (accepted_by a entry refused) a.slots) =
-    sym admits.before ∙ ap (λ (b : Bool). output_of b run.scheduled (job_history (accepted_by a entry refused) a.slots)) (sym (like ∙ h.hex)) in
-    subst (λ (l : List ℕ). IsOutput start now packets l) before (subst (λ (p : Buffered). IsOutput start now p (air_output run a)) (sym same) h.output)
+-- a record was taken, and no slot that it settles is written yet
+pub admitted : Air → ℕ × AccessUnit → Air
+admitted a entry = record {
+  accepted = accepted_by a entry None;
+  slots = a.slots;
+  greatest = max a.greatest entry.1.dts;
+  leap = no_leap;
+  records = a.records + 1;
+  refused = a.refused;
+}
 
--- a record was taken, and the slots that it settles were written
-taken_by : (run : Run) (a : Air) (entry : ℕ × AccessUnit) (hex : Bool) (start now later : Option (List ℕ)) (m : MuxState) (old new : AirState) → IsOnAir run a start now old → Moves old new →
-    hex ≡ old.packets.hex → new.greatest ≡ max old.greatest entry.1.dts → new.leap ≡ no_leap → new.records ≡ old.records + 1 →
-    Carries run (job_history (accepted_by a entry None) a.slots) m →
-    WroteOn run (with_slots (job_history (accepted_by a entry None) a.slots) (on_to a.slots (settled_at run entry.1.dts))) hex start later new.mux new.packets →
-    IsOnAir run (judged_by run a entry None) start later new
-unfolding judged_by
-taken_by run a entry hex start now later m old new h moves like greatest leap records mux wrote =
-    let slots = on_to a.slots (settled_at run entry.1.dts) in
-    record {
-      mux = wrote.mux;
-      promises = h.promises;
-      terms = moves.terms ∙ h.terms;
-      hex = wrote.hex_is ∙ like ∙ h.hex;
-      rate = moves.rate ∙ h.rate;
-      lead = moves.lead ∙ h.lead;
-      greatest = greatest ∙ ap (λ (n : ℕ). max n entry.1.dts) h.greatest;
-      leap = leap;
-      records = records ∙ ap (λ (n : ℕ). n + 1) h.records;
-      output = subst (λ (b : Bool). IsOutput start later new.packets (output_of b run.scheduled (job_history (accepted_by a entry None) slots))) (like ∙ h.hex) wrote.output;
-      headline = keeps run (accepted_by a entry None) a.slots slots m h.promises mux;
-    }
+pub admitted_on : (run : Run) (a : Air) (entry : ℕ × AccessUnit) (start now : Option (List ℕ)) (old new : AirState) → IsOnAir run a start now old → Moves old new →
+    new.packets ≡ old.packets → new.greatest ≡ max old.greatest entry.1.dts → new.leap ≡ no_leap → new.records ≡ old.records + 1 → Admits run a entry None new.mux →
+    IsOnAir run (admitted a entry) start now new
+unfolding admitted
+admitted_on run a entry start now old new h moves packets greatest leap records admits = record {
+  mux = admits.mux;
+  promises = h.promises;
+  terms = moves.terms ∙ h.terms;
+  hex = ap (λ (p : Buffered). p.hex) packets ∙ h.hex;
+  rate = moves.rate ∙ h.rate;
+  lead = moves.lead ∙ h.lead;
+  greatest = greatest ∙ ap (λ (n : ℕ). max n entry.1.dts) h.greatest;
+  leap = leap;
+  records = records ∙ ap (λ (n : ℕ). n + 1) h.records;
+  output = subst (λ (l : List ℕ). IsOutput start now new.packets l) (sym admits.before) (subst (λ (p : Buffered). IsOutput start now p (air_output run a)) (sym packets) h.output);
+  headline = keeps run (accepted_by a entry None) a.slots a.slots new.mux h.promises admits.mux;
+}
 
-pub taken_on : (run : Run) (a : Air) (entry : ℕ × AccessUnit) (target : ℕ) (hex : Bool) (start now later : Option (List ℕ)) (m : MuxState) (old new : AirState) → IsOnAir run a start now old → Moves old new →
-    hex ≡ old.packets.hex → new.greatest ≡ max old.greatest entry.1.dts → new.leap ≡ no_leap → new.records ≡ old.records + 1 → Admits run a entry None m → target ≡ settled_at run entry.1.dts →
-    WroteOn run (with_slots (job_history (accepted_by a entry None) a.slots) (on_to a.slots target)) hex start later new.mux new.packets →
-    (air_cause run a entry ≡ None) × IsOnAir run (judged run a entry) start later new
-taken_on run a entry target hex start now later m old new h moves like greatest leap records admits is wrote = (
+-- then these slots were written
+pub taken_on : (run : Run) (a : Air) (entry : ℕ × AccessUnit) (due : ℕ) (start later : Option (List ℕ)) (m : MuxState) (new : AirState) → Admits run a entry None m → due ≡ entry.1.dts →
+    IsOnAir run (with_count (admitted a entry) (on_to a.slots (settled_at run due))) start later new → (air_cause run a entry ≡ None) × IsOnAir run (judged run a entry) start later new
+unfolding admitted judged_by
+taken_on run a entry due start later m new admits is on = (
   sym admits.cause,
   subst (λ (o : Option AirRefusal). IsOnAir run (judged_by run a entry o) start later new) admits.cause
-      (taken_by run a entry hex start now later m old new h moves like greatest leap records admits.mux
-      (subst (λ (n : ℕ). WroteOn run (with_slots (job_history (accepted_by a entry None) a.slots) (on_to a.slots n)) hex start later new.mux new.packets) is wrote)),
+      (subst (λ (n : ℕ). IsOnAir run (with_count (admitted a entry) (on_to a.slots (settled_at run n))) start later new) is on),
 )
 
--- the writer failed
-fails_by : (run : Run) (a : Air) (entry : ℕ × AccessUnit) (start later : Option (List ℕ)) (sent : ℕ) (m : MuxState) → Promises run.scheduled →
-    Carries run (job_history (accepted_by a entry None) a.slots) m →
-    Took start later sent (output_of run.hex run.scheduled (with_slots (job_history (accepted_by a entry None) a.slots) (on_to a.slots (settled_at run entry.1.dts)))) →
-    Fails run (judged_by run a entry None) start later sent
-unfolding judged_by
-fails_by run a entry start later sent m promises mux took =
-    record { took = took; headline = keeps run (accepted_by a entry None) a.slots (on_to a.slots (settled_at run entry.1.dts)) m promises mux }
-
-pub fails_on : (run : Run) (a : Air) (entry : ℕ × AccessUnit) (target sent : ℕ) (hex : Bool) (start now later : Option (List ℕ)) (m : MuxState) (old : AirState) → IsOnAir run a start now old →
-    hex ≡ old.packets.hex → Admits run a entry None m → target ≡ settled_at run entry.1.dts →
-    Took start later sent (output_of hex run.scheduled (with_slots (job_history (accepted_by a entry None) a.slots) (on_to a.slots target))) →
-    (air_cause run a entry ≡ None) × Fails run (judged run a entry) start later sent
-fails_on run a entry target sent hex start now later m old h like admits is took =
-    let there : Took start later sent (output_of run.hex run.scheduled (with_slots (job_history (accepted_by a entry None) a.slots) (on_to a.slots (settled_at run entry.1.dts)))) =
-    subst (λ (b : Bool). Took start later sent (output_of b run.scheduled (with_slots (job_history (accepted_by a entry None) a.slots) (on_to a.slots (settled_at run entry.1.dts))))) (like ∙ h.hex)
-    (subst (λ (n : ℕ). Took start later sent (output_of hex run.scheduled (with_slots (job_history (accepted_by a entry None) a.slots) (on_to a.slots n)))) is took) in (
-      sym admits.cause,
-      subst (λ (o : Option AirRefusal). Fails run (judged_by run a entry o) start later sent) admits.cause (fails_by run a entry start later sent m h.promises admits.mux there),
-    )
+-- or the writer failed
+pub fails_on : (run : Run) (a : Air) (entry : ℕ × AccessUnit) (due sent : ℕ) (start later : Option (List ℕ)) (m : MuxState) → Admits run a entry None m → due ≡ entry.1.dts →
+    Fails run (with_count (admitted a entry) (on_to a.slots (settled_at run due))) start later sent → (air_cause run a entry ≡ None) × Fails run (judged run a entry) start later sent
+unfolding admitted judged_by
+fails_on run a entry due sent start later m admits is fails = (
+  sym admits.cause,
+  subst (λ (o : Option AirRefusal). Fails run (judged_by run a entry o) start later sent) admits.cause
+      (subst (λ (n : ℕ). Fails run (with_count (admitted a entry) (on_to a.slots (settled_at run n))) start later sent) is fails),
+)
 
 -- what waited was written
 pub flushed : (run : Run) (a : Air) (start now later : Option (List ℕ)) (old new : AirState) → IsOnAir run a start now old → Moves old new → new.mux ≡ old.mux →

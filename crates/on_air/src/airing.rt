@@ -160,7 +160,8 @@ impl<A: Allocator + Copy> OnAir<A> {
     {
         match refusal {
             AirRefusal::Followed { to: due, .. } => self.write_until(due, to),
-            AirRefusal::Ahead | AirRefusal::Feed(_) => Ok(()),
+            AirRefusal::Ahead => Ok(()),
+            AirRefusal::Feed(_) => Ok(()),
         }
     }
 
@@ -269,12 +270,9 @@ impl<A: Allocator + Copy> OnAir<A> {
         self.leap = Leap::none();
         let greatest = self.greatest.max(due);
         self.greatest = greatest;
-        let limit = self.terms.limit();
-        let target = settled(self.rate, self.lead, limit, due);
-        match write_on(&mut self.mux, target, &mut self.packets, to) {
-            Ok(()) => {}
-            Err(fault) => return Err(fault),
+        match self.write_until(due, to) {
+            Ok(()) => Ok(None),
+            Err(fault) => Err(fault),
         }
-        Ok(None)
     }
 }

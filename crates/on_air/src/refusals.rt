@@ -24,7 +24,8 @@ impl AirRefusal {
     {
         match self {
             AirRefusal::Feed(cause) => cause.code(),
-            AirRefusal::Ahead | AirRefusal::Followed { .. } => 11,
+            AirRefusal::Ahead => 11,
+            AirRefusal::Followed { .. } => 11,
         }
     }
 }

@@ -33,9 +33,8 @@ fn report_refused<E: Sink>(faults: &mut E, index: u64, cause: AirRefusal)
             let numbers = [index, u128::from(packet), u128::from(from), u128::from(to)];
             report_refusal(faults, "leap", &numbers)
         }
-        AirRefusal::Feed(_) | AirRefusal::Ahead => {
-            report_refusal(faults, "unit", &[index, u128::from(cause.code())])
-        }
+        AirRefusal::Feed(_) => report_refusal(faults, "unit", &[index, u128::from(cause.code())]),
+        AirRefusal::Ahead => report_refusal(faults, "unit", &[index, u128::from(cause.code())]),
     };
 }
 

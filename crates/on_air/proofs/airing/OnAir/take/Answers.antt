@@ -1,11 +1,10 @@
 use Rattle.std.proofs.Common.{◌≡◌, ◌+◌, ℕ, max, true, false, None, sym, ap, ◌∙◌, subst}
 use Rattle.pes_packet.specs.AccessUnits.{AccessUnit}
 use Rattle.mux_core.specs.MuxStates.{MuxState}
-use Rattle.mux_core.specs.WholeJobs.{job_history}
 use Rattle.on_air.specs.declared.options.Terms.{Terms}
-use Rattle.on_air.specs.Airing.{job_of, accepted_by, is_far_from}
+use Rattle.on_air.specs.Airing.{job_of, is_far_from}
 use Rattle.on_air.specs.AirStates.{AirState, Carries}
-use Rattle.on_air.proofs.Aired.{settled_same, far_same, refused_on, admitted_output, taken_on, fails_on}
+use Rattle.on_air.proofs.Aired.{admitted, admitted_on, far_same, refused_on, taken_on, fails_on}
 use Rattle.on_air.proofs.airing.OnAir.take.Goals as goal
 
 pub returns-then-is_far-clause-takes : goal.returns-then-is_far-clause-takes
@@ -34,8 +33,8 @@ returns-in-Some-clause-takes g c = λ run a start h.
     refused_on run a (c.args.stream, c.args.unit) c.in-Some.cause start _ c.args.self.now _ h (record { terms = terms; rate = rate; lead = lead }) packets greatest (ap (λ (x : AirState). x.leap) c.self.view_is) records
     (rw c.in-Some.is at (c.admit.ensures run a carries h.promises near))
 
-pub returns-clause-takes : goal.returns-clause-takes
-returns-clause-takes g c = λ run a start h.
+pub returns-in-Ok-clause-takes : goal.returns-in-Ok-clause-takes
+returns-in-Ok-clause-takes g c = λ run a start h.
     let carries = subst (λ (m : MuxState). Carries run (job_of a) m) (sym (ap (λ (x : AirState). x.mux) c.self.view_is)) h.mux in
     let packets = ap (λ (x : AirState). x.packets) c.self.view_is in
     let terms = ap (λ (x : AirState). x.terms) c.self.view_is in
@@ -48,14 +47,9 @@ returns-clause-takes g c = λ run a start h.
     sym (far_same run a (c.args.stream, c.args.unit) start _ c.args.self.now c.self.inside.terms.ahead c.self.inside.greatest c.unit.inside.dts h (ap (λ (t : Terms). t.ahead) terms) greatest due)
     ∙ sym c.is_far.ensures ∙ c.if-is_far.false in
     let admits = rw c.in-None.is at (c.admit.ensures run a carries h.promises near) in
-    let is = c.settled-target.ensures.value
-    ∙ settled_same run a start _ c.args.self.now c.self.inside.rate c.self.inside.lead c.limit-limit.result c.unit.inside.dts c.args.unit.dts c.self.inside.terms h rate lead terms c.limit-limit.ensures.value due in
-    let hex = ap (λ (x : AirState). x.packets.hex) c.self.view_is in
-    let output = admitted_output run a (c.args.stream, c.args.unit) None c.admit.new.mux start _ c.args.self.now c.self.inside.packets.hex c.self.inside.packets h packets hex admits in
-    let fed = job_history (accepted_by a (c.args.stream, c.args.unit) None) a.slots in
     let last = c.max-greatest.ensures ∙ ap (λ (n : ℕ). max n c.unit.inside.dts) greatest ∙ ap (λ (n : ℕ). max c.args.self.now.greatest n) due in
-    taken_on run a (c.args.stream, c.args.unit) c.settled-target.result c.self.inside.packets.hex start _ _ c.admit.new.mux c.args.self.now _ h (record { terms = terms; rate = rate; lead = lead })
-    hex last c.none.ensures records admits is (c.in-Ok.ensures.ok run fed start admits.mux output)
+    let on = admitted_on run a (c.args.stream, c.args.unit) start _ c.args.self.now _ h (record { terms = terms; rate = rate; lead = lead }) packets last c.none.ensures records admits in
+    taken_on run a (c.args.stream, c.args.unit) c.unit.inside.dts start _ c.admit.new.mux _ admits due (c.in-Ok.ensures.ok run (admitted a (c.args.stream, c.args.unit)) start on)
 
 pub returns-in-Err-clause-takes : goal.returns-in-Err-clause-takes
 returns-in-Err-clause-takes g c = λ run a start h.
@@ -71,10 +65,7 @@ returns-in-Err-clause-takes g c = λ run a start h.
     sym (far_same run a (c.args.stream, c.args.unit) start _ c.args.self.now c.self.inside.terms.ahead c.self.inside.greatest c.unit.inside.dts h (ap (λ (t : Terms). t.ahead) terms) greatest due)
     ∙ sym c.is_far.ensures ∙ c.if-is_far.false in
     let admits = rw c.in-None.is at (c.admit.ensures run a carries h.promises near) in
-    let is = c.settled-target.ensures.value
-    ∙ settled_same run a start _ c.args.self.now c.self.inside.rate c.self.inside.lead c.limit-limit.result c.unit.inside.dts c.args.unit.dts c.self.inside.terms h rate lead terms c.limit-limit.ensures.value due in
-    let hex = ap (λ (x : AirState). x.packets.hex) c.self.view_is in
-    let output = admitted_output run a (c.args.stream, c.args.unit) None c.admit.new.mux start _ c.args.self.now c.self.inside.packets.hex c.self.inside.packets h packets hex admits in
-    let fed = job_history (accepted_by a (c.args.stream, c.args.unit) None) a.slots in
-    fails_on run a (c.args.stream, c.args.unit) c.settled-target.result c.in-Err.fault.sent c.self.inside.packets.hex start _ _ c.admit.new.mux c.args.self.now h hex admits is
-    (c.in-Err.ensures.err run fed start admits.mux output)
+    let last = c.max-greatest.ensures ∙ ap (λ (n : ℕ). max n c.unit.inside.dts) greatest ∙ ap (λ (n : ℕ). max c.args.self.now.greatest n) due in
+    let on = admitted_on run a (c.args.stream, c.args.unit) start _ c.args.self.now _ h (record { terms = terms; rate = rate; lead = lead }) packets last c.none.ensures records admits in
+    fails_on run a (c.args.stream, c.args.unit) c.unit.inside.dts c.in-Err.fault.sent start _ c.admit.new.mux admits due
+    (c.in-Err.ensures.err run (admitted a (c.args.stream, c.args.unit)) start on)
