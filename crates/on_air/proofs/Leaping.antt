@@ -1,14 +1,14 @@
 -- Records that leap are followed by the eighth at the latest.
 use Rattle.std.proofs.Common.{◌≡◌, ℕ, suc, ◌+◌, ◌-◌, ◌<◌, ◌≤◌, ◌&&◌, Bool, true, false, List, [], ◌∷◌, length, Option, Some, None, refl, ap, sym, ◌∙◌, cond, arith, inl, inr}
 use Rattle.std.specs.Prelude.{nat_le, nat_lt, option_map}
-use Rattle.std.proofs.lemmas.Bool.{and_parts, cases_Bool, leb-true, ltb-true, lt-ltb}
+use Rattle.std.proofs.lemmas.Bool.{and_parts, cases_Bool, leb-false, leb-true, ltb-true, lt-ltb}
 use Rattle.pes_packet.specs.AccessUnits.{AccessUnit}
 use Rattle.unit_queue.specs.declared.refusal.FeedError.{FeedError}
 use Rattle.on_air.specs.declared.leap.Leap.{Leap}
 use Rattle.on_air.specs.declared.refusals.AirRefusal.{AirRefusal}
 use Rattle.on_air.specs.declared.refusals.AirRefusal.TheVariants.{Feed, Ahead, Followed}
 use Rattle.on_air.specs.Leaps.{is_followed, is_near, leap_with, leap_records}
-use Rattle.on_air.specs.Airing.{Run, Air, is_tick, is_far_from, leap_by, leap_left, unit_refusal, air_cause, greatest_by, judged_by, aired, caught_up, slots_followed}
+use Rattle.on_air.specs.Airing.{Run, Air, is_tick, is_far_from, leap_by, leap_left, unit_refusal, air_cause, greatest_by, judged_by, aired, caught_up, on_to, settled_at, slots_followed}
 use Rattle.on_air.specs.Laws.{NearEach, AllFar, LeapFollowed, GoesOnFrom, LeapMovesOn}
 
 -- ---- one record that lies too far ahead
@@ -38,10 +38,7 @@ some_records ahead due leap true true near is = rw (near, is) (omega arith)
 some_records ahead due leap true false near is = rw (near, is) (omega arith)
 
 not_many : (leap : Leap) → is_followed leap ≡ false → leap.records < leap_records
-not_many leap no = elim (cases_Bool (nat_lt leap.records leap_records)) [
-  | inl yes ↦ ltb-true leap.records leap_records yes
-  | inr many ↦ grind (arith, no, many)
-]
+not_many leap no = leb-false leap_records leap.records no
 
 -- ---- records one after another
 
@@ -121,11 +118,11 @@ unfolding judged_by greatest_by slots_followed
 leap_moves_on run a entry packet from to e =
     let told = told_of run a entry packet from to e in
     let greatest : (aired run a entry).greatest ≡ to = ap (λ (o : Option AirRefusal). (caught_up run (judged_by run a entry o) o).greatest) e in
-    let slots = ap (λ (o : Option AirRefusal). (caught_up run (judged_by run a entry o) o).slots) e in
+    let slots : (aired run a entry).slots ≡ on_to a.slots (settled_at run to) = ap (λ (o : Option AirRefusal). (caught_up run (judged_by run a entry o) o).slots) e in
     record {
       packet_is = told.packet_is;
       from_is = told.from_is;
       to_is = told.to_is;
       greatest = greatest ∙ told.to_is;
-      slots = rw (sym told.to_is) slots;
+      slots = slots ∙ ap (λ (n : ℕ). on_to a.slots (settled_at run n)) told.to_is;
     }

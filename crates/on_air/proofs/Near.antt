@@ -1,6 +1,6 @@
 -- After any input, a record that is near is refused for nothing but itself and the units of its stream.
 use Rattle.std.proofs.Common.{◌≡◌, ℕ, zero, suc, ◌+◌, ◌-◌, ◌<◌, ◌≤◌, ◌||◌, max, Bool, true, false, List, [], ◌∷◌, ◌++◌, length, Option, Some, None, Result, Ok, Err, refl, ap, sym, ◌∙◌, subst, cond, arith, All}
-use Rattle.std.specs.Prelude.{⊤, ◌^◌, map, nat_eq, nat_lt, option_map, slice_get, if◌then◌else◌}
+use Rattle.std.specs.Prelude.{⊤, ◌==◌, ◌^◌, map, nat_lt, option_map, slice_get, if◌then◌else◌}
 use Rattle.std.proofs.lemmas.Bool.{le-ltb, ltb-true}
 use Rattle.std.proofs.lemmas.List.Elements.{All-append, All-cons, All-nil, All-weaker}
 use Rattle.clock27.specs.Release.{release}
@@ -119,7 +119,7 @@ own_four false false false false = tt
 own_itself : (largest soonest : ℕ) (u : AccessUnit) → IsOwn (own_cause largest soonest u)
 unfolding own_cause
 own_itself largest soonest u =
-    own_four (nat_eq (length u.bytes) 0) (nat_lt largest (length u.bytes + marks_size u.marks)) (nat_lt u.dts soonest) (is_bad_pts u.dts u.pts)
+    own_four (length u.bytes == 0) (nat_lt largest (length u.bytes + marks_size u.marks)) (nat_lt u.dts soonest) (is_bad_pts u.dts u.pts)
 
 own_far : (far : Bool) → IsOwn (if far then Some TooFar else None)
 own_far true = tt
