@@ -5,6 +5,7 @@ ghost use Rattle.job_run.specs.RefusalLine as spec;
 ghost use Rattle.stream_jobs.specs.declared.refusal.JobRefusal.TheVariants as refusals;
 
 use description::DescFault;
+use diagnosis::write_fault;
 use es_units::{DtsFault, StampFault};
 use std::alloc::AllocError;
 use std::fmt::Write;
@@ -172,8 +173,8 @@ fn write_description(fault: DescFault, text: &mut String) -> Result<(), AllocErr
     ensures { OnOk result
         (string_bytes text.new ≡ string_bytes text.old ++ spec.refusal_line (refusals.Description fault)) }
 {
-    let (code, item) = (fault.code(), fault.item());
-    write!(text, "description {code} {item}\n")
+    text.push_str("the description is refused: ")?;
+    write_fault(&[], fault, text)
 }
 
 /// Appends the line of a refusal.
@@ -214,7 +215,10 @@ pub fn write_refusal(refusal: JobRefusal, text: &mut String) -> Result<(), Alloc
         } => write_buffers(pid, size, rx, main, way_out, text),
         JobRefusal::Pids => text.push_str("no PID is left for a PMT or a PCR\n"),
         JobRefusal::Description(fault) => write_description(fault, text),
-        JobRefusal::Plan(rate) => write!(text, "no plan at rate {rate}\n"),
+        JobRefusal::Plan(rate) => write!(
+            text,
+            "no plan at rate {rate}: tsjob why names what prevents one\n"
+        ),
         JobRefusal::Declaration(pid) => { write!(text, "pid {pid} breaks its own declaration\n") }
     }
 }
