@@ -1,20 +1,15 @@
 -- Packets to standard output, or to a file.
-use Rattle.std.proofs.Common.{◌≡◌, ℕ, Bool, true, false, List, [], ◌∷◌, Option, Some, refl, inl, inr, subst}
+use Rattle.std.proofs.Common.{◌≡◌, ℕ, Bool, true, false, List, [], Option, Some, refl, inl, inr, subst}
 use Rattle.word_faults.specs.CommandLine.{Text}
 use Rattle.devices.specs.Devices.{Device, Port, between, IsUntouched}
 use Rattle.devices.specs.Files.{Files, IsAsKnown}
-use Rattle.devices.specs.Lines.{Reports, Tells}
-use Rattle.tsremux_cli.specs.Lines.{TellsOf, terminal_line, uncreated_text}
+use Rattle.devices.specs.Lines.{Reports}
+use Rattle.tsjob_cli.specs.Reports.{TellsOf, terminal_line, uncreated_text}
 use Rattle.tsremux_cli.specs.Outputs.{Concludes, Finishes, ToFile, ToOutput, WritesOutput, output_name}
 use Rattle.tsremux_cli.specs.Program.{Answers, Outputs, WritesTo}
 use Rattle.tsremux_cli.specs.Remuxing.{Remuxes}
 use Rattle.tsremux_cli.specs.Words.{job_words, output_file}
 use Rattle.tsremux_cli.specs.declared.figures.Remuxed.{Remuxed}
-
--- two texts, one after the other
-pub told_both : (before mid after : Port) (first second : List ℕ) → Reports (between before mid) first → Reports (between mid after) second → Tells before after (first ∷ second ∷ [])
-unfolding Tells
-told_both before mid after first second r s = (mid, r, (after, s, refl))
 
 pub concluded : (words : List Text) (files : Files) (input output : Device) (before mid after : Port) (result : Remuxed) (status : ℕ) →
     Remuxes words files input output (between before mid) result → Concludes output_name result (between mid after) status →

@@ -4,7 +4,8 @@ use Rattle.word_faults.specs.CommandLine.{Text}
 use Rattle.devices.specs.Devices.{Device, IsUntouched, Port, between}
 use Rattle.devices.specs.Files.{Files, IsAsKnown}
 use Rattle.devices.specs.Lines.{Reports}
-use Rattle.tsremux_cli.specs.Lines.{TellsHeld, TellsOf, terminal_line, uncreated_text, unnamed_text}
+use Rattle.tsremux_cli.specs.Lines.{TellsHeld}
+use Rattle.tsjob_cli.specs.Reports.{TellsOf, terminal_line, uncreated_text, unnamed_text}
 use Rattle.tsremux_cli.specs.Remuxing.{Remuxes}
 use Rattle.tsremux_cli.specs.declared.figures.Remuxed.{Remuxed}
 use Rattle.tsremux_cli.specs.declared.figures.Remuxed.TheVariants.{Whole, Ended}

@@ -53,11 +53,3 @@ pub(crate) fn report_held<E: Sink>(alloc: Global, name: &str, figures: Figures, 
         report_text(faults, text.as_str());
     }
 }
-
-/// Reports what is wrong with the file of this name.
-pub(crate) fn report_of<E: Sink>(name: &str, text: &str, faults: &mut E)
-    ensures { spec.TellsOf name.now text.now (writes E.Sink faults.old faults.new) }
-{
-    report_text(faults, name);
-    report_text(faults, text);
-}

@@ -5,11 +5,12 @@ ghost use Rattle.devices.specs.Files.{files_of};
 ghost use Rattle.tsremux_cli.specs.Outputs as spec;
 
 use crate::figures::Remuxed;
-use crate::lines::{report_held, report_of};
+use crate::lines::report_held;
 use crate::remuxing::remux;
 use counted_io::{Sink, Source};
 use devices::{NamedFiles, OutputFiles, report_text};
 use std::alloc::Global;
+use tsjob_cli::{TERMINAL, report_of};
 
 // Reports what holds of standard output, if all packets are written, and returns the status.
 fn conclude<E: Sink>(alloc: Global, remuxed: Remuxed, faults: &mut E) -> u8
@@ -57,10 +58,7 @@ pub(crate) fn remux_to_output<F: NamedFiles + OutputFiles, R: Source, W: Sink, E
         (writes E.Sink faults.old faults.new) result }
 {
     if files.shows_output() {
-        report_text(
-            faults,
-            "standard output is a terminal: name a file by -o FILE\n",
-        );
+        report_text(faults, TERMINAL);
         return 2;
     }
     write_output(alloc, words, files, input, output, faults)
