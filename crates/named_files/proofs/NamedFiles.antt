@@ -1,5 +1,5 @@
 -- Files that are named: their bytes one after another, and what is reported of them.
-use Rattle.std.proofs.Common.{◌≡◌, ◌∙◌, ◌<◌, ◌≤◌, ◌+◌, ℕ, Option, Some, true, false, Bool, Result, Err, zero, suc, List, [], ◌∷◌, ◌++◌, length, map, take, drop, get_or, refl, sym, ap, subst, inl, inr, add-one, append_assoc, append-nil, arith}
+use Rattle.std.proofs.Common.{◌≡◌, ◌∙◌, ◌<◌, ◌≤◌, ◌+◌, ℕ, Option, Some, true, false, Bool, Err, zero, suc, List, [], ◌∷◌, ◌++◌, length, map, take, drop, get_or, refl, sym, ap, subst, inl, inr, add-one, append_assoc, append-nil, arith}
 use Rattle.std.specs.Borrow.{Bor}
 use Rattle.std.proofs.Math.Seq.{drop-cons}
 use Rattle.std.proofs.lemmas.List.{length-map, take-append-drop, take_all, take_more}
@@ -11,7 +11,7 @@ use Rattle.devices.specs.declared.halt.Halt.{Halt}
 use Rattle.devices.specs.declared.halt.Halt.TheVariants as halt
 use Rattle.devices.proofs.NamedReaders.{is_unread}
 use Rattle.named_files.specs.ReadFiles.{HasBytes, HaveBytes, StopsAt, StopsAtOne, TellsUnread}
-use Rattle.named_files.specs.Reports.{TellsOf, uncreated_text, unopened_text, unread_text, unwritten_text}
+use Rattle.named_files.specs.Reports.{TellsOf, uncreated_text, unopened_text, unwritten_text}
 use Rattle.named_files.specs.Saving.{Keeps, SavesFile}
 
 -- two texts, one after the other

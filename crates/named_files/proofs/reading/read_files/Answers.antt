@@ -1,6 +1,6 @@
 use Rattle.std.proofs.Common.{◌∙◌, ◌++◌, List, [], ℕ, ap, inr, refl}
 use Rattle.devices.specs.Files.{files_of}
-use Rattle.named_files.proofs.NamedFiles.{all_read, no_bytes, read_more, stops_at_one, stops_later}
+use Rattle.named_files.proofs.NamedFiles.{no_bytes, read_more, stops_at_one, stops_later}
 use Rattle.named_files.proofs.reading.read_files.Goals as goal
 
 pub loop-name-init : goal.loop-name-init
