@@ -93,15 +93,15 @@ fn names_of(head: Head) -> &'static [&'static str]
 fn head_on(word: &[u8]) -> Head
     ensures { result ≡ spec.head_on word.now }
 {
-    if word == b"[network]" {
+    if word == b"[network]".as_slice() {
         Head::Network
-    } else if word == b"[[program]]" {
+    } else if word == b"[[program]]".as_slice() {
         Head::Program
-    } else if word == b"[[stream]]" {
+    } else if word == b"[[stream]]".as_slice() {
         Head::Stream
-    } else if word == b"[[event]]" {
+    } else if word == b"[[event]]".as_slice() {
         Head::Event
-    } else if word == b"[[table]]" {
+    } else if word == b"[[table]]".as_slice() {
         Head::Private
     } else {
         Head::Unknown

@@ -1,5 +1,5 @@
 -- What is reported of an output.
-use Rattle.std.specs.Prelude.{◌⊎◌, ℕ, ◌*◌, ◌/◌, ◌%◌, max, ◌++◌, codes, decimal}
+use Rattle.std.specs.Prelude.{◌⊎◌, ℕ, ◌*◌, ◌/◌, ◌%◌, max, Bool, true, false, ◌++◌, codes, decimal}
 use Rattle.devices.specs.Devices.{Device, IsUntouched}
 use Rattle.devices.specs.Lines.{Reports}
 use Rattle.word_faults.specs.CommandLine.{Text}
@@ -23,6 +23,7 @@ held_text = codes ": every accepted unit by its DTS, no buffer over its size\n"
 abbrev pub held_line : Text → Figures → Text
 held_line name figures = name ++ (figures_text figures ++ held_text)
 
--- it is reported, unless memory for the line runs out
-abbrev pub TellsHeld : Text → Figures → Device → Type 0
-TellsHeld name figures faults = Reports faults (held_line name figures) ⊎ IsUntouched faults
+-- it is reported, unless only refusals are, or memory for the line runs out
+abbrev pub TellsHeld : Bool → Text → Figures → Device → Type 0
+TellsHeld true name figures faults = IsUntouched faults
+TellsHeld false name figures faults = Reports faults (held_line name figures) ⊎ IsUntouched faults

@@ -15,9 +15,7 @@ known_words = known_by options (codes "--" ∷ []) (codes "-V" ∷ []) None
 
 -- the lines before the options, and a line for each option
 abbrev pub usage_front : Text
-usage_front =
-    codes "usage: tsremux [OPTIONS] [FILE..|-] -o OUT\n"
-    ++ (codes "       tsremux [OPTIONS] [FILE..|-] > OUT\n" ++ codes "       tsremux --description FILE [--plan FILE] --records FILE -o OUT\n")
+usage_front = codes "usage: tsremux [OPTIONS] [FILE..|-] -o OUT\n" ++ codes "       tsremux [OPTIONS] [FILE..|-] > OUT\n"
 
 abbrev pub usage_text : List ℕ
 usage_text = usage_by usage_front options

@@ -7,58 +7,17 @@ use tsjob_cli::rows::{
     BASE, BUFFERS, DECLARE, HELP, LEAD, MAKE_DTS, NAME, NETWORK, OUTPUT, PCR, PROGRAM, PROGRESS,
     QUIET, RATE, START, VERBOSE, VERSION, WITHOUT,
 };
-use word_faults::{KnownWords, OptionRow, ValueKind};
+use word_faults::{KnownWords, OptionRow};
 
 /// The options. Which word is a fault, and the usage, follow these rows.
-pub(crate) const OPTIONS: [OptionRow; 21] = [
-    RATE,
-    PROGRAM,
-    WITHOUT,
-    BUFFERS,
-    LEAD,
-    DECLARE,
-    PCR,
-    START,
-    BASE,
-    NETWORK,
-    NAME,
-    MAKE_DTS,
-    OptionRow {
-        name: "description",
-        value: ValueKind::File,
-        form: "FILE",
-        unit: "",
-        apart: "",
-        help: "with records, in place of streams: the description of the multiplex",
-    },
-    OptionRow {
-        name: "plan",
-        value: ValueKind::File,
-        form: "FILE",
-        unit: "",
-        apart: "",
-        help: "the plan for this description; else one is made",
-    },
-    OptionRow {
-        name: "records",
-        value: ValueKind::File,
-        form: "FILE",
-        unit: "",
-        apart: "",
-        help: "with a description: the records of its units",
-    },
-    OUTPUT,
-    QUIET,
-    VERBOSE,
-    PROGRESS,
-    VERSION,
-    HELP,
+pub(crate) const OPTIONS: [OptionRow; 18] = [
+    RATE, PROGRAM, WITHOUT, BUFFERS, LEAD, DECLARE, PCR, START, BASE, NETWORK, NAME, MAKE_DTS,
+    OUTPUT, QUIET, VERBOSE, PROGRESS, VERSION, HELP,
 ];
 
 /// The usage, written to the first writer if the words ask for help, to the second on a usage error: a line for each option of the table.
 const USAGE: &str = "usage: tsremux [OPTIONS] [FILE..|-] -o OUT
        tsremux [OPTIONS] [FILE..|-] > OUT
-       tsremux --description FILE [--plan FILE] --records FILE -o OUT
   --rate 100000..100000000       bits a second; else the least at which a plan is found
   --program N,..                 the programs that are taken
   --without PID,..               PIDs that are left out
@@ -71,9 +30,6 @@ const USAGE: &str = "usage: tsremux [OPTIONS] [FILE..|-] -o OUT
   --network ID:NAME[:ORIGINAL]   the network, and original_network_id
   --name N:NAME[:PROVIDER],..    the names of the services of programs
   --make-dts                     DTS are made from PTS
-  --description FILE             with records, in place of streams: the description of the multiplex
-  --plan FILE                    the plan for this description; else one is made
-  --records FILE                 with a description: the records of its units
   --output FILE                  or -o: the file that is written; else standard output
   --quiet                        or -q: report only why nothing is written
   --verbose                      or -v: report also what is left out without a loss
