@@ -23,7 +23,7 @@ abbrev pub output_word : Text
 output_word = codes "--output"
 
 abbrev pub shorts : List commands.Short
-shorts = map (λ s. record { short = s.short.now; long = s.long.now }) SHORT_NAMES
+shorts = map commands.constant_short SHORT_NAMES
 
 -- with long names of options: the options, the subcommand, then the names of files after `--`
 abbrev pub sorted_words : List Text → List Text

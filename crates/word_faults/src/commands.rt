@@ -9,14 +9,17 @@ use crate::known_words::KnownWords;
 use crate::sorting::{name_words, option_words, push_marked, push_words};
 use std::alloc::{AllocError, Global};
 
-/// The short name of an option, as a word, and its long name.
+/// The short name of an option, as a word, and its long name. It is generic in how these are held, as a row of a table is.
 #[derive(Clone, Copy)]
-pub struct ShortName {
+pub struct Names<Text> {
     /// The short name.
-    pub short: &'static str,
+    pub short: Text,
     /// The long name.
-    pub long: &'static str,
+    pub long: Text,
 }
+
+/// Both names in a constant.
+pub type ShortName = Names<&'static str>;
 
 // The first short name that is this word.
 fn short_of<'w>(shorts: &'w [ShortName], word: &str) -> Option<&'w ShortName>

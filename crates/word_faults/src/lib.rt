@@ -29,7 +29,7 @@ mod usage;
 mod version;
 mod word_fault;
 
-pub use commands::{ShortName, command_of, long_words, sorted_command};
+pub use commands::{Names, ShortName, command_of, long_words, sorted_command};
 pub use faults::{first_fault, word_beside};
 pub use hints::nearest;
 pub use known_words::KnownWords;
