@@ -25,7 +25,7 @@ output_word = codes "--output"
 abbrev pub shorts : List commands.Short
 shorts = map commands.constant_short SHORT_NAMES
 
--- with long names of options: the options, the subcommand, then the names of files after `--`
+-- with long names of options: the subcommand, the options, then the names of files after `--`
 abbrev pub sorted_words : List Text → List Text
 sorted_words words = commands.sorted_command sorting_words (commands.long_words shorts words)
 

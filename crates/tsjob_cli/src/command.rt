@@ -41,7 +41,7 @@ pub const SHORT_NAMES: [ShortName; 3] = [
     },
 ];
 
-// The words with long names of options: the options, the subcommand, then the names of files after `--`.
+// The words with long names of options: the subcommand, the options, then the names of files after `--`.
 fn sorted_words<'a>(alloc: Global, words: &[&'a str]) -> Result<Vec<&'a str>, AllocError>
     ensures { IfOk result (λ sorted. map (λ s. s.now) sorted.items ≡ spec.sorted_words (map (λ s. s.now) words.now)) }
 {

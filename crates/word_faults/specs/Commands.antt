@@ -49,8 +49,8 @@ abbrev pub command_words : Option Text → List Text
 command_words None = []
 command_words (Some w) = w ∷ []
 
--- 3. All words: the options, each with its value, the subcommand, and the names of files after `--`
+-- 3. All words: the subcommand, the options, each with its value, and the names of files after `--`
 
 abbrev pub sorted_command : CommandLine → List Text → List Text
 sorted_command c words =
-    option_words c words ++ (command_words (command_of c words) ++ marked (names_after (command_of c words) (name_words c words)))
+    command_words (command_of c words) ++ (option_words c words ++ marked (names_after (command_of c words) (name_words c words)))

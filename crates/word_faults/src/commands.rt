@@ -95,7 +95,7 @@ fn push_command<'a>(found: &mut Vec<&'a str>, command: Option<&'a str>) -> Resul
     }
 }
 
-/// Returns the options, each with its value, then the subcommand, then the names of files after `--`; no names if the
+/// Returns the subcommand, then the options, each with its value, then the names of files after `--`; no names if the
 /// stream is on standard input.
 pub fn sorted_command<'a>(
     alloc: Global,
@@ -107,8 +107,10 @@ pub fn sorted_command<'a>(
 {
     let command = command_of(known, words);
     let names = name_words(alloc, known, words)?;
-    let mut sorted = option_words(alloc, known, words)?;
+    let options = option_words(alloc, known, words)?;
+    let mut sorted = Vec::new(alloc);
     push_command(&mut sorted, command)?;
+    push_words(&mut sorted, &options)?;
     push_marked(&mut sorted, names_after(command, &names))?;
     Ok(sorted)
 }
