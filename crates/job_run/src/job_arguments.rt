@@ -20,14 +20,25 @@ pub enum Subcommand {
     Why,
 }
 
+/// Which lines are reported.
+#[derive(Clone, Copy, Debug, PartialEq, Eq)]
+pub struct Reporting {
+    /// Whether the input is declared to end with its last PES packets: then an unknown end is no warning.
+    pub whole: bool,
+    /// Whether only refusals are reported, and devices that fail.
+    pub quiet: bool,
+    /// Whether lines are reported too that say of no loss.
+    pub all: bool,
+}
+
 /// The subcommand and the options of a command line.
 #[derive(Drop)]
 pub struct JobArguments<'a> {
     pub subcommand: Subcommand,
     /// The file of a description whose units are written while the stream comes.
     pub stream: Option<&'a str>,
-    /// Whether the input is declared to end with its last PES packets: then an unknown end is no warning.
-    pub whole: bool,
+    /// Which lines are reported.
+    pub reporting: Reporting,
     /// The rate in bits a second, 100,000 to 100,000,000; none: the least rate at which a plan is found.
     pub rate: Option<u64>,
     /// The moment of the first slot, if it is given.
@@ -65,7 +76,7 @@ impl<'a> Model for JobArguments<'a> {
     ghost view = { λ a. record {
       subcommand = a.subcommand;
       stream = option_map (λ s. s.now) a.stream;
-      whole = a.whole;
+      reporting = a.reporting;
       options = record {
         rate = a.rate;
         start = option_map (λ s. s.now) a.start;

@@ -1,6 +1,6 @@
 use Rattle.std.proofs.Common.{◌≡◌, ◌∙◌, ℕ, List, [], Some, ap, sym, rules}
-use Rattle.tsremux_cli.proofs.Remuxed.{made}
-use Rattle.tsremux_cli.proofs.remuxing.make_job.Goals as goal
+use Rattle.tsjob_cli.proofs.MadeJobs.{made}
+use Rattle.tsjob_cli.proofs.made_job.make_job.Goals as goal
 
 pub returns : goal.returns
 returns g c =
