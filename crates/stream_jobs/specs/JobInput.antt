@@ -17,7 +17,7 @@ use Rattle.stream_jobs.specs.declared.warning.Warning.TheVariants as warnings
 use Rattle.stream_jobs.specs.Answers.{and_then, unless}
 use Rattle.stream_jobs.specs.ClockBases.{base0_of}
 use Rattle.stream_jobs.specs.declared.declarations.StreamChoice.{StreamChoice}
-use Rattle.stream_jobs.specs.Declarations.{UnitCountsView, too_many, too_long, all_unit_counts, choices}
+use Rattle.stream_jobs.specs.Declarations.{UnitCountsView, too_many, too_long, all_measured, all_unit_counts, choices}
 use Rattle.stream_jobs.specs.BufferWarnings.{buffer_warnings}
 use Rattle.stream_jobs.specs.JobPrograms.{JobProgramView, job_programs, all_program_warnings, text_warnings}
 use Rattle.stream_jobs.specs.ProgramClocks.{is_clock_on}
@@ -92,7 +92,8 @@ job_warnings options count findings a named found assigned streams =
 -- streams with their units at moments, and the counts of their units
 unfoldable pub with_unit_counts : JobOptionsView → (List UnitCountsView → List StreamChoice → JobInputView) → List TimedStreamView → Result JobInputView JobRefusal
 with_unit_counts options finish streams =
-    and_then (λ all. and_then (λ chosen. Ok (finish all chosen)) (choices options.declare_by options.lead streams all)) (all_unit_counts options.buffers streams)
+    and_then (λ all. and_then (λ chosen. Ok (finish all chosen)) (choices options.declare_by options.lead (all_measured streams) all))
+    (all_unit_counts options.buffers (all_measured streams))
 
 -- the last warnings are about their buffers
 unfoldable pub with_moved : JobOptionsView → JobInformationView → ℕ → List JobProgramView → List JobTableView → List Warning → List TimedStreamView → Result JobInputView JobRefusal
@@ -107,7 +108,7 @@ with_moved options information base programs tables all_warnings streams =
       unit_counts = all;
       choices = chosen;
       tables = tables;
-      warnings = all_warnings ++ buffer_warnings options.buffers streams all chosen;
+      warnings = all_warnings ++ buffer_warnings options.buffers (all_measured streams) all chosen;
     }) streams))
 
 -- why no stream is carried: the first warning of a stream_id that can't be written, of a stream that is left out for a reason, or of
