@@ -88,7 +88,7 @@ moved_of options count findings input is =
     let due = earliest programs tables streams in
     let base = base0_of options.base (first_base due programs streams) in
     let timed = comes (with_moved options information base programs tables warnings) (moved_streams findings due programs streams) input
-    (granted (nothing_carried warnings streams) (and_then (with_moved options information base programs tables warnings) (moved_streams findings due programs streams))
+    (granted (nothing_carried options.strict warnings streams) (and_then (with_moved options information base programs tables warnings) (moved_streams findings due programs streams))
     input assigned.last_is) in
     let done = made options information base programs tables warnings timed.value input timed.last_is in
     record {

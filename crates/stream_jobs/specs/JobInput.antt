@@ -1,5 +1,5 @@
 -- What a job is made of: the programs and streams of a transport stream, and what is declared of their units.
-use Rattle.std.specs.Prelude.{ℕ, ◌==◌, Bool, if◌then◌else◌, List, [], ◌∷◌, ◌++◌, length, map, filter, flat_map, ok_or, Option, Some, None, Result, Ok}
+use Rattle.std.specs.Prelude.{ℕ, ◌==◌, ◌&&◌, not, Bool, true, false, if◌then◌else◌, List, [], ◌∷◌, ◌++◌, length, map, filter, flat_map, ok_or, Option, Some, None, Result, Ok}
 use Rattle.std.specs.List.{list_any}
 use Rattle.std.specs.Option.{option_or}
 use Rattle.psi_tables.specs.declared.pat.programs.Program.{Program}
@@ -111,25 +111,27 @@ with_moved options information base programs tables all_warnings streams =
       warnings = all_warnings ++ buffer_warnings options.buffers (all_measured streams) all chosen;
     }) streams))
 
--- why no stream is carried: the first warning of a stream_id that can't be written, of a stream that is left out for a reason, or of
--- scrambled packets
-unfoldable pub why_nothing : Warning → Option JobRefusal
-why_nothing (warnings.StreamId program pid packet id) = Some (refusals.StreamId packet pid id)
-why_nothing (warnings.LeftOut pid why) = Some why
-why_nothing (warnings.Units pid warning) = if is_scrambled warning.cause then Some refusals.Scrambled else None
-why_nothing _ = None
+-- why a stream is not carried: the first warning of a stream_id that can't be written, or of a stream that is left out for a reason; and
+-- if no stream is carried, of scrambled packets
+unfoldable pub why_nothing : Bool → Warning → Option JobRefusal
+why_nothing some (warnings.StreamId program pid packet id) = Some (refusals.StreamId packet pid id)
+why_nothing some (warnings.LeftOut pid why) = Some why
+why_nothing some (warnings.Units pid warning) = if not some && is_scrambled warning.cause then Some refusals.Scrambled else None
+why_nothing some _ = None
 
-unfoldable pub first_why : List Warning → Option JobRefusal
-first_why [] = None
-first_why (w ∷ ws) = option_or (why_nothing w) (first_why ws)
+unfoldable pub first_why : Bool → List Warning → Option JobRefusal
+first_why some [] = None
+first_why some (w ∷ ws) = option_or (why_nothing some w) (first_why some ws)
 
-unfoldable pub nothing_carried : List Warning → List WireStreamView → Option JobRefusal
-nothing_carried all_warnings streams = if length streams == 0 then first_why all_warnings else None
+-- the refusal if no stream is carried; if that is asked for, also if one is not carried
+unfoldable pub nothing_carried : Bool → List Warning → List WireStreamView → Option JobRefusal
+nothing_carried strict all_warnings streams =
+    if length streams == 0 then first_why false all_warnings else (if strict then first_why true all_warnings else None)
 
 -- streams with their units as on the wire
 unfoldable pub with_streams : JobOptionsView → List FindingView → ℕ → List JobProgramView → List JobTableView → List Warning → List WireStreamView → Result JobInputView JobRefusal
 with_streams options findings id programs tables all_warnings streams =
-    unless (nothing_carried all_warnings streams)
+    unless (nothing_carried options.strict all_warnings streams)
     (and_then (with_moved options (information_of options id findings programs) (base0_of options.base (first_base (earliest programs tables streams) programs streams)) programs tables all_warnings)
     (moved_streams findings (earliest programs tables streams) programs streams))
 

@@ -47,8 +47,8 @@ without_in rows = numbers_of options (codes "without") rows
 -- 2. All of them
 
 -- with empty lists
-abbrev pub plain : Subcommand → Option Text → Bool → Option ℕ → Option Text → ℕ → ℕ → DeclareBy → Bool → ClockBase → JobArgumentsView
-plain subcommand stream whole rate start pcr_limit lead declare_by make_dts base = record {
+abbrev pub plain : Subcommand → Option Text → Bool → Option ℕ → Option Text → ℕ → ℕ → DeclareBy → Bool → Bool → ClockBase → JobArgumentsView
+plain subcommand stream whole rate start pcr_limit lead declare_by make_dts strict base = record {
   subcommand = subcommand;
   stream = stream;
   whole = whole;
@@ -59,6 +59,7 @@ plain subcommand stream whole rate start pcr_limit lead declare_by make_dts base
     lead = lead;
     declare_by = declare_by;
     make_dts = make_dts;
+    strict = strict;
     base = base;
     network = None;
     names = [];
@@ -79,7 +80,7 @@ values_of rows =
     given (lead_in rows) (λ lead.
     given (declare_by_of (first_of (codes "declare") rows)) (λ declare_by.
     given (base_of (first_of (codes "base") rows)) (λ base.
-    Some (plain subcommand stream (is_given (first_of (codes "whole") rows)) rate start pcr_limit lead declare_by (is_given (first_of (codes "make-dts") rows)) base)))))))))
+    Some (plain subcommand stream (is_given (first_of (codes "whole") rows)) rate start pcr_limit lead declare_by (is_given (first_of (codes "make-dts") rows)) (is_given (first_of (codes "strict") rows)) base)))))))))
 
 -- with lists
 abbrev pub with_lists : List ℕ → List ℕ → List PidBuffers → Option NetworkNameView → List ServiceNameView → JobArgumentsView → JobArgumentsView

@@ -10,7 +10,7 @@ use option_lists::Scale;
 use word_faults::{KnownWords, OptionRow, ValueKind, word_beside};
 
 /// The options, and the word beside them. What is read, which word is a fault, and the usage follow these rows.
-pub(crate) const OPTIONS: [OptionRow; 18] = [
+pub(crate) const OPTIONS: [OptionRow; 19] = [
     OptionRow {
         name: "subcommand",
         value: ValueKind::Word,
@@ -131,6 +131,14 @@ pub(crate) const OPTIONS: [OptionRow; 18] = [
         help: "DTS are made from PTS",
     },
     OptionRow {
+        name: "strict",
+        value: ValueKind::Flag,
+        form: "",
+        unit: "",
+        apart: "",
+        help: "a stream that cannot be carried refuses the input; else it is left out",
+    },
+    OptionRow {
         name: "whole",
         value: ValueKind::Flag,
         form: "",
@@ -188,6 +196,7 @@ const USAGE: &str = "usage: tsjob [describe|units|why] [OPTIONS] < PACKETS > JOB
   --network ID:NAME[:ORIGINAL]   the network, and original_network_id
   --name N:NAME[:PROVIDER],..    the names of the services of programs
   --make-dts                     DTS are made from PTS
+  --strict                       a stream that cannot be carried refuses the input; else it is left out
   --whole                        the input is no capture: its last PES packets are whole
   --stream FILE                  with units: those of the streams of this description, while the stream comes
   --progress                     report each second how many bytes are read, on a terminal

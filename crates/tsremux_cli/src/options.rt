@@ -7,7 +7,7 @@ use option_lists::Scale;
 use word_faults::{KnownWords, OptionRow, ValueKind};
 
 /// The options. Which word is a fault, and the usage, follow these rows.
-pub(crate) const OPTIONS: [OptionRow; 16] = [
+pub(crate) const OPTIONS: [OptionRow; 17] = [
     OptionRow {
         name: "rate",
         value: ValueKind::Scaled {
@@ -120,6 +120,14 @@ pub(crate) const OPTIONS: [OptionRow; 16] = [
         help: "DTS are made from PTS",
     },
     OptionRow {
+        name: "strict",
+        value: ValueKind::Flag,
+        form: "",
+        unit: "",
+        apart: "",
+        help: "a stream that cannot be carried refuses the input; else it is left out",
+    },
+    OptionRow {
         name: "progress",
         value: ValueKind::Flag,
         form: "",
@@ -168,6 +176,7 @@ const USAGE: &str = "usage: tsremux [OPTIONS] [FILE..|-] -o OUT
   --network ID:NAME[:ORIGINAL]   the network, and original_network_id
   --name N:NAME[:PROVIDER],..    the names of the services of programs
   --make-dts                     DTS are made from PTS
+  --strict                       a stream that cannot be carried refuses the input; else it is left out
   --progress                     report each second how many bytes are read, on a terminal
   --output FILE                  or -o: the file that is written; else standard output
   --version                      or -V, alone: the version, and the kit that proved it
