@@ -148,7 +148,7 @@ counts : (n : ℕ) → packets_of_unit (packet_of n) ≡ n
 unfolding packet_of
 counts n = omega arith
 
-pub all_count : (ns : List ℕ) → map packets_of_unit (map packet_of ns) ≡ ns
+all_count : (ns : List ℕ) → map packets_of_unit (map packet_of ns) ≡ ns
 all_count [] = refl
 all_count (n ∷ ns) = rw (counts n, all_count ns) refl
 

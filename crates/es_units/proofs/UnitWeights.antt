@@ -28,7 +28,7 @@ weight_end id base0 i units ws over so_far = so_far ∙ ap (weights id base0) (t
 
 -- of units at moments
 
-pub found_more : (id base0 : ℕ) (ms later : List UnitMoment) (m : UnitMoment) (us rest : List CarriedUnit) (u : CarriedUnit) (all before after : List UnitWeight) (w : UnitWeight) →
+found_more : (id base0 : ℕ) (ms later : List UnitMoment) (m : UnitMoment) (us rest : List CarriedUnit) (u : CarriedUnit) (all before after : List UnitWeight) (w : UnitWeight) →
     ms ≡ m ∷ later → us ≡ u ∷ rest → w ≡ weight_of id base0 (at.unit_at m u) → after ≡ before ++ w ∷ [] →
     all ≡ before ++ weights id base0 (units_at ms us) → all ≡ after ++ weights id base0 (units_at later rest)
 unfolding units_at
@@ -37,23 +37,33 @@ found_more id base0 ms later m us rest u all before after w first next made grow
     let begun : weights id base0 (units_at ms us) ≡ w ∷ rest_are = rw (first, next, made) refl in
     rw grown (is ∙ ap (λ (ws : List UnitWeight). before ++ ws) begun ∙ sym (append_assoc before (w ∷ []) rest_are))
 
+pub found_next : (id base0 i : ℕ) (ms later : List UnitMoment) (m : UnitMoment) (us : List CarriedUnit) (u : CarriedUnit) (all before after : List UnitWeight) (w : UnitWeight) →
+    i < length us → u ≡ get_or us i u → ms ≡ m ∷ later → w ≡ weight_of id base0 (at.unit_at m u) → after ≡ before ++ w ∷ [] →
+    all ≡ before ++ weights id base0 (units_at ms (drop i us)) → all ≡ after ++ weights id base0 (units_at later (drop (i + 1) us))
+found_next id base0 i ms later m us u all before after w below here first made grown is =
+    let next : drop i us ≡ u ∷ drop (i + 1) us = rw (drop-cons us i u below, add-one i, sym here) refl in
+    found_more id base0 ms later m (drop i us) (drop (i + 1) us) u all before after w first next made grown is
+
 pub found_end : (id base0 : ℕ) (rest : List AccessUnit) (all before : List UnitWeight) → rest ≡ [] → all ≡ before ++ weights id base0 rest → before ≡ all
 found_end id base0 rest all before none is = sym (is ∙ ap (λ (us : List AccessUnit). before ++ weights id base0 us) none ∙ append-nil before)
 
 -- 2. Counts one by one
 
-pub size_more : (i : ℕ) (ws : List UnitWeight) (w : UnitWeight) → i < length ws → w ≡ get_or ws i w → weighed_size (drop i ws) ≡ max w.size (weighed_size (drop (i + 1) ws))
+abbrev pub none : UnitWeight
+none = record { dts = 0; size = 0; packets = 0 }
+
+pub size_more : (i : ℕ) (ws : List UnitWeight) (w : UnitWeight) → i < length ws → w ≡ get_or ws i none → weighed_size (drop i ws) ≡ max w.size (weighed_size (drop (i + 1) ws))
 unfolding weighed_size
-size_more i ws w below at = rw (drop-cons ws i w below, add-one i, sym at) refl
+size_more i ws w below at = rw (drop-cons ws i none below, add-one i, sym at) refl
 
 pub size_end : (i : ℕ) (ws : List UnitWeight) → length ws ≤ i → weighed_size (drop i ws) ≡ 0
 unfolding weighed_size
 size_end i ws over = rw (drop_all i ws over) refl
 
-pub interval_more : (i last : ℕ) (ws : List UnitWeight) (w : UnitWeight) → i < length ws → w ≡ get_or ws i w →
+pub interval_more : (i last : ℕ) (ws : List UnitWeight) (w : UnitWeight) → i < length ws → w ≡ get_or ws i none →
     weighed_after last (drop i ws) ≡ min (w.dts - last) (weighed_after w.dts (drop (i + 1) ws))
 unfolding weighed_after
-interval_more i last ws w below at = rw (drop-cons ws i w below, add-one i, sym at) refl
+interval_more i last ws w below at = rw (drop-cons ws i none below, add-one i, sym at) refl
 
 pub interval_end : (i last : ℕ) (ws : List UnitWeight) → length ws ≤ i → weighed_after last (drop i ws) ≡ 90_000
 unfolding weighed_after
@@ -64,16 +74,16 @@ unfolding weighed_after
 interval_most last [] = omega arith
 interval_most last (w ∷ ws) = omega (arith, interval_most w.dts ws)
 
-step_more : (i last : ℕ) (ws : List UnitWeight) (w : UnitWeight) → i < length ws → w ≡ get_or ws i w →
+step_more : (i last : ℕ) (ws : List UnitWeight) (w : UnitWeight) → i < length ws → w ≡ get_or ws i none →
     weighed_steps last (drop i ws) ≡ record { time = w.dts - last; packets = w.packets } ∷ weighed_steps w.dts (drop (i + 1) ws)
 unfolding weighed_steps
-step_more i last ws w below at = rw (drop-cons ws i w below, add-one i, sym at) refl
+step_more i last ws w below at = rw (drop-cons ws i none below, add-one i, sym at) refl
 
 pub step_end : (i last : ℕ) (ws : List UnitWeight) → length ws ≤ i → weighed_steps last (drop i ws) ≡ []
 unfolding weighed_steps
 step_end i last ws over = rw (drop_all i ws over) refl
 
-pub counted_more : (i last time : ℕ) (ws : List UnitWeight) (w : UnitWeight) (all before after : List UnitStep) → i < length ws → w ≡ get_or ws i w →
+pub counted_more : (i last time : ℕ) (ws : List UnitWeight) (w : UnitWeight) (all before after : List UnitStep) → i < length ws → w ≡ get_or ws i none →
     time ≡ w.dts - last → after ≡ before ++ record { time = time; packets = w.packets } ∷ [] → all ≡ before ++ weighed_steps last (drop i ws) →
     all ≡ after ++ weighed_steps w.dts (drop (i + 1) ws)
 counted_more i last time ws w all before after below at t grown is =
@@ -117,4 +127,4 @@ runs_are id base0 us = rw (steps_are id base0 0 us, size_is id base0 us) refl
 
 pub units_are : (us : List AccessUnit) → weighed_units (weights 0 0 us) ≡ counted_units us
 unfolding weighed_units counted_units
-units_are us = rw (length-map us (weight_of 0 0), interval_is 0 0 us, size_is 0 0 us, packets_are 0 0 us, runs_are 0 0 us) refl
+units_are us = rw (length-map us (weight_of 0 0), interval_is 0 0 us, packets_are 0 0 us, runs_are 0 0 us, size_is 0 0 us) refl

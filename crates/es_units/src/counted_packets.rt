@@ -90,7 +90,8 @@ impl<A: Allocator + Clone> CountedPackets<A> {
         ensures { IfOk result (λ packets. (id : ℕ) → packets ≡ spec.counted_packets id base0 units.now) }
     {
         let weights = unit_weights(alloc.clone()?, base0, units)?;
-        CountedPackets::of_weights(alloc, &weights)
+        let packets = CountedPackets::of_weights(alloc, &weights)?;
+        Ok(packets)
     }
 }
 

@@ -104,11 +104,12 @@ fn weighed_units<A: Allocator + Clone>(
 
 impl<A: Allocator + Clone> CountedUnits<A> {
     /// Counts the units of a stream.
-    pub fn of_units(alloc: A, units: &[Unit<A>]) -> Result<Self, AllocError>
-        ensures { IfOk result (λ c. c ≡ spec.counted_units units.now) }
+    pub fn of_units(alloc: A, all: &[Unit<A>]) -> Result<Self, AllocError>
+        ensures { IfOk result (λ c. c ≡ spec.counted_units all.now) }
     {
-        let weights = unit_weights(alloc.clone()?, 0, units)?;
-        weighed_units(alloc, &weights)
+        let weights = unit_weights(alloc.clone()?, 0, all)?;
+        let units = weighed_units(alloc, &weights)?;
+        Ok(units)
     }
 
     /// Counts the units of a stream at these moments, whose bytes stay where they are found.
@@ -120,6 +121,7 @@ impl<A: Allocator + Clone> CountedUnits<A> {
         ensures { IfOk result (λ c. c ≡ spec.counted_units (at.units_at moments.now found.now)) }
     {
         let weights = found_weights(alloc.clone()?, 0, moments, found)?;
-        weighed_units(alloc, &weights)
+        let units = weighed_units(alloc, &weights)?;
+        Ok(units)
     }
 }

@@ -153,7 +153,8 @@ impl<A: Allocator + Clone> UnitRuns<A> {
         ensures { IfOk result (λ runs. (id : ℕ) → runs ≡ spec.unit_runs id base0 units.now) }
     {
         let weights = unit_weights(alloc.clone()?, base0, units)?;
-        UnitRuns::of_weights(alloc, &weights)
+        let runs = UnitRuns::of_weights(alloc, &weights)?;
+        Ok(runs)
     }
 }
 

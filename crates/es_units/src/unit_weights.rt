@@ -103,14 +103,13 @@ pub(crate) fn found_weights<A: Allocator>(
     ensures bound { IfOk result (λ ws. All spec.IsWeight ws.items) }
 {
     let mut weights = Vec::with_capacity(alloc, found.len())?;
-    let mut left = found;
     let mut later = moments;
-    'units: while let Some((unit, others)) = left.split_first() {
+    for unit in found {
         let Some((moment, rest)) = later.split_first() else {
             return Ok(weights);
         };
-        weights.push(found_weight(base0, *moment, unit)?)?;
-        left = others;
+        let weight = found_weight(base0, *moment, unit)?;
+        weights.push(weight)?;
         later = rest;
     }
     Ok(weights)

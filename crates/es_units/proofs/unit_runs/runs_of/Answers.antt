@@ -1,15 +1,15 @@
 use Rattle.std.specs.List.{flat_map}
-use Rattle.std.proofs.Common.{◌++◌, [], ◌∙◌, List, sym, ap}
+use Rattle.std.proofs.Common.{◌++◌, [], ◌∙◌, List, get_or, refl, sym, ap}
 use Rattle.std.proofs.lemmas.List.Elements.{All-push}
 use Rattle.std.proofs.lemmas.List.{append-nil, flat_map_more}
 use Rattle.es_units.specs.UnitRuns.{IsRun, UnitStep, steps_of}
-use Rattle.es_units.proofs.UnitWeights.{counted_more, step_end}
+use Rattle.es_units.proofs.UnitWeights.{counted_more, none, step_end}
 use Rattle.es_units.proofs.unit_runs.runs_of.Goals as goal
 
 pub loop-weight-preserved : goal.loop-weight-preserved
 loop-weight-preserved g c = record {
-  steps = counted_more c.loop-weight.weight-index c.loop-weight.last c.saturating_sub-time.result c.args.weights.now c.weight-item.result
-      _ _ _ c.loop-weight-test.true c.weight-item.is c.saturating_sub-time.ensures c.in_ok-run.ensures.steps c.loop-weight.invariant.steps;
+  steps = counted_more c.loop-weight.weight-index c.loop-weight.last c.saturating_sub-time.result c.args.weights.now (get_or c.args.weights.now c.loop-weight.weight-index none)
+      _ _ _ c.loop-weight-test.true refl c.saturating_sub-time.ensures c.in_ok-run.ensures.steps c.loop-weight.invariant.steps;
   run = c.in_ok-run.ensures.next;
   runs = c.in_ok-run.ensures.runs;
 }
