@@ -2,8 +2,9 @@
 //!
 //! The coding is the coding of its entry in the program map (`specs/Codings`), with what its first access unit says in the
 //! structures of `specs/Structures`: its profile, level, video buffer or number of channels (`specs/Sequences`, `Avc`,
-//! `Hevc`, `Adts`); the buffers are those of the standards (`specs/Video`, `Buffers`). The frames of units of sound are counted by
-//! their headers (`specs/FrameHeaders`, `Frames`).
+//! `Hevc`, `Adts`); the buffers are those of the standards (`specs/Video`, `Buffers`). The frames of units of sound are
+//! counted by their headers (`specs/FrameHeaders`, `Frames`), or found as the bytes of a unit come (`specs/FrameWalks`).
+//! `specs/Stays` says how long a byte of a stream may stay in a decoder.
 #![tactic(auto)]
 
 mod ac3;
@@ -15,6 +16,7 @@ mod buffers;
 mod coding;
 mod frame;
 mod frame_headers;
+mod frame_walk;
 mod frames;
 mod hevc;
 mod jpeg2000;
@@ -22,6 +24,7 @@ mod layers;
 mod pcm;
 mod rbsp;
 mod sequences;
+mod stays;
 mod structures;
 mod video_buffers;
 
@@ -32,4 +35,6 @@ pub use buffers::{
 };
 pub use coding::{AvcSequence, Coding, HevcSequence, J2kLimits, MpegSequence, coding_of};
 pub use frame_headers::{FrameKind, frame_kind};
+pub use frame_walk::{FramePart, FrameWalk};
 pub use frames::{UnitFrames, unit_frames};
+pub use stays::longest_stay;
