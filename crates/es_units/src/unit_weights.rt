@@ -56,18 +56,20 @@ pub(crate) fn unit_weights<A: Allocator>(
 fn found_packet_size<A: Allocator>(base0: u64, moment: UnitMoment, unit: &FoundUnit<'_, A>) -> u64
     requires { length unit.now.unit.bytes ≤ 2 ^ 62 }
     ensures size { (id : ℕ) → result ≡ length (pes_packet_bytes id base0 (at.unit_at moment unit.now)) }
-    ensures most { result ≤ 2 ^ 62 + 45 }
+    ensures most { result ≤ 2 ^ 62 + 64 }
 {
     header_sizes();
     let size = unit.bytes.len() as u64;
     if unit.marks.long {
         return 45 + size;
     }
-    if on_wire(base0, moment.pts) == on_wire(base0, moment.dts) {
-        14 + size
+    let header = if on_wire(base0, moment.pts) == on_wire(base0, moment.dts) {
+        14
     } else {
-        19 + size
-    }
+        19
+    };
+    let extension = unit.marks.size() - field_size(unit.marks.random_access);
+    header + extension as u64 + size
 }
 
 // What counts of a unit at these moments.
