@@ -1,6 +1,6 @@
 use Rattle.std.proofs.Common.{◌≡◌, length, map}
 use Rattle.stream_coding.specs.Frames.{no_frames, all_frames}
-use Rattle.stream_jobs.proofs.declarations.all_frames.Given as goal
+use Rattle.stream_jobs.proofs.stream_measures.all_frames.Given as goal
 
 abbrev pub invariant-loop-unit : goal.invariant-loop-unit
 invariant-loop-unit l =

@@ -2,7 +2,7 @@ use Rattle.std.proofs.Common.{◌≡◌, ◌∙◌, Some, None, sym, ap, rules}
 use Rattle.stream_coding.specs.declared.frames.UnitFrames.{UnitFrames}
 use Rattle.stream_coding.specs.Frames.{all_frames, unit_frames}
 use Rattle.stream_jobs.proofs.FrameSums.{all_bytes, frames_more, frames_stop, frames_end}
-use Rattle.stream_jobs.proofs.declarations.all_frames.Goals as goal
+use Rattle.stream_jobs.proofs.stream_measures.all_frames.Goals as goal
 
 pub loop-unit-init : goal.loop-unit-init
 loop-unit-init c = ap (λ (d : UnitFrames). all_frames c.args.kind d (all_bytes c.args.units.now)) (sym c.none-frames.ensures)
