@@ -145,12 +145,7 @@ fn note_data<A: Allocator>(
         payload[7] < 128 && (payload[3] == 0xBD && size == 36),
         found,
     )?;
-    note(
-        pid,
-        Field::PrivateData,
-        loses_private_data(payload),
-        found,
-    )?;
+    note(pid, Field::PrivateData, loses_private_data(payload), found)?;
     note(
         pid,
         Field::OtherHeaderData,
