@@ -19,6 +19,7 @@ pub fn usual() -> JobOptions<'static> {
         lead: 90_000,
         declare_by: DeclareBy::Groups,
         make_dts: false,
+        strict: false,
         base: ClockBase::Input,
         network: None,
         names: &[],
