@@ -15,6 +15,7 @@ use crate::entry_events::stream_event;
 use crate::stream_entry::StreamEntry;
 use crate::tally::Tally;
 use crate::video_figures::view_video_if;
+use crate::mark_tally::MarkTally;
 use crate::video_tally::VideoTally;
 use crate::view_choice::ViewChoice;
 use crate::view_options::ViewOptions;
@@ -102,6 +103,7 @@ fn new_entry(
         buffers: held,
         tally: Tally::new(),
         video_tally: VideoTally::new(),
+        mark_tally: MarkTally::new(),
     }
 }
 
