@@ -85,6 +85,7 @@ with_event s (events.Transport e) = with_buffer s (buffer e.pid kinds.Transport 
 with_event s (events.Main e) = with_main s e
 with_event s (events.Multiplexing e) = with_buffer s (buffer e.pid kinds.Multiplexing e.most e.size) e.excesses
 with_event s (events.Elementary e) = with_buffer s (buffer e.pid kinds.Elementary e.most e.size) e.excesses
+with_event s (events.Marks e) = s
 with_event s (events.System e) = with_system s e
 with_event s (events.Clock e) = s
 with_event s (events.Table e) = s

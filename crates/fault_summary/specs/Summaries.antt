@@ -65,6 +65,7 @@ is_variable (events.Transport e) = false
 is_variable (events.Main e) = false
 is_variable (events.Multiplexing e) = false
 is_variable (events.Elementary e) = false
+is_variable (events.Marks e) = false
 is_variable (events.System e) = false
 is_variable (events.Clock e) = false
 is_variable (events.Table e) = false

@@ -60,6 +60,7 @@ with_event v (events.Transport e) = v
 with_event v (events.Main e) = v
 with_event v (events.Multiplexing e) = v
 with_event v (events.Elementary e) = v
+with_event v (events.Marks e) = v
 with_event v (events.System e) = v
 with_event v (events.Clock e) = v
 with_event v (events.Table e) = v

@@ -2,7 +2,7 @@
 use Rattle.std.specs.Prelude.{◌≡◌, ℕ, List, [], ◌∷◌}
 use Rattle.events.specs.declared.event.Event.{Event}
 use Rattle.events.specs.declared.timed_event.TimedEvent.{TimedEvent}
-use Rattle.events.specs.declared.event.Event.TheVariants.{Input, Stream, Window, Held, Units, Excess, MainExcess, MultiplexingExcess, ElementaryExcess, SystemExcess, SystemMainExcess, Late, ElementaryLate, Ahead, PcrRepetition, PcrDiscontinuity, PcrAccuracy, TableRepetition, Unclocked, Refused, Continuity, CheckWord, Transport, Main, Multiplexing, Elementary, System, Clock, Table, Pid, Unreferenced, Missing, Check, End, Rule, Summary}
+use Rattle.events.specs.declared.event.Event.TheVariants.{Input, Stream, Window, Held, Units, Excess, MainExcess, MultiplexingExcess, ElementaryExcess, SystemExcess, SystemMainExcess, Late, ElementaryLate, Ahead, PcrRepetition, PcrDiscontinuity, PcrAccuracy, TableRepetition, Unclocked, Refused, Continuity, CheckWord, Transport, Main, Multiplexing, Elementary, Marks, System, Clock, Table, Pid, Unreferenced, Missing, Check, End, Rule, Summary}
 use Rattle.events.specs.declared.event.ReportEnd.{ReportEnd}
 use Rattle.view_page.specs.declared.page.Page.{Page}
 use Rattle.page_charts.specs.PidLabels.{LabelsState, no_labels}
@@ -58,6 +58,7 @@ end_after end (Transport e) = end
 end_after end (Main e) = end
 end_after end (Multiplexing e) = end
 end_after end (Elementary e) = end
+end_after end (Marks e) = end
 end_after end (System e) = end
 end_after end (Clock e) = end
 end_after end (Table e) = end
