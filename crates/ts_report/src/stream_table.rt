@@ -12,10 +12,10 @@ ghost use Rattle.ts_report.specs.StreamTables.{AreEntries, IsTable, TableState};
 
 use crate::clocks::Clocks;
 use crate::entry_events::stream_event;
+use crate::mark_tally::MarkTally;
 use crate::stream_entry::StreamEntry;
 use crate::tally::Tally;
 use crate::video_figures::view_video_if;
-use crate::mark_tally::MarkTally;
 use crate::video_tally::VideoTally;
 use crate::view_choice::ViewChoice;
 use crate::view_options::ViewOptions;

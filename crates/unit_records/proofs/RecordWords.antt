@@ -1,5 +1,5 @@
 -- The word of a record is read as the marks and the size that it was made of.
-use Rattle.std.proofs.Common.{◌≡◌, ◌≢◌, ℕ, ◌+◌, ◌-◌, ◌*◌, ◌/◌, ◌%◌, ◌^◌, ◌<◌, ◌≤◌, ◌==◌, Bool, true, false, cond, Option, Some, None, is_some, IfSome, List, ◌++◌, length, drop, drop_at, refl, sym, ap, ◌∙◌, arith, inl, inr, ltb}
+use Rattle.std.proofs.Common.{◌≡◌, ◌≢◌, ℕ, ◌+◌, ◌-◌, ◌*◌, ◌/◌, ◌%◌, ◌^◌, ◌<◌, ◌≤◌, Bool, true, false, cond, Option, Some, None, is_some, IfSome, List, ◌++◌, length, drop, drop_at, refl, sym, ap, ◌∙◌, arith, inl, inr, ltb}
 use Rattle.std.proofs.lemmas.Bool.{lt-ltb, ltb-true, le-leb, and_from, cases_eq}
 use Rattle.bit_fields.specs.Fields.{bit, flag}
 use Rattle.bit_fields.proofs.Fields.{test_bit}
