@@ -45,7 +45,11 @@ impl Analyser {
     }
 
     /// Takes an event, and appends it with the moment of its packet.
-    pub fn take_event(&mut self, event: Event, events: &mut Vec<TimedEvent>) -> Result<(), AllocError>
+    pub fn take_event(
+        &mut self,
+        event: Event,
+        events: &mut Vec<TimedEvent>,
+    ) -> Result<(), AllocError>
         ensures analysed { (s : AnalysisState) → IsAnalysed self.old s →
             OnOk result (IsAnalysed self.new (spec.with_event s event)) }
         ensures found { (s : AnalysisState) → IsAnalysed self.old s →
@@ -144,7 +148,8 @@ impl Analyser {
     {
         let mut found = Vec::new(self.alloc);
         let clocked = self.view.is_clocked();
-        self.summary.push_end(self.alloc, good, clocked, &mut found)?;
+        self.summary
+            .push_end(self.alloc, good, clocked, &mut found)?;
         push_untimed(found, events)
     }
 }
