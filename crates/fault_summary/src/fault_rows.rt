@@ -1,5 +1,5 @@
 //! Faults by kind and stream.
-ghost use Rattle.std.specs.Prelude.{◌≡◌, ◌==◌, ◌++◌, OnOk, length};
+ghost use Rattle.std.specs.Prelude.{◌≡◌, ◌<◌, ◌==◌, ◌++◌, OnOk, length};
 ghost use Rattle.fault_summary.specs.FaultRows as spec;
 
 use events::{Event, Fault, FaultKind, FaultSource, FaultTotals, SummaryEvent};
@@ -30,7 +30,8 @@ impl Model for FaultRows {
 
 #[tactic(auto, unfolding(crate::specs::FaultRows::number_of))]
 fn number_of(source: FaultSource) -> u64
-    ensures { result ≡ spec.number_of source }
+    ensures value { result ≡ spec.number_of source }
+    ensures most { result < 16777216 }
 {
     match source {
         FaultSource::Whole => 0,

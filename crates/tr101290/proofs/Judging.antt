@@ -55,7 +55,7 @@ all_given s r d q = rw (d, q) refl
 undecided : (s : JudgeState) (rs : List (ℕ × PcrReport)) → is_decided s ≡ false → JudgedFrom s rs
 unfolding after_all errors_all all_errors
 undecided s [] d = ap (if_constant s) (sym (append-nil s.held))
-undecided s (r ∷ rs) d = by (is_decided (with_report s r.0 r.1)) refl
+undecided s (r ∷ rs) d = by (is_decided (with_report s r.0 r.1)) refl (λ q. undecided (with_report s r.0 r.1) rs q)
   where
     e : List PidError
     e = error_list r.0 (accuracy_error r.1)
@@ -63,13 +63,13 @@ undecided s (r ∷ rs) d = by (is_decided (with_report s r.0 r.1)) refl
     t : JudgeState
     t = with_report s r.0 r.1
 
-    by : (b : Bool) → is_decided (with_report s r.0 r.1) ≡ b → JudgedFrom s (r ∷ rs)
-    by false q =
+    by : (b : Bool) → is_decided (with_report s r.0 r.1) ≡ b → (is_decided (with_report s r.0 r.1) ≡ false → JudgedFrom (with_report s r.0 r.1) rs) → JudgedFrom s (r ∷ rs)
+    by false q later =
         ap₂ (λ (a : List PidError) (u : JudgeState). (a ++ errors_all u rs) ++ last_errors (after_all u rs)) (none_yet s r d q) (waits s r d q)
-        ∙ undecided t rs q
+        ∙ later q
         ∙ ap (if_constant (after_all t rs)) (append_assoc s.held e (all_errors rs))
         ∙ ap (λ (u : JudgeState). if_constant (after_all u rs) (s.held ++ (e ++ all_errors rs))) (sym (waits s r d q))
-    by true q =
+    by true q later =
         let u : JudgeState = record { rate = t.rate; pairs = t.pairs; apart = t.apart; held = [] } in
         let is : taken s r.0 r.1 ≡ u = settles s r d ∙ forgets t q in
         let last : after_all (taken s r.0 r.1) rs ≡ u = ap (λ (v : JudgeState). after_all v rs) is ∙ stays u rs q in

@@ -53,11 +53,11 @@ fn is_spaced(pid: u16, table_id: u8) -> bool
 }
 
 // The key of a section.
-fn extension_key(section: &WholeSection) -> u64
-    ensures { result ≡ spec.extension_key section.now }
+fn extension_key(section: WholeSection) -> u64
+    ensures { result ≡ spec.extension_key section }
 {
-    let key = key_of(section.begin.pid, section.begin.table_id);
-    u64::from(key) * 65_536 + u64::from(section.extension)
+    u64::from(key_of(section.begin.pid, section.begin.table_id)) * 65_536
+        + u64::from(section.extension)
 }
 
 fn whole_ticks(rate: Rate, packets: u64) -> u128
@@ -135,7 +135,7 @@ impl<A: Allocator + Copy> SectionDistances<A> {
         if !is_spaced(section.begin.pid, section.begin.table_id) {
             return Ok(None);
         }
-        let key = extension_key(section);
+        let key = extension_key(*section);
         let before = end_at(&self.ends, key);
         self.keep(key, before.is_some(), section.end)?;
         Ok(too_soon(self.timing, section, before))
