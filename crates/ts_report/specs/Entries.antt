@@ -1,5 +1,6 @@
 -- A stream that the tables name: its PID, the PID of its program's clock references, the counter of its last packet with a payload,
--- what its buffers hold, and what is counted of it; of video the sizes of its two buffers, if they are viewed, and what is counted of them.
+-- what its buffers hold, and what is counted of it; of video the sizes of its two buffers, if they are viewed, and what is counted of them; and what is counted of the
+-- marks of its units.
 use Rattle.std.specs.Prelude.{◌≡◌, ℕ, ◌/◌, ◌==◌, ◌&&◌, not, is_some, nat_le, nat_lt, unwrap_or, Bool, true, false, if◌then◌else◌, length, List, [], ◌++◌, Option, Some, None}
 use Rattle.ts_packet.specs.Views.{PacketView}
 use Rattle.arrival.specs.Arrivals.{step_of}
@@ -22,6 +23,8 @@ use Rattle.ts_report.specs.declared.tally.Tally.{Tally}
 use Rattle.ts_report.specs.Clocks.{ahead_of, beginning_of, due_at, longest_stay}
 use Rattle.ts_report.specs.EntryEvents.{ahead_events, closing_events, ended_events}
 use Rattle.ts_report.specs.HeldEvents.{tally_events}
+use Rattle.ts_report.specs.MarkTallies.{mark_events, with_beginning}
+use Rattle.ts_report.specs.declared.mark_tally.MarkTally.{MarkTally}
 use Rattle.ts_report.specs.Tallies.{with_excesses, with_packet, with_unit_if}
 use Rattle.ts_report.specs.declared.entry_events.Place.{Place}
 use Rattle.ts_report.specs.declared.video_tally.VideoTally.{VideoTally}
@@ -37,6 +40,7 @@ pub record EntryState : Type 0 where
   pub tally : Tally
   pub video : Option VideoSizes
   pub video_tally : VideoTally
+  pub mark_tally : MarkTally
 
 pub record IsEntry (entry : StreamEntry) (e : EntryState) : Type 0 where
   pub pid : entry.pid ≡ e.pid
@@ -46,6 +50,7 @@ pub record IsEntry (entry : StreamEntry) (e : EntryState) : Type 0 where
   pub tally : entry.tally ≡ e.tally
   pub video : HoldsVideoOf entry.buffers e.video e.held
   pub video_tally : entry.video_tally ≡ e.video_tally
+  pub mark_tally : entry.mark_tally ≡ e.mark_tally
 
 -- 1. What a packet is to its buffers
 
@@ -122,6 +127,7 @@ entry_after options index window clock e packet = record {
   tally = tally_after e.tally window (is_unread (beginning_in e.counter packet)) (entered_at options index clock e packet);
   video = e.video;
   video_tally = with_video e.video_tally (video_at options index clock e packet) (video_unit_at options index clock e packet);
+  mark_tally = with_beginning e.mark_tally (beginning_in e.counter packet) packet;
 }
 
 -- 3. At the end: what is counted, with the unit under way as the last one
@@ -150,7 +156,7 @@ abbrev pub end_events : ViewOptions → ℕ → ℕ → EntryState → List Even
 end_events options packets window e =
     tally_events options window (place_at packets e) (closed window e)
     ++ (closing_events options (place_at packets e) e.held (closed window e)
-    ++ video_closing_events options (place_at packets e) (figures_of e.video e.held) (closed window e).units e.video_tally)
+    ++ (video_closing_events options (place_at packets e) (figures_of e.video e.held) (closed window e).units e.video_tally ++ mark_events e.pid e.mark_tally))
 
 -- no buffer held more than its size, and no unit was late: the same of the two buffers of video, if they are viewed
 abbrev pub is_sound : EntryState → Bool

@@ -3,6 +3,7 @@ pub mod WindowEvents
 pub mod Choices
 pub mod Clocks
 pub mod Tallies
+pub mod MarkTallies
 pub mod EntryEvents
 pub mod VideoTallies
 pub mod VideoFigures

@@ -16,6 +16,7 @@ mod clocked_view;
 mod clocks;
 mod entry_events;
 mod held_events;
+mod mark_tally;
 mod pid_labels;
 mod reference_events;
 mod seen;

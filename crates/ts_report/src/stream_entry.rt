@@ -12,6 +12,7 @@ ghost use Rattle.ts_report.specs.VideoEvents.{video_ended_events};
 use crate::clocks::{Beginning, LONGEST_STAY, ahead_of, beginning_of, due_at};
 use crate::entry_events::{Place, push_ahead_if, push_closing, push_ended};
 use crate::held_events::push_window_if;
+use crate::mark_tally::{MarkTally, push_marks};
 use crate::tally::Tally;
 use crate::video_events::{push_video_closing, push_video_ended};
 use crate::video_figures::{VideoLimits, is_video_good, video_figures, video_limits};
@@ -27,7 +28,7 @@ use tstd_rows::{Arriving, DueTime, Entered, StreamBuffers, TRANSPORT_BYTES};
 const MOST_WAITING: usize = 4_096;
 
 /// A stream: its PID, the PID of its program's clock references, the counter of its last packet with a payload, its buffers, and what is
-/// counted of it, and of its two buffers of video.
+/// counted of it, of its two buffers of video, and of the marks of its units.
 #[derive(Drop)]
 pub(crate) struct StreamEntry {
     pub pid: u16,
@@ -36,6 +37,7 @@ pub(crate) struct StreamEntry {
     pub buffers: StreamBuffers,
     pub tally: Tally,
     pub video_tally: VideoTally,
+    pub mark_tally: MarkTally,
 }
 
 #[tactic(auto, unfolding(crate::specs::Entries::same_counter))]
@@ -232,6 +234,7 @@ impl StreamEntry {
         self.counter = counter_after(self.counter, packet);
         add_entered(&mut self.tally, window, is_unread(beginning), &entered);
         self.video_tally.add_packet(&entered.video);
+        self.mark_tally.add_packet(beginning, packet);
         Ok(())
     }
 
@@ -287,7 +290,8 @@ impl StreamEntry {
             &figures,
             tally.units,
             &self.video_tally,
-        )
+        )?;
+        push_marks(events, self.pid, &self.mark_tally)
     }
 
     // Whether neither the transport buffer nor the main buffer held more than its size, and no unit was late.

@@ -12,6 +12,7 @@ ghost use Rattle.ts_report.specs.StreamTables.{AreEntries, IsTable, TableState};
 
 use crate::clocks::Clocks;
 use crate::entry_events::stream_event;
+use crate::mark_tally::MarkTally;
 use crate::stream_entry::StreamEntry;
 use crate::tally::Tally;
 use crate::video_figures::view_video_if;
@@ -102,6 +103,7 @@ fn new_entry(
         buffers: held,
         tally: Tally::new(),
         video_tally: VideoTally::new(),
+        mark_tally: MarkTally::new(),
     }
 }
 

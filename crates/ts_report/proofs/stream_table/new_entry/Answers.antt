@@ -17,4 +17,5 @@ returns c =
       tally = c.new.ensures;
       video = c.view_video_if.ensures.video (empty rate rx c.args.buffers.main) begun refl;
       video_tally = c.new-2.ensures;
+      mark_tally = c.new-3.ensures;
     }
