@@ -83,7 +83,7 @@ fn note_ends<A: Allocator + Copy>(
     ensures { OnOk result (found.new ≡ all_noted found.old (ended_found demux.now.packets demux.now.states)) }
 {
     for i in 0..demux.pids() {
-        let mut ends = Vec::new(alloc);
+        let mut ends: Vec<Finding<'static, A>, A> = Vec::new(alloc);
         demux.end_of_pid(i, &mut ends)?;
         found.note_all(ends.as_slice())?;
     }

@@ -14,6 +14,8 @@ pub mod StreamTables
 pub mod ClockEvents
 pub mod ReferenceEvents
 pub mod TableEvents
+pub mod RuleEvents
+pub mod Moments
 pub mod SystemEvents
 pub mod Seen
 pub mod Views

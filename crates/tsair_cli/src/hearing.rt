@@ -7,8 +7,8 @@ ghost use Rattle.on_air.specs.Airing.{Run, silence};
 ghost use Rattle.on_air.specs.AirStates.{IsOnAir};
 ghost use Rattle.tsair_cli.specs.HeardRecords.{HearsAll, refusal_line};
 
-use checked_jobs::report_refusal;
 use counted_io::Sink;
+use devices::report_line;
 use held_input::HeldInput;
 use on_air::{AirRefusal, Ending, Heard, OnAir, OutputFault};
 use std::alloc::Global;
@@ -28,14 +28,16 @@ fn report_refused<E: Sink>(faults: &mut E, index: u64, cause: AirRefusal)
     ensures { Reports (writes E.Sink faults.old faults.new) (refusal_line (index, cause)) }
 {
     let index = u128::from(index);
-    let _ = match cause {
-        AirRefusal::Followed { packet, from, to } => {
-            let numbers = [index, u128::from(packet), u128::from(from), u128::from(to)];
-            report_refusal(faults, "leap", &numbers)
-        }
-        AirRefusal::Feed(_) => report_refusal(faults, "unit", &[index, u128::from(cause.code())]),
-        AirRefusal::Ahead => report_refusal(faults, "unit", &[index, u128::from(cause.code())]),
-    };
+    let code = u128::from(cause.code());
+    match cause {
+        AirRefusal::Followed { packet, from, to } => report_line(
+            faults,
+            "leap",
+            &[index, u128::from(packet), u128::from(from), u128::from(to)],
+        ),
+        AirRefusal::Feed(_) => report_line(faults, "unit", &[index, code]),
+        AirRefusal::Ahead => report_line(faults, "unit", &[index, code]),
+    }
 }
 
 /// Takes all records of a run, and reports each refused record before the next is read, and before the slots up to it are

@@ -71,7 +71,7 @@ fn list_held(alloc: Global, demux: &HeaderDemux, text: &mut Vec<u8>) -> Result<b
     ensures fault { IfOk result (λ faulty. faulty ≡ has_fault (held_found demux.now.packets demux.now.held)) }
     ensures memory { IfErr result (λ halt. halt ≡ Halt.Memory) }
 {
-    let mut found = Vec::new(alloc);
+    let mut found: Vec<Finding<'static>> = Vec::new(alloc);
     let Ok(()) = demux.end_of_packet(alloc, &mut found) else {
         return Err(Halt::Memory);
     };
@@ -94,7 +94,7 @@ fn list_end_of_pid(
         (map (with_pid entry.0 demux.now.packets) (ended true entry.1.open_unit))) }
     ensures memory { IfErr result (λ halt. halt ≡ Halt.Memory) }
 {
-    let mut found = Vec::new(alloc);
+    let mut found: Vec<Finding<'static>> = Vec::new(alloc);
     let Ok(()) = demux.end_of_pid(index, &mut found) else {
         return Err(Halt::Memory);
     };
