@@ -6,6 +6,8 @@ use crate::check_counts::CheckTotals;
 use crate::input_event::InputEvent;
 use crate::packet_fault::{CheckWordFault, CounterFault, RefusedPacket};
 use crate::pid_name::PidName;
+use crate::rule_event::RuleEvent;
+use crate::summary::SummaryEvent;
 use crate::video_event::{ElementaryLate, ElementaryTotals, MultiplexingTotals};
 use std::marker::Model;
 
@@ -273,4 +275,6 @@ pub enum Event {
     Missing(u16),
     Check(CheckTotals),
     End(ReportEnd),
+    Rule(RuleEvent),
+    Summary(SummaryEvent),
 }
