@@ -4,7 +4,7 @@ use Rattle.events.specs.declared.event.BufferExcess.{BufferExcess}
 use Rattle.events.specs.declared.event.ClockFault.{ClockFault}
 use Rattle.events.specs.declared.event.ClockTotals.{ClockTotals}
 use Rattle.events.specs.declared.event.Event.{Event}
-use Rattle.events.specs.declared.event.Event.TheVariants.{Input, Stream, Window, Held, Units, Excess, MainExcess, MultiplexingExcess, ElementaryExcess, SystemExcess, SystemMainExcess, Late, ElementaryLate, Ahead, PcrRepetition, PcrDiscontinuity, PcrAccuracy, TableRepetition, Unclocked, Refused, Continuity, CheckWord, Transport, Main, Multiplexing, Elementary, System, Clock, Table, Pid, Unreferenced, Missing, Check, End, Rule, Summary}
+use Rattle.events.specs.declared.event.Event.TheVariants.{Input, Stream, Window, Held, Units, Excess, MainExcess, MultiplexingExcess, ElementaryExcess, SystemExcess, SystemMainExcess, Late, ElementaryLate, Ahead, PcrRepetition, PcrDiscontinuity, PcrAccuracy, TableRepetition, Unclocked, Refused, Continuity, CheckWord, Transport, Main, Multiplexing, Elementary, Marks, System, Clock, Table, Pid, Unreferenced, Missing, Check, End, Rule, Summary}
 use Rattle.events.specs.declared.event.FarAhead.{FarAhead}
 use Rattle.events.specs.declared.event.HeldFigures.{HeldFigures}
 use Rattle.events.specs.declared.event.LateUnit.{LateUnit}
@@ -24,6 +24,7 @@ use Rattle.events.specs.FaultLines.{check_word_line, continuity_line, refused_li
 use Rattle.events.specs.Faults.{fault_of}
 use Rattle.events.specs.FieldViews.{FieldView}
 use Rattle.events.specs.InputLines.{input_line}
+use Rattle.events.specs.MarkLines.{marks_line}
 use Rattle.events.specs.PidNames.{line_word}
 use Rattle.events.specs.ReportLines.{field_text, first_text, last_text, line_of, name_text, number_field, quoted, word_field}
 use Rattle.events.specs.RuleLines.{rule_line}
@@ -174,6 +175,7 @@ event_line json (Transport e) = transport_line json e
 event_line json (Main e) = main_line json e
 event_line json (Multiplexing e) = multiplexing_line json e
 event_line json (Elementary e) = elementary_line json e
+event_line json (Marks e) = marks_line json e
 event_line json (System e) = system_line json e
 event_line json (Clock e) = clock_line json e
 event_line json (Table e) = table_line json e

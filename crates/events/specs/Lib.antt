@@ -15,4 +15,5 @@ pub mod FileForms
 pub mod InputLines
 pub mod RuleLines
 pub mod SummaryLines
+pub mod MarkLines
 pub mod EventLines

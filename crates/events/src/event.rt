@@ -4,6 +4,7 @@
 //! fullness are in bytes, rates in bits a second.
 use crate::check_counts::CheckTotals;
 use crate::input_event::InputEvent;
+use crate::mark_event::MarkTotals;
 use crate::packet_fault::{CheckWordFault, CounterFault, RefusedPacket};
 use crate::pid_name::PidName;
 use crate::rule_event::RuleEvent;
@@ -265,6 +266,7 @@ pub enum Event {
     Main(MainTotals),
     Multiplexing(MultiplexingTotals),
     Elementary(ElementaryTotals),
+    Marks(MarkTotals),
     System(SystemTotals),
     Clock(ClockTotals),
     Table(TableTotals),

@@ -11,6 +11,7 @@ use crate::figure_lines::{
 };
 use crate::input_lines::write_input;
 use crate::lines::{number, write_last, write_line};
+use crate::mark_lines::write_marks;
 use crate::packet_lines::{
     write_ahead, write_clock_fault, write_excess, write_late, write_program_excess, write_stream,
     write_table_fault, write_unclocked,
@@ -65,6 +66,7 @@ fn write_event(
         Event::Main(e) => write_main(text, json, e),
         Event::Multiplexing(e) => write_multiplexing(text, json, e),
         Event::Elementary(e) => write_elementary(text, json, e),
+        Event::Marks(e) => write_marks(text, json, e),
         Event::System(e) => write_system(text, json, e),
         Event::Clock(e) => write_clock(text, json, e),
         Event::Table(e) => write_table(text, json, e),

@@ -19,6 +19,8 @@ mod figure_lines;
 mod input_event;
 mod input_lines;
 mod lines;
+mod mark_event;
+mod mark_lines;
 mod packet_fault;
 mod packet_lines;
 mod pid_name;
@@ -45,6 +47,7 @@ pub use event_lines::write_events;
 pub use fault::{Fault, Measured, fault_of};
 pub use fault_kind::{FaultKind, FaultSource};
 pub use input_event::{FileForm, InputEvent, OtherRate, SlippedBytes};
+pub use mark_event::MarkTotals;
 pub use packet_fault::{CheckWordFault, CounterFault, RefusalCause, RefusedPacket};
 pub use pid_name::PidName;
 pub use rule_event::{

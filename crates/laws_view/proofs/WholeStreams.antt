@@ -5,6 +5,7 @@ use Rattle.events.specs.declared.event.Event.{Event}
 use Rattle.ts_report.specs.EntryEvents.{main_event, main_figures, transport_total, under_way_events}
 use Rattle.ts_report.specs.Entries.{EntryState, closed, closed_seen, place_at, seen_held, stays_closing}
 use Rattle.ts_report.specs.HeldEvents.{tally_events}
+use Rattle.ts_report.specs.MarkTallies.{mark_events}
 use Rattle.ts_report.specs.VideoEvents.{video_closing_events}
 use Rattle.ts_report.specs.VideoFigures.{figures_of}
 use Rattle.laws_view.specs.WholeStreams.{LastEventsLaw}
@@ -20,7 +21,8 @@ last_events_law options count window e =
     let window_events = tally_events options window (place_at count e) t in
     let under_way = under_way_events options (place_at count e) h in
     let totals = transport_total (place_at count e) h t ∷ main_event (place_at count e) (main_figures h t) t ∷ [] in
-    let after = video_closing_events options (place_at count e) (figures_of e.video h) t.units e.video_tally ++ stays_closing options (place_at count e) e in
+    let after = video_closing_events options (place_at count e) (figures_of e.video h) t.units e.video_tally
+    ++ (stays_closing options (place_at count e) e ++ mark_events e.pid e.mark_tally) in
     record {
       before = window_events ++ under_way;
       events = ap (λ (es : List Event). window_events ++ es) (append_assoc under_way totals after) ∙ sym (append_assoc window_events under_way (totals ++ after));

@@ -85,7 +85,7 @@ parts_from zero w place bytes = []
 parts_from (suc n) w place bytes =
     if length bytes == 0 then []
     else part_at (begun w) place bytes
-        ∷ parts_from n (passed (begun w) bytes) (place + count_passed (begun w) bytes) (drop (count_passed (begun w) bytes) bytes)
+    ∷ parts_from n (passed (begun w) bytes) (place + count_passed (begun w) bytes) (drop (count_passed (begun w) bytes) bytes)
 
 unfoldable pub walked_from : ℕ → WalkView → List ℕ → WalkView
 walked_from zero w bytes = w

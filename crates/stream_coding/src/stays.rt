@@ -58,6 +58,10 @@ pub fn longest_stay(stream_type: u8, descriptors: &[u8]) -> u32
         0x10 | 0x1b | 0x24 => if has_stills(descriptors) { 60 } else { 10 },
         0x11 | 0x1c => 10,
         0x03 | 0x04 | 0x0f => 1,
-        _ => if is_ac3(stream_type, descriptors) { 1 } else { 60 },
+        _ => if is_ac3(stream_type, descriptors) {
+            1
+        } else {
+            60
+        },
     }
 }

@@ -21,6 +21,8 @@ use Rattle.ts_report.specs.declared.view_options.ViewOptions.{ViewOptions}
 use Rattle.ts_report.specs.EntryFrames.{AreCounted, Counted, FramedPayload, frames_among, payload_after, payload_events, place_of, walk_in, whole_after, whole_events, front_after, count_of}
 use Rattle.ts_report.specs.Entries.{AreFrames, EntryState, Framed, IsEntry, arriving_at, beginning_in, counted_at, entry_after, entry_entered, events_entered, framed_after, held_after, held_in, is_unread, parts_delayed, payload_at, payload_of, seen_held, seen_tally, tally_in, unit_stay, video_tally_after, counter_after}
 use Rattle.ts_report.specs.StreamTables.{new_framed}
+use Rattle.ts_report.specs.MarkTallies.{with_beginning}
+use Rattle.ts_report.specs.declared.mark_tally.MarkTally.{MarkTally}
 use Rattle.ts_report.specs.Tallies.{more, none_counted}
 use Rattle.ts_report.specs.VideoTallies.{with_video}
 use Rattle.ts_report.proofs.Frames.{held_alone}
@@ -90,14 +92,14 @@ framed_video entry e f k is = subst (λ (o : Option Framed). HoldsVideoOf entry.
 
 -- a packet has entered the buffers of one that is not
 pub whole_entered : (entry entry' : StreamEntry) (options : ViewOptions) (index window : ℕ) (clock : Option PcrSample) (e : EntryState) (packet : PacketView) → IsEntry entry e → e.framed ≡ None →
-    entry'.pid ≡ entry.pid → entry'.clock_pid ≡ entry.clock_pid → entry'.counter ≡ entry.counter → entry'.frames ≡ None → entry'.limit ≡ entry.limit →
+    entry'.pid ≡ entry.pid → entry'.clock_pid ≡ entry.clock_pid → entry'.counter ≡ entry.counter → entry'.frames ≡ None → entry'.limit ≡ entry.limit → entry'.mark_tally ≡ entry.mark_tally →
     AreCounted entry'.seen (whole_after options window (is_unread (beginning_in e.counter packet)) (arriving_at options index clock e packet) (counted_of e e.held e.tally)) →
     HoldsVideoOf entry'.seen.buffers e.video (after e.held options.arrival (arriving_at options index clock e packet)) →
     entry'.video_tally ≡ with_video e.video_tally (video_of e.video e.held options.arrival (arriving_at options index clock e packet))
         (video_unit_of e.video e.held options.arrival (arriving_at options index clock e packet)) →
     IsEntry entry' (entry_entered options index window clock e packet)
 unfolding held_in tally_in framed_after parts_delayed video_tally_after AreFrames
-whole_entered entry entry' options index window clock e packet k none pid clock_pid counter no limit counted video videos = record {
+whole_entered entry entry' options index window clock e packet k none pid clock_pid counter no limit marks counted video videos = record {
   pid = pid ∙ k.pid;
   clock_pid = clock_pid ∙ k.clock_pid;
   counter = counter ∙ k.counter;
@@ -105,6 +107,7 @@ whole_entered entry entry' options index window clock e packet k none pid clock_
   tally = rw none counted.tally;
   video = rw none video;
   video_tally = rw none videos;
+  mark_tally = marks ∙ k.mark_tally;
   frames = rw (none, no) tt;
   limit = limit ∙ k.limit;
   delayed = rw none counted.delayed;
@@ -118,14 +121,14 @@ whole_found options index clock place e packet none = rw none refl
 -- and of one that is
 pub framed_entered : (entry entry' : StreamEntry) (options : ViewOptions) (index window : ℕ) (clock : Option PcrSample) (e : EntryState) (packet : PacketView) (f : Framed) (fr : EntryFrames) →
     IsEntry entry e → e.framed ≡ Some f → entry'.pid ≡ entry.pid → entry'.clock_pid ≡ entry.clock_pid → entry'.counter ≡ entry.counter → entry'.frames ≡ Some fr →
-    entry'.limit ≡ entry.limit → entry'.video_tally ≡ entry.video_tally →
+    entry'.limit ≡ entry.limit → entry'.video_tally ≡ entry.video_tally → entry'.mark_tally ≡ entry.mark_tally →
     fr.walk ≡ walk_after (walk_in (payload_at options index clock e.counter packet f) f.walk) (payload_at options index clock e.counter packet f).bytes →
     fr.tick ≡ unwrap_or (payload_at options index clock e.counter packet f).tick f.tick →
     AreCounted entry'.seen (counted_at options index window clock e.limit e.counter e.delayed packet f) →
     HoldsVideoOf entry'.seen.buffers e.video (counted_at options index window clock e.limit e.counter e.delayed packet f).held →
     IsEntry entry' (entry_entered options index window clock e packet)
 unfolding held_in tally_in framed_after parts_delayed video_tally_after AreFrames
-framed_entered entry entry' options index window clock e packet f fr k is pid clock_pid counter some limit same walk tick counted video = record {
+framed_entered entry entry' options index window clock e packet f fr k is pid clock_pid counter some limit same marks walk tick counted video = record {
   pid = pid ∙ k.pid;
   clock_pid = clock_pid ∙ k.clock_pid;
   counter = counter ∙ k.counter;
@@ -133,6 +136,7 @@ framed_entered entry entry' options index window clock e packet f fr k is pid cl
   tally = rw is counted.tally;
   video = rw is video;
   video_tally = rw is (same ∙ k.video_tally);
+  mark_tally = marks ∙ k.mark_tally;
   frames = rw (is, some) (walk, tick);
   limit = limit ∙ k.limit;
   delayed = rw is counted.delayed;
@@ -163,8 +167,9 @@ pub entry_counted : (entry entry' : StreamEntry) (options : ViewOptions) (index 
     entry'.counter ≡ counter_after e.counter packet → entry'.frames ≡ entry.frames → entry'.limit ≡ entry.limit → entry'.video_tally ≡ entry.video_tally →
     entry'.seen.buffers ≡ entry.seen.buffers → entry'.seen.tally ≡ entry.seen.tally →
     entry'.seen.delayed ≡ more entry.seen.delayed (if is_some (unit_stay options index clock e.limit e.counter packet) then 1 else 0) →
+    entry'.mark_tally ≡ with_beginning entry.mark_tally (beginning_in e.counter packet) packet →
     IsEntry entry' (entry_after options index window clock e packet)
-entry_counted entry entry' options index window clock e packet k pid clock_pid counter frames limit videos buffers tally delayed =
+entry_counted entry entry' options index window clock e packet k pid clock_pid counter frames limit videos buffers tally delayed marks =
     let s = entry_entered options index window clock e packet in
     record {
       pid = pid ∙ k.pid;
@@ -174,6 +179,7 @@ entry_counted entry entry' options index window clock e packet k pid clock_pid c
       tally = tally ∙ k.tally;
       video = subst (λ (b : StreamBuffers). HoldsVideoOf b e.video (seen_held s)) (sym buffers) k.video;
       video_tally = videos ∙ k.video_tally;
+      mark_tally = marks ∙ ap (λ (t : MarkTally). with_beginning t (beginning_in e.counter packet) packet) k.mark_tally;
       frames = subst (λ (o : Option EntryFrames). AreFrames o s.framed) (sym frames) k.frames;
       limit = limit ∙ k.limit;
       delayed = delayed ∙ ap (λ (n : ℕ). more n (if is_some (unit_stay options index clock e.limit e.counter packet) then 1 else 0)) k.delayed;

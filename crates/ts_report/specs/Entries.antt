@@ -1,7 +1,7 @@
 -- A stream that the tables name: its PID, the PID of its program's clock references, the counter of its last packet with a payload,
 -- what its buffers hold by PES packets, and what is counted of it; of video the sizes of its two buffers, if they are viewed, and what is
 -- counted of them; of sound what its buffers hold by access units, if these are viewed; how long a byte may stay in them, and how many units
--- had bytes that stayed longer.
+-- had bytes that stayed longer; and what is counted of the marks of its units.
 use Rattle.std.specs.Prelude.{◌≡◌, ℕ, ◌+◌, ◌-◌, ◌/◌, ◌^◌, ◌==◌, ◌&&◌, min, not, is_some, nat_le, nat_lt, unwrap_or, Bool, true, false, if◌then◌else◌, length, List, [], ◌++◌, Option, Some, None}
 use Rattle.ts_packet.specs.Views.{PacketView}
 use Rattle.arrival.specs.Arrivals.{step_of}
@@ -24,6 +24,8 @@ use Rattle.ts_report.specs.declared.tally.Tally.{Tally}
 use Rattle.ts_report.specs.Clocks.{ahead_of, beginning_of, due_at, longest_stay}
 use Rattle.ts_report.specs.EntryEvents.{ahead_events, closing_events, ended_events}
 use Rattle.ts_report.specs.HeldEvents.{tally_events}
+use Rattle.ts_report.specs.MarkTallies.{mark_events, with_beginning}
+use Rattle.ts_report.specs.declared.mark_tally.MarkTally.{MarkTally}
 use Rattle.ts_report.specs.Tallies.{more, tally_after, with_unit_if}
 use Rattle.ts_report.specs.EntryStays.{busy_closing, delayed_events, is_idle, overstay_if, payload_byte}
 use Rattle.ts_report.specs.EntryFrames.{Counted, FramedPayload, busy_seen, frame_bytes, frames_among, frames_held, front_held, is_leak_idle, leak_busy_of, leak_under_way, payload_after, payload_events, place_of, stays_ended, unit_tick, walk_in, whole_events}
@@ -53,6 +55,7 @@ pub record EntryState : Type 0 where
   pub tally : Tally
   pub video : Option VideoSizes
   pub video_tally : VideoTally
+  pub mark_tally : MarkTally
   pub framed : Option Framed
   pub limit : ℕ
   pub delayed : ℕ
@@ -87,6 +90,7 @@ pub record IsEntry (entry : StreamEntry) (e : EntryState) : Type 0 where
   pub tally : entry.seen.tally ≡ seen_tally e
   pub video : HoldsVideoOf entry.seen.buffers e.video (seen_held e)
   pub video_tally : entry.video_tally ≡ e.video_tally
+  pub mark_tally : entry.mark_tally ≡ e.mark_tally
   pub frames : AreFrames entry.frames e.framed
   pub limit : entry.limit ≡ e.limit
   pub delayed : entry.seen.delayed ≡ e.delayed
@@ -210,6 +214,7 @@ entry_entered options index window clock e packet = record {
   tally = tally_after e.tally window (is_unread (beginning_in e.counter packet)) (entered_at options index clock e packet);
   video = e.video;
   video_tally = video_tally_after options index clock e.framed e packet;
+  mark_tally = e.mark_tally;
   framed = framed_after options index window clock e.limit e.counter e.delayed packet e.framed;
   limit = e.limit;
   delayed = parts_delayed options index window clock e.limit e.counter e.delayed packet e.framed;
@@ -225,6 +230,7 @@ entry_after options index window clock e packet = record {
   tally = tally_after e.tally window (is_unread (beginning_in e.counter packet)) (entered_at options index clock e packet);
   video = e.video;
   video_tally = video_tally_after options index clock e.framed e packet;
+  mark_tally = with_beginning e.mark_tally (beginning_in e.counter packet) packet;
   framed = framed_after options index window clock e.limit e.counter e.delayed packet e.framed;
   limit = e.limit;
   delayed = delayed_after options index window clock e.limit e.counter e.delayed packet e.framed;
@@ -282,7 +288,7 @@ end_events options packets window e =
     tally_events options window (place_at packets e) (closed_seen window e)
     ++ (closing_events options (place_at packets e) (seen_held e) (closed_seen window e)
     ++ (video_closing_events options (place_at packets e) (figures_of e.video (seen_held e)) (closed_seen window e).units e.video_tally
-    ++ stays_closing options (place_at packets e) e))
+    ++ (stays_closing options (place_at packets e) e ++ mark_events e.pid e.mark_tally)))
 
 -- no buffer held more than its size, and no unit was late: the same of the two buffers of video, if they are viewed
 abbrev pub is_sound : EntryState → Bool

@@ -3,6 +3,7 @@ pub mod WindowEvents
 pub mod Choices
 pub mod Clocks
 pub mod Tallies
+pub mod MarkTallies
 pub mod EntryEvents
 pub mod VideoTallies
 pub mod VideoFigures
@@ -15,6 +16,8 @@ pub mod StreamTables
 pub mod ClockEvents
 pub mod ReferenceEvents
 pub mod TableEvents
+pub mod RuleEvents
+pub mod Moments
 pub mod SystemEvents
 pub mod Seen
 pub mod Views

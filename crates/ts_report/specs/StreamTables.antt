@@ -28,6 +28,7 @@ use Rattle.ts_report.specs.EntryEvents.{stream_event}
 use Rattle.ts_report.specs.Tallies.{none_counted}
 use Rattle.ts_report.specs.VideoFigures.{sizes_if}
 use Rattle.ts_report.specs.VideoTallies.{none_of_video}
+use Rattle.ts_report.specs.MarkTallies.{none_marked}
 use Rattle.tstd_rows.specs.declared.video_buffers.VideoRates.{VideoRates}
 
 -- which streams are viewed, the place of each PID, and the streams
@@ -91,6 +92,7 @@ new_entry options pid clock_pid buffers rates kind limit = record {
   tally = none_counted;
   video = sizes_if (step_of options.arrival) buffers.rx rates;
   video_tally = none_of_video;
+  mark_tally = none_marked;
   framed = new_framed (empty (step_of options.arrival) buffers.rx buffers.main) kind;
   limit = limit;
   delayed = 0;

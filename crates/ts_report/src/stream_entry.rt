@@ -16,6 +16,7 @@ use crate::entry_stays::{
     is_idle, overstay_if, payload_byte, push_busy_closing, push_busy_if, push_delayed_if,
 };
 use crate::held_events::push_window_if;
+use crate::mark_tally::{MarkTally, push_marks};
 use crate::tally::Tally;
 use crate::video_events::push_video_closing;
 use crate::video_figures::{is_video_good, video_figures};
@@ -31,7 +32,7 @@ use tstd_rows::{Arriving, BusyWatch, DueTime, Stay, StreamBuffers, TRANSPORT_BYT
 const MOST_WAITING: usize = 4_096;
 
 /// A stream: its PID, the PID of its program's clock references, the counter of its last packet with a payload, its buffers with what is
-/// counted of them, and what is counted of its two buffers of video.
+/// counted of them, and what is counted of its two buffers of video, and of the marks of its units.
 #[derive(Drop)]
 pub(crate) struct StreamEntry {
     pub pid: u16,
@@ -39,6 +40,7 @@ pub(crate) struct StreamEntry {
     pub counter: Option<u8>,
     pub seen: CountedBuffers,
     pub video_tally: VideoTally,
+    pub mark_tally: MarkTally,
     /// Of sound that is viewed by access units, where the walk over its frames is.
     pub frames: Option<EntryFrames>,
     /// How long in ticks a byte may stay.
@@ -347,6 +349,7 @@ impl StreamEntry {
         push_stays(events, options, &place, &before, &self.seen.busy())?;
         self.counter = counter_after(self.counter, packet);
         self.seen.add_delayed_if(&stay);
+        self.mark_tally.add_packet(beginning, packet);
         Ok(())
     }
 
@@ -419,7 +422,8 @@ impl StreamEntry {
             tally.units,
             &self.video_tally,
         )?;
-        self.push_stays_closing(events, options, &place)
+        self.push_stays_closing(events, options, &place)?;
+        push_marks(events, self.pid, &self.mark_tally)
     }
 
     // Whether neither the transport buffer nor the main buffer held more than its size, and no unit was late.

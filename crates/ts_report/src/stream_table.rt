@@ -16,6 +16,7 @@ use crate::clocks::Clocks;
 use crate::counted_buffers::CountedBuffers;
 use crate::entry_events::stream_event;
 use crate::entry_frames::{EntryFrames, unit_in};
+use crate::mark_tally::MarkTally;
 use crate::stream_entry::StreamEntry;
 use crate::tally::Tally;
 use crate::video_figures::view_video_if;
@@ -108,6 +109,7 @@ fn new_entry(
             delayed: 0,
         },
         video_tally: VideoTally::new(),
+        mark_tally: MarkTally::new(),
         frames: frames_of(alloc, kind),
         limit,
     }

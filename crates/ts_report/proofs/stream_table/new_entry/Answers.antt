@@ -22,6 +22,7 @@ returns c =
       video = subst (λ (h : Held). HoldsVideoOf c.view_video_if.new.buffers (sizes_if rate rx c.args.rates.now) h) (sym (new_held (empty rate rx c.args.buffers.main) c.args.kind))
           (c.view_video_if.ensures.video (empty rate rx c.args.buffers.main) begun refl);
       video_tally = c.new-2.ensures;
+      mark_tally = c.new-3.ensures;
       frames = c.frames_of.ensures (empty rate rx c.args.buffers.main);
       limit = refl;
       delayed = refl;

@@ -27,12 +27,12 @@ frames-preserved c =
           c.bytes_after-left-in-frames.result.now some more c.begin-ahead.ensures.walk c.pass-size.ensures.walk c.pass-size.ensures.count c.bytes_after-left-in-frames.ensures
           c.frames.invariant.walk;
       bound = omega (
-          arith,
-          ap (λ (l : List ℕ). length l) c.bytes_after-left-in-frames.ensures,
-          length-drop c.pass-size.result c.frames.left.now,
-          c.pass-size.ensures.bound,
-          c.frames.invariant.bound,
-        );
+        arith,
+        ap (λ (l : List ℕ). length l) c.bytes_after-left-in-frames.ensures,
+        length-drop c.pass-size.result c.frames.left.now,
+        c.pass-size.ensures.bound,
+        c.frames.invariant.bound,
+      );
     }
 
 pub returns-clause-walk : goal.returns-clause-walk
