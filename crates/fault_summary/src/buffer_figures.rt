@@ -31,7 +31,8 @@ pub struct BufferFigures {
 fn is_further(next: &BufferMost, than: &BufferMost) -> bool
     ensures { result ≡ spec.is_further next.now than.now }
 {
-    than.most.saturating_mul(u128::from(next.size)) < next.most.saturating_mul(u128::from(than.size))
+    than.most.saturating_mul(u128::from(next.size))
+        < next.most.saturating_mul(u128::from(than.size))
 }
 
 #[tactic(auto, unfolding(crate::specs::BufferFigures::worst_of))]
@@ -40,7 +41,11 @@ fn worst_of(before: Option<BufferMost>, next: BufferMost) -> Option<BufferMost>
 {
     match before {
         None => Some(next),
-        Some(before) => Some(if is_further(&next, &before) { next } else { before }),
+        Some(before) => Some(if is_further(&next, &before) {
+            next
+        } else {
+            before
+        }),
     }
 }
 
@@ -118,7 +123,10 @@ impl BufferFigures {
     {
         match event {
             Event::Transport(e) => {
-                *self = self.with(buffer(e.pid, BufferKind::Transport, e.most, e.size), e.excesses);
+                *self = self.with(
+                    buffer(e.pid, BufferKind::Transport, e.most, e.size),
+                    e.excesses,
+                );
             }
             Event::Multiplexing(e) => {
                 *self = self.with(

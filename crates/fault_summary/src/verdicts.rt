@@ -47,9 +47,7 @@ fn with_check(verdict: CheckVerdict, totals: &CheckTotals) -> CheckVerdict
         checks: verdict
             .checks
             .saturating_add(u64::from(totals.untold.is_none())),
-        failed: verdict
-            .failed
-            .saturating_add(u64::from(has_failed(totals))),
+        failed: verdict.failed.saturating_add(u64::from(has_failed(totals))),
         first: first_failed(verdict.first, totals),
     }
 }
