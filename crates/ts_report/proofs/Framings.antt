@@ -96,7 +96,7 @@ pub whole_entered : (entry entry' : StreamEntry) (options : ViewOptions) (index 
     AreCounted entry'.seen (whole_after options window (is_unread (beginning_in e.counter packet)) (arriving_at options index clock e packet) (counted_of e e.held e.tally)) →
     HoldsVideoOf entry'.seen.buffers e.video (after e.held options.arrival (arriving_at options index clock e packet)) →
     entry'.video_tally ≡ with_video e.video_tally (video_of e.video e.held options.arrival (arriving_at options index clock e packet))
-        (video_unit_of e.video e.held options.arrival (arriving_at options index clock e packet)) →
+    (video_unit_of e.video e.held options.arrival (arriving_at options index clock e packet)) →
     IsEntry entry' (entry_entered options index window clock e packet)
 unfolding held_in tally_in framed_after parts_delayed video_tally_after AreFrames
 whole_entered entry entry' options index window clock e packet k none pid clock_pid counter no limit marks counted video videos = record {

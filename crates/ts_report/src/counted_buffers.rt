@@ -143,7 +143,7 @@ impl CountedBuffers {
             OnOk result (HoldsVideoOf self.new.buffers sizes (after c.held options.now.arrival arriving.now)) }
         ensures tally { (c : Counted) (sizes : Option VideoSizes) → AreCounted self.old c → HoldsVideoOf self.old.buffers sizes c.held →
             OnOk result (video_tally.new ≡ with_video video_tally.old (video_of sizes c.held options.now.arrival arriving.now)
-                (video_unit_of sizes c.held options.now.arrival arriving.now)) }
+            (video_unit_of sizes c.held options.now.arrival arriving.now)) }
         ensures found { (c : Counted) (sizes : Option VideoSizes) → AreCounted self.old c → HoldsVideoOf self.old.buffers sizes c.held →
             OnOk result (events.new.items ≡ events.old.items ++ spec.whole_events options.now place.now arriving.now sizes c.held) }
     {

@@ -120,7 +120,7 @@ impl EntryFrames {
             (spec.payload_after options.now window unread limit (spec.payload_view payload.now) self.old.walk self.old.tick c)) }
         ensures video { (c : Counted) (sizes : Option VideoSizes) → AreCounted seen.old c → HoldsVideoOf seen.old.buffers sizes c.held →
             OnOk result (HoldsVideoOf seen.new.buffers sizes
-                (spec.payload_after options.now window unread limit (spec.payload_view payload.now) self.old.walk self.old.tick c).held) }
+            (spec.payload_after options.now window unread limit (spec.payload_view payload.now) self.old.walk self.old.tick c).held) }
         ensures found { (c : Counted) → AreCounted seen.old c → OnOk result (events.new.items
             ≡ events.old.items ++ spec.payload_events options.now place.now limit (spec.payload_view payload.now) self.old.walk self.old.tick c.held) }
     {
@@ -131,7 +131,15 @@ impl EntryFrames {
         let size = payload.arriving.size;
         let before = size.saturating_sub(payload.bytes.len() as u64);
         let count = front_count(before, size, &frames);
-        seen.enter_front(options, place, window, unread, &payload.arriving, count, events)?;
+        seen.enter_front(
+            options,
+            place,
+            window,
+            unread,
+            &payload.arriving,
+            count,
+            events,
+        )?;
         let at = FramePlace {
             limit,
             base: payload.base.saturating_add(before),

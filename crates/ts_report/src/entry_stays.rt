@@ -38,7 +38,9 @@ fn ticks_at(arrival: &Arrival, byte: u64) -> Option<u128>
 {
     match place_at(arrival, byte) {
         None => None,
-        Some(place) => Some(u128::from(place) * BYTE_TICKS_AT_1BPS / u128::from(arrival.step().max(1))),
+        Some(place) => Some(
+            u128::from(place) * BYTE_TICKS_AT_1BPS / u128::from(arrival.step().max(1)),
+        ),
     }
 }
 

@@ -395,7 +395,13 @@ impl StreamEntry {
         let transport = self.seen.buffers.busy_under_way();
         push_busy_closing(events, options, place, BufferKind::Transport, &transport)?;
         let multiplexing = self.seen.leak_under_way();
-        push_busy_closing(events, options, place, BufferKind::Multiplexing, &multiplexing)
+        push_busy_closing(
+            events,
+            options,
+            place,
+            BufferKind::Multiplexing,
+            &multiplexing,
+        )
     }
 
     /// Appends its events at the end, after `packets` packets, the last of them in a window.

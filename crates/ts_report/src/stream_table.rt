@@ -232,7 +232,9 @@ impl StreamTable {
         let clock_pid = named.clock_pid(stream.program);
         let rates = self.choice.rates_for(packet.header.pid, coding);
         let pid = packet.header.pid;
-        let kind = self.choice.frames_for(pid, stream.stream_type, &stream.descriptors);
+        let kind = self
+            .choice
+            .frames_for(pid, stream.stream_type, &stream.descriptors);
         let limit = u64::from(longest_stay(stream.stream_type, &stream.descriptors)) * 27_000_000;
         let entry = new_entry(
             self.alloc, options, pid, clock_pid, buffers, &rates, kind, limit,

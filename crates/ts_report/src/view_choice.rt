@@ -5,8 +5,8 @@ ghost use Rattle.ts_report.specs.Choices as spec;
 
 use std::marker::Model;
 use stream_coding::{
-    Buffers, Coding, FrameKind, PidBuffers, buffers_of, frame_kind, given_buffers, joined_buffers_of,
-    multiplexing_of,
+    Buffers, Coding, FrameKind, PidBuffers, buffers_of, frame_kind, given_buffers,
+    joined_buffers_of, multiplexing_of,
 };
 use tstd_rows::VideoRates;
 
