@@ -9,6 +9,8 @@ pub mod VideoTallies
 pub mod VideoFigures
 pub mod VideoEvents
 pub mod HeldEvents
+pub mod EntryStays
+pub mod EntryFrames
 pub mod Entries
 pub mod StreamTables
 pub mod ClockEvents
