@@ -1,2 +1,4 @@
 pub mod OnePlan
+pub mod OwnSlotsInTurn
 pub mod TwoPlans
+pub mod Waiting
