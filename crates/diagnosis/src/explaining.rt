@@ -8,7 +8,7 @@ use crate::conditions::write_conditions;
 use crate::fault_lines::write_fault;
 use crate::key_places::lines_of;
 use crate::reasons::write_reasons;
-use crate::toml_note::{TomlNote, toml_note, write_note};
+use crate::toml_note::{TomlNote, note_of, write_note};
 use crate::unknown_words::write_unknown;
 use checked_jobs::{parts_of, read_description};
 use description::{DescError, DescFault, Description};
@@ -165,6 +165,6 @@ fn explain_with(alloc: Global, note: &TomlNote, bytes: &[u8]) -> Result<String, 
 pub fn explain(alloc: Global, bytes: &[u8]) -> Result<String, AllocError>
     ensures { IfOk result (λ text. spec.IsExplained bytes.now (string_bytes text)) }
 {
-    let note = toml_note(alloc, description_part(bytes))?;
+    let note = note_of(alloc, description_part(bytes))?;
     explain_with(alloc, &note, bytes)
 }

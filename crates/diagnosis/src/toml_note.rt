@@ -26,7 +26,7 @@ impl Model for TomlNote {
 }
 
 /// Returns what the reader says of a text; of valid TOML, nothing.
-pub(crate) fn toml_note(alloc: Global, bytes: &[u8]) -> Result<TomlNote, AllocError> {
+pub(crate) fn note_of(alloc: Global, bytes: &[u8]) -> Result<TomlNote, AllocError> {
     let mut message = String::new(alloc);
     match toml::table_from_slice(alloc, bytes) {
         Ok(_) => Ok(TomlNote { place: 0, message }),

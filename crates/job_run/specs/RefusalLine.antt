@@ -37,8 +37,8 @@ way_text pid (Some b) = greater_text pid b.rx b.main
 
 unfoldable pub refusal_line : JobRefusal → List ℕ
 refusal_line NoPackets = codes "not a stream of 188-byte packets\n"
-refusal_line NoAssociation = codes "no PAT\n"
-refusal_line NoProgram = codes "no PMT\n"
+refusal_line NoAssociation = codes "no PAT: the stream is empty, or names no programs\n"
+refusal_line NoProgram = codes "no PMT: none of the programs that are asked for is there; tsview lists the programs that are\n"
 refusal_line NoStream = codes "no stream\n"
 refusal_line Scrambled = codes "no stream that is not scrambled\n"
 refusal_line (Programs count) = decimal count ++ codes " programs: more than 16\n"

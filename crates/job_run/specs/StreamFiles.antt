@@ -69,10 +69,10 @@ abbrev pub stopped_by : List ℕ → Outcome
 stopped_by why = record { output = []; report = why; status = 3 }
 
 abbrev pub open_line : List ℕ
-open_line = codes "open\n"
+open_line = codes "can't be opened\n"
 
 abbrev pub read_line : List ℕ
-read_line = codes "read\n"
+read_line = codes "can't be read to its end\n"
 
 abbrev pub IsStop : Files → List ℕ → Outcome → Type 0
 IsStop files name o = ((o ≡ stopped_by open_line) × IsUnopened files name) ⊎ ((o ≡ stopped_by read_line) × IsUnread files name)

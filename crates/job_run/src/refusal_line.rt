@@ -184,8 +184,12 @@ pub fn write_refusal(refusal: JobRefusal, text: &mut String) -> Result<(), Alloc
 {
     match refusal {
         JobRefusal::NoPackets => text.push_str("not a stream of 188-byte packets\n"),
-        JobRefusal::NoAssociation => text.push_str("no PAT\n"),
-        JobRefusal::NoProgram => text.push_str("no PMT\n"),
+        JobRefusal::NoAssociation => {
+            text.push_str("no PAT: the stream is empty, or names no programs\n")
+        },
+        JobRefusal::NoProgram => text.push_str(
+            "no PMT: none of the programs that are asked for is there; tsview lists the programs that are\n",
+        ),
         JobRefusal::NoStream => text.push_str("no stream\n"),
         JobRefusal::Scrambled => text.push_str("no stream that is not scrambled\n"),
         JobRefusal::Programs(count) => write!(text, "{count} programs: more than 16\n"),

@@ -116,7 +116,7 @@ fn unopened(alloc: Global) -> Result<JobOutcome, AllocError>
     ensures { IfOk result (λ o. o ≡ spec.stopped_by spec.open_line) }
 {
     let mut report = String::new(alloc);
-    report.push_str("open\n")?;
+    report.push_str("can't be opened\n")?;
     Ok(stopped(alloc, report))
 }
 
@@ -125,7 +125,7 @@ fn unread(alloc: Global) -> Result<JobOutcome, AllocError>
     ensures { IfOk result (λ o. o ≡ spec.stopped_by spec.read_line) }
 {
     let mut report = String::new(alloc);
-    report.push_str("read\n")?;
+    report.push_str("can't be read to its end\n")?;
     Ok(stopped(alloc, report))
 }
 

@@ -23,19 +23,19 @@ abbrev pub output_word : Text
 output_word = codes "--output"
 
 abbrev pub shorts : List commands.Short
-shorts = map (λ s. record { short = s.short.now; long = s.long.now }) SHORT_NAMES
+shorts = map commands.constant_short SHORT_NAMES
 
--- with long names of options: the options, the subcommand, then the names of files after `--`
+-- with long names of options: the subcommand, the options, then the names of files after `--`
 abbrev pub sorted_words : List Text → List Text
 sorted_words words = commands.sorted_command sorting_words (commands.long_words shorts words)
 
 -- sorted words ask for an explanation; of all others it is known what is known of the words of `run`
-abbrev pub is_word : Text → Option Text → Bool
-is_word word None = false
-is_word word (Some w) = bytes_eq w word
+abbrev pub is_explain_word : Option Text → Bool
+is_explain_word None = false
+is_explain_word (Some w) = bytes_eq w (codes "explain")
 
 abbrev pub is_explained : List Text → Bool
-is_explained words = is_word (codes "explain") (commands.command_of sorting_words words)
+is_explained words = is_explain_word (commands.command_of sorting_words words)
 
 abbrev pub known_words : List Text → CommandLine
 known_words words = if is_explained words then explain_words else known_for words
@@ -48,8 +48,12 @@ abbrev pub output_file : List Text → Option Text
 output_file words = option_and_then unless_output (value_given output_word words)
 
 -- what is written is text
+abbrev pub is_text_word : Option Text → Bool
+is_text_word None = false
+is_text_word (Some w) = bytes_eq w (codes "describe") || (bytes_eq w (codes "why") || bytes_eq w (codes "explain"))
+
 abbrev pub is_text : List Text → Bool
-is_text words = is_word (codes "describe") (commands.command_of sorting_words words) || is_word (codes "why") (commands.command_of sorting_words words)
+is_text words = is_text_word (commands.command_of sorting_words words)
 
 -- 2. What is written
 

@@ -41,7 +41,7 @@ pub const SHORT_NAMES: [ShortName; 3] = [
     },
 ];
 
-// The words with long names of options: the options, the subcommand, then the names of files after `--`.
+// The words with long names of options: the subcommand, the options, then the names of files after `--`.
 fn sorted_words<'a>(alloc: Global, words: &[&'a str]) -> Result<Vec<&'a str>, AllocError>
     ensures { IfOk result (λ sorted. map (λ s. s.now) sorted.items ≡ spec.sorted_words (map (λ s. s.now) words.now)) }
 {
@@ -53,7 +53,10 @@ fn sorted_words<'a>(alloc: Global, words: &[&'a str]) -> Result<Vec<&'a str>, Al
 fn is_explained(words: &[&str]) -> bool
     ensures { result ≡ spec.is_explained (map (λ s. s.now) words.now) }
 {
-    command_of(sorting_words(), words) == Some("explain")
+    match command_of(sorting_words(), words) {
+        Some("explain") => true,
+        _ => false,
+    }
 }
 
 // What is known of sorted words.
@@ -82,7 +85,9 @@ fn is_text(words: &[&str]) -> bool
     ensures { result ≡ spec.is_text (map (λ s. s.now) words.now) }
 {
     match command_of(sorting_words(), words) {
-        Some("describe" | "why") => true,
+        Some("describe") => true,
+        Some("why") => true,
+        Some("explain") => true,
         _ => false,
     }
 }

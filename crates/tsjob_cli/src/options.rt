@@ -47,7 +47,7 @@ pub(crate) const OPTIONS: [OptionRow; 21] = [
         value: ValueKind::File,
         form: "FILE",
         unit: "",
-        apart: "",
+        apart: "--output",
         help: "with units: those of the streams of this description, while the stream comes",
     },
     OUTPUT,

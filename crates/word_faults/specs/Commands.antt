@@ -1,21 +1,23 @@
 -- Words that people type: short names of options, a subcommand, and names of files without `--` before them.
-use Rattle.std.specs.Prelude.{List, [], ◌∷◌, ◌++◌, drop, find, Option, Some, None, if◌then◌else◌, codes}
+use Rattle.std.specs.Prelude.{ℕ, List, [], ◌∷◌, ◌++◌, drop, find, Option, Some, None, if◌then◌else◌, codes}
 use Rattle.std.specs.Borrow.{Bor}
 use Rattle.std.specs.Str.{bytes_eq}
 use Rattle.word_faults.specs.CommandLine.{CommandLine, Text}
 use Rattle.word_faults.specs.SortedWords.{marked, name_words, option_words}
 use Rattle.word_faults.specs.WordFaults.{word_beside}
-use Rattle.word_faults.specs.declared.commands.ShortName.{ShortName}
+use Rattle.word_faults.specs.declared.commands.Names.{Names}
 
 -- 1. Short names
 
--- a short name and the long one, as words
-pub record Short : Type 0 where
-  pub short : Text
-  pub long : Text
+-- a short name and the long one, as words; the same of names in memory, and of names in a constant
+abbrev pub Short : Type 0
+Short = Names Text
 
-abbrev pub short_view : ShortName → Short
+abbrev pub short_view : Names (Bor (List ℕ)) → Short
 short_view s = record { short = s.short.now; long = s.long.now }
+
+abbrev pub constant_short : Names (record { now : List ℕ }) → Short
+constant_short s = record { short = s.short.now; long = s.long.now }
 
 abbrev pub long_by : Text → Option Short → Text
 long_by word None = word
@@ -47,8 +49,8 @@ abbrev pub command_words : Option Text → List Text
 command_words None = []
 command_words (Some w) = w ∷ []
 
--- 3. All words: the options, each with its value, the subcommand, and the names of files after `--`
+-- 3. All words: the subcommand, the options, each with its value, and the names of files after `--`
 
 abbrev pub sorted_command : CommandLine → List Text → List Text
 sorted_command c words =
-    option_words c words ++ (command_words (command_of c words) ++ marked (names_after (command_of c words) (name_words c words)))
+    command_words (command_of c words) ++ (option_words c words ++ marked (names_after (command_of c words) (name_words c words)))

@@ -9,14 +9,17 @@ use crate::known_words::KnownWords;
 use crate::sorting::{name_words, option_words, push_marked, push_words};
 use std::alloc::{AllocError, Global};
 
-/// The short name of an option, as a word, and its long name.
+/// The short name of an option, as a word, and its long name. It is generic in how these are held, as a row of a table is.
 #[derive(Clone, Copy)]
-pub struct ShortName {
+pub struct Names<Text> {
     /// The short name.
-    pub short: &'static str,
+    pub short: Text,
     /// The long name.
-    pub long: &'static str,
+    pub long: Text,
 }
+
+/// Both names in a constant.
+pub type ShortName = Names<&'static str>;
 
 // The first short name that is this word.
 fn short_of<'w>(shorts: &'w [ShortName], word: &str) -> Option<&'w ShortName>
@@ -92,7 +95,7 @@ fn push_command<'a>(found: &mut Vec<&'a str>, command: Option<&'a str>) -> Resul
     }
 }
 
-/// Returns the options, each with its value, then the subcommand, then the names of files after `--`; no names if the
+/// Returns the subcommand, then the options, each with its value, then the names of files after `--`; no names if the
 /// stream is on standard input.
 pub fn sorted_command<'a>(
     alloc: Global,
@@ -104,8 +107,10 @@ pub fn sorted_command<'a>(
 {
     let command = command_of(known, words);
     let names = name_words(alloc, known, words)?;
-    let mut sorted = option_words(alloc, known, words)?;
+    let options = option_words(alloc, known, words)?;
+    let mut sorted = Vec::new(alloc);
     push_command(&mut sorted, command)?;
+    push_words(&mut sorted, &options)?;
     push_marked(&mut sorted, names_after(command, &names))?;
     Ok(sorted)
 }

@@ -12,8 +12,8 @@
 //! it, and `answer_other_words` reports it, or prints the version for `--version` alone (`specs/UsageReport`). The
 //! words that the line names are really there (`faults_name_words`: `specs/NamedWords`). `answer_words` also answers calls for help, and
 //! says what to type: what an option takes, or the nearest known word (`specs/Hints`; `hints_are_nearest`: `specs/NearWords`). `sorting` tells
-//! options with their values from the words beside them (`specs/SortedWords`); `sorted_command` puts a subcommand and the names of
-//! files after the options, and `long_words` puts long names of options for short ones (`specs/Commands`).
+//! options with their values from the words beside them (`specs/SortedWords`); `sorted_command` puts a subcommand before the options
+//! and the names of files after them, and `long_words` puts long names of options for short ones (`specs/Commands`).
 #![tactic(auto)]
 
 mod commands;
@@ -29,7 +29,7 @@ mod usage;
 mod version;
 mod word_fault;
 
-pub use commands::{ShortName, command_of, long_words, sorted_command};
+pub use commands::{Names, ShortName, command_of, long_words, sorted_command};
 pub use faults::{first_fault, word_beside};
 pub use hints::nearest;
 pub use known_words::KnownWords;
