@@ -65,11 +65,7 @@ fn write_seldom(
 }
 
 // Appends that a buffer is empty less often than once a second.
-fn write_seldom_empty(
-    buffer: &str,
-    refusal: Refusal,
-    text: &mut String,
-) -> Result<(), AllocError>
+fn write_seldom_empty(buffer: &str, refusal: Refusal, text: &mut String) -> Result<(), AllocError>
     ensures { OnOk result (string_bytes text.new
         ≡ string_bytes text.old ++ spec.seldom_empty_words buffer.now (entry_of refusal)) }
 {

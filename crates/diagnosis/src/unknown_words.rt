@@ -83,9 +83,24 @@ fn names_of(head: Head) -> &'static [&'static str]
             "frame",
             "frame_size",
         ],
-        Head::Event => &["program", "id", "start", "duration", "language", "name", "text"],
-        Head::Private => &["pid", "limit", "sections", "program", "stream_type", "descriptors"],
-        Head::Unknown => &["[network]", "[[program]]", "[[stream]]", "[[event]]", "[[table]]"],
+        Head::Event => &[
+            "program", "id", "start", "duration", "language", "name", "text",
+        ],
+        Head::Private => &[
+            "pid",
+            "limit",
+            "sections",
+            "program",
+            "stream_type",
+            "descriptors",
+        ],
+        Head::Unknown => &[
+            "[network]",
+            "[[program]]",
+            "[[stream]]",
+            "[[event]]",
+            "[[table]]",
+        ],
     }
 }
 
@@ -249,12 +264,7 @@ fn kind_of(head: Head) -> &'static str
 }
 
 // Appends an unknown word, and the name that may be meant.
-fn write_word(
-    alloc: Global,
-    head: Head,
-    word: &[u8],
-    text: &mut String,
-) -> Result<(), AllocError>
+fn write_word(alloc: Global, head: Head, word: &[u8], text: &mut String) -> Result<(), AllocError>
     ensures { OnOk result (string_bytes text.new ≡ string_bytes text.old ++ spec.word_words head word.now) }
 {
     match str::from_utf8(word) {

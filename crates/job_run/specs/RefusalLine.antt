@@ -7,7 +7,7 @@ use Rattle.es_units.specs.declared.dts_from_pts.DtsFault.{DtsFault}
 use Rattle.es_units.specs.declared.dts_from_pts.DtsFault.TheVariants.{SamePts, PtsTooLate}
 use Rattle.stream_jobs.specs.declared.refusal.GreaterBuffers.{GreaterBuffers}
 use Rattle.stream_jobs.specs.declared.refusal.JobRefusal.{JobRefusal}
-use Rattle.stream_jobs.specs.declared.refusal.JobRefusal.TheVariants.{NoPackets, NoAssociation, NoProgram, NoStream, Scrambled, Programs, Streams, StreamId, OtherStreamId, Stamps, Dts, Units, Size, Buffers, Pids, Description, Plan, Declaration}
+use Rattle.stream_jobs.specs.declared.refusal.JobRefusal.TheVariants.{NoPackets, NoAssociation, NoProgram, NoStream, Scrambled, Programs, Streams, StreamId, NoStamps, OtherStreamId, Stamps, Dts, Units, Size, Buffers, Pids, Description, Plan, Declaration}
 
 -- time stamps that can't be moments of a run, after the packet and the PID of their unit
 unfoldable pub stamps_text : StampFault → List ℕ
@@ -44,6 +44,7 @@ refusal_line Scrambled = codes "no stream that is not scrambled\n"
 refusal_line (Programs count) = decimal count ++ codes " programs: more than 16\n"
 refusal_line (Streams count) = decimal count ++ codes " streams: more than 32\n"
 refusal_line (StreamId packet pid id) = codes "packet " ++ decimal packet ++ codes " pid " ++ decimal pid ++ codes " stream_id " ++ decimal id ++ codes " cannot be written\n"
+refusal_line (NoStamps pid) = codes "pid " ++ decimal pid ++ codes " has no PTS in its PES packets\n"
 refusal_line (OtherStreamId packet pid id first) = codes "packet " ++ decimal packet ++ codes " pid " ++ decimal pid ++ codes " stream_id " ++ decimal id ++ codes " after " ++ decimal first ++ codes "\n"
 refusal_line (Stamps packet pid fault mended) = codes "packet " ++ decimal packet ++ codes " pid " ++ decimal pid ++ stamps_text fault ++ remedy_text mended
 refusal_line (Dts pid fault) = codes "pid " ++ decimal pid ++ making_text fault

@@ -51,6 +51,8 @@ pub struct JobArguments<'a> {
     pub declare_by: DeclareBy,
     /// Whether DTS are made from PTS.
     pub make_dts: bool,
+    /// Whether a stream that can't be carried refuses the input.
+    pub strict: bool,
     /// What the system clock shows as the run begins.
     pub base: ClockBase,
     /// The network, in place of the stream's network.
@@ -84,6 +86,7 @@ impl<'a> Model for JobArguments<'a> {
         lead = a.lead;
         declare_by = a.declare_by;
         make_dts = a.make_dts;
+        strict = a.strict;
         base = a.base;
         network = option_map network_name_view a.network;
         names = a.names.items;
@@ -113,6 +116,7 @@ impl JobArguments<'_> {
             lead: self.lead,
             declare_by: self.declare_by,
             make_dts: self.make_dts,
+            strict: self.strict,
             base: self.base,
             network: self.network,
             names: &self.names,

@@ -195,6 +195,7 @@ pub fn write_refusal(refusal: JobRefusal, text: &mut String) -> Result<(), Alloc
         JobRefusal::Programs(count) => write!(text, "{count} programs: more than 16\n"),
         JobRefusal::Streams(count) => write!(text, "{count} streams: more than 32\n"),
         JobRefusal::StreamId { packet, pid, id } => write_id(packet, pid, id, text),
+        JobRefusal::NoStamps(pid) => { write!(text, "pid {pid} has no PTS in its PES packets\n") }
         JobRefusal::OtherStreamId {
             packet,
             pid,

@@ -1,5 +1,5 @@
 -- A walk over the slots of a period finds those in which a buffer becomes empty.
-use Rattle.std.proofs.Common.{◌≡◌, ℕ, zero, suc, ◌+◌, ◌-◌, ◌*◌, ◌/◌, ◌%◌, ◌<◌, ◌≤◌, ◌==◌, ◌&&◌, max, not, nat_lt, Bool, true, false, List, [], ◌∷◌, length, get_or, refl, ap, sym, ◌∙◌, inl, inr, arith, add-one}
+use Rattle.std.proofs.Common.{◌≡◌, ℕ, zero, suc, ◌+◌, ◌-◌, ◌*◌, ◌/◌, ◌%◌, ◌<◌, ◌≤◌, ◌==◌, max, Bool, true, false, List, [], ◌∷◌, length, get_or, refl, ap, sym, ◌∙◌, inl, inr, arith, add-one}
 use Rattle.std.proofs.Math.Nat.{mod-eq_of_lt}
 use Rattle.std.proofs.lemmas.Bool.{cases_Bool, cases_lt}
 use Rattle.std.proofs.lemmas.Bool.Decides.{nat_tests}
@@ -11,7 +11,7 @@ use Rattle.own_slots.specs.Work.{work_step, work_at}
 use Rattle.own_slots.proofs.Counts.{own_before_own, own_before_other, own_before_lt}
 use Rattle.own_slots.proofs.Extremes.{greatest_none, greatest_more}
 use Rattle.own_slots.proofs.PositionLemmas.{own_before_period, positions_law, position_turns}
-use Rattle.unit_timing.specs.EmptyBuffers.{empty_slots}
+use Rattle.slot_plan.specs.EmptySlots.{becomes_empty, empty_slots}
 use Rattle.plan_checker.specs.declared.empties.EmptyWalk.{EmptyWalk}
 use Rattle.plan_checker.specs.EmptyWalks.{one_more, passed, round_gap}
 
@@ -23,7 +23,7 @@ length-empty_slots rate drain work [] = refl
 length-empty_slots rate drain work (mark ∷ marks) = ap suc (length-empty_slots rate drain (work_step rate drain work mark) marks)
 
 mark_of : (rate drain work : ℕ) (marks : List Bool) (s : ℕ) → s < length marks →
-    get_or (empty_slots rate drain work marks) s false ≡ (not (get_or marks s false) && nat_lt (work_at rate drain work marks s) (188 * drain))
+    get_or (empty_slots rate drain work marks) s false ≡ becomes_empty drain (work_at rate drain work marks s) (get_or marks s false)
 unfolding empty_slots work_at
 mark_of rate drain work [] s lt = absurd (omega arith)
 mark_of rate drain work (mark ∷ marks) zero lt = refl
@@ -31,12 +31,12 @@ mark_of rate drain work (mark ∷ marks) (suc s) lt = mark_of rate drain (work_s
 
 -- slot s of a period is one of them, by its own mark and by the work before it
 pub empty_at : (rate drain start : ℕ) (marks : List Bool) (s : ℕ) (mark : Bool) (work : ℕ) → s < length marks → get_or marks s false ≡ mark →
-    work ≡ work_at rate drain start marks s → own (empty_slots rate drain start marks) s ≡ (not mark && nat_lt work (188 * drain))
+    work ≡ work_at rate drain start marks s → own (empty_slots rate drain start marks) s ≡ becomes_empty drain work mark
 empty_at rate drain start marks s mark work lt is now =
     let small : s < length (empty_slots rate drain start marks) = omega (arith, lt, length-empty_slots rate drain start marks) in
     ap (λ (k : ℕ). get_or (empty_slots rate drain start marks) k false) (mod-eq_of_lt small) ∙ mark_of rate drain start marks s lt
-    ∙ ap (λ (b : Bool). not b && nat_lt (work_at rate drain start marks s) (188 * drain)) is
-    ∙ ap (λ (w : ℕ). not mark && nat_lt w (188 * drain)) (sym now)
+    ∙ ap (λ (b : Bool). becomes_empty drain (work_at rate drain start marks s) b) is
+    ∙ ap (λ (w : ℕ). becomes_empty drain w mark) (sym now)
 
 -- ---- the walk
 

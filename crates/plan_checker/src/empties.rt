@@ -1,10 +1,10 @@
 //! The slots of a period in which a buffer becomes empty (ISO/IEC 13818-1, 2.4.2.6).
 
-ghost use Rattle.std.specs.Prelude.{◌≡◌, ◌+◌, ◌*◌, ◌^◌, ◌<◌, ◌≤◌, not, nat_lt, ◌&&◌, length};
+ghost use Rattle.std.specs.Prelude.{◌≡◌, ◌+◌, ◌*◌, ◌^◌, ◌<◌, ◌≤◌, length};
 ghost use Rattle.own_slots.specs.Period.{per_period, position, back};
 ghost use Rattle.own_slots.specs.Gaps.{gap};
 ghost use Rattle.own_slots.specs.Work.{work_step};
-ghost use Rattle.unit_timing.specs.EmptyBuffers.{empty_slots};
+ghost use Rattle.slot_plan.specs.EmptySlots.{becomes_empty, empty_slots};
 ghost use Rattle.slot_plan.specs.Items.{marks};
 ghost use Rattle.plan_checker.specs.EmptyWalks.{passed, rounded};
 
@@ -93,12 +93,13 @@ fn next_work(rate: u64, drain: u64, work: u64, owns: bool) -> u64
     if owns { left + 188 * rate } else { left }
 }
 
-/// Returns whether the buffer becomes empty in a slot: it is not its own, and drains all that is left.
+/// Returns whether the buffer becomes empty in a slot: it is not its own, and drains all that is left at its begin.
 fn is_emptied(drain: u64, work: u64, owns: bool) -> bool
     requires drain { drain ≤ 200000000 }
-    ensures { result ≡ (not owns && nat_lt work (188 * drain)) }
+    ensures { result ≡ becomes_empty drain work owns }
 {
-    !owns && work < 188 * drain
+    let drained = 188 * drain;
+    !owns && work.saturating_sub(drained) < drained
 }
 
 /// Returns the slots of a period in which the buffer of an item becomes empty, if the period begins with the work `start`.

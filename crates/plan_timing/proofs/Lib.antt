@@ -1,3 +1,6 @@
+pub mod EmptySlots
+pub mod EmptyQueues
+pub mod EmptyPlans
 pub mod OnePlan
 pub mod OwnSlotsInTurn
 pub mod TwoPlans

@@ -23,12 +23,10 @@ use Rattle.unit_timing.specs.Plans.{StreamServed, ProgramServed}
 use Rattle.unit_timing.specs.Conditions.{IsProper, StreamClaim, ProgramClaim, rate_needed, rate_given, lead_needed, time_given, bytes_waiting, share_of, StreamConditions, ProgramConditions}
 use Rattle.unit_timing.specs.AccessUnits.{FramedConditions, framed_waiting}
 use Rattle.unit_timing.specs.VideoPlans.{LeakClaim, IsProperLeak, VideoConditions, VideoServed}
-use Rattle.unit_timing.specs.EmptyBuffers.{EmptiesEachSecond}
 use Rattle.unit_timing.specs.EmptyPlans.{StreamEmptied, VideoEmptied}
 use Rattle.unit_timing.proofs.PlanLemmas.{stream_law, program_law}
 use Rattle.unit_timing.proofs.AccessUnitLemmas.{framed_law}
 use Rattle.unit_timing.proofs.VideoLemmas.{video_law}
-use Rattle.unit_timing.proofs.EmptyPlanLemmas.{empty_plan_law}
 use Rattle.description.specs.Described.{Described, DescribedProgram, DescribedStream}
 use Rattle.description.specs.Ranges.{IsInRange, IsMultiplexingBuffer, IsFraming, IsStream}
 use Rattle.description.specs.Tables.{table_kinds, table_count, table_limit, round_packets, section_count, section_lengths, packets_of_section}
@@ -41,6 +39,7 @@ use Rattle.slot_plan.specs.Items.{is_own, marks}
 use Rattle.slot_plan.specs.declared.condition.Condition.TheVariants.{PcrGap, TableGap, Spread, StreamRate, TransportBuffer, StreamLead, MainBuffer, SystemBuffer, MultiplexingBuffer, ElementaryLead}
 use Rattle.slot_plan.specs.Claims.{declaration, stream_claim, program_claim, stream_share, multiplexing_claim, elementary_declaration, elementary_share}
 use Rattle.slot_plan.specs.Conditions.{buffer_entries, emptied_entries, entries_from, group_part, pcr_gap_entry, table_gap_entry, spread_entry, stream_rate_entry, stream_buffer_entries, stream_emptied_entries, transport_buffer_entries, stream_lead_entry, main_buffer_entry, frame_entry, frame_entries, system_buffer_entries, multiplexing_buffer_entries, elementary_lead_entry, elementary_lead_entries}
+use Rattle.slot_plan.specs.EmptySlots.{EmptiesEachSecond}
 use Rattle.slot_plan.specs.Schedule.{OwnedLaw, single, owned}
 use Rattle.slot_plan.specs.TableRounds.{first_packet}
 use Rattle.slot_plan.proofs.HeldConditions.{holds_both, holds_item, at_most_holds}
@@ -48,6 +47,7 @@ use Rattle.slot_plan.proofs.ConditionLists.{Hold, ServingConditions, serves}
 use Rattle.slot_plan.proofs.ItemConditions.{holds_element, holds_count, holds_work, holds_emptied}
 use Rattle.plan_timing.specs.Promised.{leak_of, PlanLaw}
 use Rattle.plan_timing.specs.FramesServed.{FramesServed}
+use Rattle.plan_timing.proofs.EmptyPlans.{stream_empties, video_empties}
 use Rattle.plan_timing.proofs.Waiting.{waits_law}
 
 pub length_marks : (item : Item) (slots : List Slot) → length (marks item slots) ≡ length slots
@@ -257,10 +257,10 @@ plan_law law d p ranges serving =
           (proper d i s ranges is) (proper_leak d i s b ranges is some) (video_holds d p i s b k is some) keeps);
       emptied = λ i s b units is some. (
         subst (λ (o : ℕ → Bool). StreamEmptied o d.rate (declaration s) units) (sym (law.alone p.slots (Stream i)))
-            (empty_plan_law.stream d.rate (declaration s) (claim_of p i) (marks (Stream i) p.slots) units (proper d i s ranges is) (stream_holds d p i s k is)
+            (stream_empties d.rate (declaration s) (claim_of p i) (marks (Stream i) p.slots) units (proper d i s ranges is) (stream_holds d p i s k is)
             (emptied_holds d p i s b k is some)),
         subst (λ (o : ℕ → Bool). VideoEmptied o d.rate (declaration s) (leak_of b) units) (sym (law.alone p.slots (Stream i)))
-            (empty_plan_law.video d.rate (declaration s) (leak_of b) (claim_of p i) (leak_claim_of p i) (marks (Stream i) p.slots) units
+            (video_empties d.rate (declaration s) (leak_of b) (claim_of p i) (leak_claim_of p i) (marks (Stream i) p.slots) units
             (proper d i s ranges is) (proper_leak d i s b ranges is some) (video_holds d p i s b k is some) (leak_emptied_holds d p i s b k is some)),
       );
       waits = λ i s units n is. waits_law (owned (single p.slots) (Stream i)) d.rate s.lead s.rx n units (lead_short d i s ranges is);

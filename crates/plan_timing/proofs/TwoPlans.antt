@@ -22,12 +22,10 @@ use Rattle.unit_timing.specs.Plans.{StreamServed, ProgramServed}
 use Rattle.unit_timing.specs.Conditions.{lead_across, time_given, bytes_across, share_of, StreamSwitchConditions, ProgramSwitchConditions}
 use Rattle.unit_timing.specs.VideoPlans.{VideoSwitchConditions, VideoServed}
 use Rattle.unit_timing.specs.AccessUnits.{FramedSwitchConditions, framed_across}
-use Rattle.unit_timing.specs.EmptyBuffers.{EmptiesAcross}
 use Rattle.unit_timing.specs.EmptyPlans.{StreamEmptied, VideoEmptied}
 use Rattle.unit_timing.proofs.AccessUnitLemmas.{framed_law}
 use Rattle.unit_timing.proofs.PlanLemmas.{stream_switch_law, program_switch_law}
 use Rattle.unit_timing.proofs.VideoLemmas.{video_switch_law}
-use Rattle.unit_timing.proofs.EmptyPlanLemmas.{empty_switch_law}
 use Rattle.description.specs.Described.{Described, DescribedStream}
 use Rattle.description.specs.Ranges.{IsInRange}
 use Rattle.description.specs.Tables.{table_kinds, table_limit, round_packets}
@@ -39,6 +37,7 @@ use Rattle.slot_plan.specs.declared.condition.Condition.TheVariants.{PcrSwitch, 
 use Rattle.slot_plan.specs.Claims.{declaration, stream_claim, program_claim, stream_share, multiplexing_claim, elementary_declaration, elementary_share}
 use Rattle.slot_plan.specs.Conditions.{entries_from, group_part}
 use Rattle.slot_plan.specs.SwitchConditions.{gap_across, pcr_switch_entry, table_switch_entry, work_switch_entry, emptied_switch_entry, stream_work_entry, stream_work_entries, stream_emptied_switch_entries, transport_work_entry, system_work_entry, multiplexing_work_entries, lead_switch_entry, main_switch_entry, frame_switch_entry, frame_switch_entries, elementary_switch_entry, elementary_switch_entries, owns_same, is_finer, continues, if_changed}
+use Rattle.slot_plan.specs.EmptySlots.{EmptiesAcross}
 use Rattle.slot_plan.specs.Schedule.{OwnedLaw, single, switched, owned}
 use Rattle.slot_plan.specs.TableRounds.{first_packet}
 use Rattle.slot_plan.proofs.HeldConditions.{holds_both, holds_item, at_most_holds}
@@ -48,6 +47,7 @@ use Rattle.plan_timing.specs.Promised.{leak_of, Promised, SwitchLaw}
 use Rattle.plan_timing.specs.FramesServed.{FramesServed}
 use Rattle.plan_timing.proofs.OnePlan.{length_marks, proper, proper_leak, claim_of, leak_claim_of, program_claim_of, stream_holds, framing_ranges, video_holds, emptied_holds, leak_emptied_holds, lead_short, program_holds, pcr_gap_holds, table_gap_holds, first_packet_below, plan_law}
 use Rattle.plan_timing.proofs.OwnSlotsInTurn.{owned_over, owned_on}
+use Rattle.plan_timing.proofs.EmptyPlans.{stream_switch_empties, video_switch_empties}
 use Rattle.plan_timing.proofs.Waiting.{waits_law}
 
 lead_joins : (d : Described) (first second : Planned) (i : ℕ) (s : DescribedStream) → Hold (entries_from (lead_switch_entry d first second i s) 1 (allowance_rows s.allowance)) →
@@ -222,11 +222,11 @@ switch_law law d first second periods ranges serving switchable =
         )
         | inr changed ↦ (
           subst (λ (o : ℕ → Bool). StreamEmptied o d.rate (declaration s) units) (owned_over law first.slots second.slots periods (Stream i))
-              (empty_switch_law.stream d.rate (declaration s) (claim_of first i) (marks (Stream i) first.slots) (claim_of second i) (marks (Stream i) second.slots) periods units
+              (stream_switch_empties d.rate (declaration s) (claim_of first i) (marks (Stream i) first.slots) (claim_of second i) (marks (Stream i) second.slots) periods units
               (proper d i s ranges is) (stream_holds d first i s k is) (stream_holds d second i s f.serves is) (stream_joins d first second i s f is changed)
               (emptied_holds d first i s b k is some) (emptied_holds d second i s b f.serves is some) (emptied_joins d first second i s b f is some)),
           subst (λ (o : ℕ → Bool). VideoEmptied o d.rate (declaration s) (leak_of b) units) (owned_over law first.slots second.slots periods (Stream i))
-              (empty_switch_law.video d.rate (declaration s) (leak_of b) (claim_of first i) (leak_claim_of first i) (marks (Stream i) first.slots)
+              (video_switch_empties d.rate (declaration s) (leak_of b) (claim_of first i) (leak_claim_of first i) (marks (Stream i) first.slots)
               (claim_of second i) (leak_claim_of second i) (marks (Stream i) second.slots) periods units
               (proper d i s ranges is) (proper_leak d i s b ranges is some) (video_holds d first i s b k is some) (video_holds d second i s b f.serves is some)
               (video_joins d first second i s b f is changed some) (leak_emptied_holds d first i s b k is some) (leak_emptied_holds d second i s b f.serves is some)

@@ -6,9 +6,9 @@ use Rattle.clock27.specs.Units.{slot_seconds_at_1bps}
 use Rattle.own_slots.specs.Period.{per_period, position, back}
 use Rattle.own_slots.specs.Gaps.{gap}
 use Rattle.own_slots.specs.Work.{HoldsWork, most_before, most_after, work_left}
-use Rattle.unit_timing.specs.EmptyBuffers.{empty_slots, EmptiesEachSecond, EmptiesAcross}
 use Rattle.slot_plan.specs.declared.condition.Condition.{Condition}
 use Rattle.slot_plan.specs.Numbered.{numbered}
+use Rattle.slot_plan.specs.EmptySlots.{empty_slots, EmptiesEachSecond, EmptiesAcross}
 use Rattle.slot_plan.specs.Entries.{Entry, at_most}
 use Rattle.slot_plan.specs.declared.condition.Condition.TheVariants.{WorkSwitch}
 use Rattle.slot_plan.specs.Conditions.{buffer_entries, emptied_entries, entries_from}

@@ -3,11 +3,11 @@ use Rattle.std.specs.Prelude.{◌≡◌, ℕ, List, [], ◌∷◌, ◌++◌, Opt
 use Rattle.own_slots.specs.Period.{places}
 use Rattle.own_slots.specs.Extremes.{greatest}
 use Rattle.own_slots.specs.Work.{work_at}
-use Rattle.unit_timing.specs.EmptyBuffers.{empty_slots}
 use Rattle.slot_plan.specs.declared.slot.Slot.{Slot}
 use Rattle.slot_plan.specs.declared.slot.Slot.TheVariants.{Stream, Pcr, Table, Null}
 use Rattle.slot_plan.specs.declared.condition.Condition.TheVariants.{Shape, PcrGap, Spread, StreamRate, TransportBuffer, StreamLead, MainBuffer, SystemBuffer, MultiplexingBuffer, ElementaryLead, LeadSwitch, MainSwitch, ElementarySwitch}
 use Rattle.slot_plan.specs.Planned.{Planned, Certified}
+use Rattle.slot_plan.specs.EmptySlots.{empty_slots}
 use Rattle.slot_plan.specs.Entries.{Entry, at_most, equal_counts, first_failing}
 use Rattle.slot_plan.specs.Conditions.{entries}
 use Rattle.slot_plan.specs.SwitchConditions.{switch_entries}

@@ -14,7 +14,6 @@ use Rattle.unit_timing.specs.declared.multiplexing_buffer.MultiplexingBuffer.{Mu
 use Rattle.unit_timing.specs.Allowances.{allowance_rows}
 use Rattle.unit_timing.specs.Conditions.{Share, lead_across, time_given, bytes_across}
 use Rattle.unit_timing.specs.AccessUnits.{framed_across}
-use Rattle.unit_timing.specs.EmptyBuffers.{empty_slots}
 use Rattle.description.specs.Described.{Described, DescribedProgram, DescribedStream}
 use Rattle.description.specs.Tables.{table_kinds, table_limit, round_packets}
 use Rattle.slot_plan.specs.declared.slot.Item.{Item}
@@ -24,6 +23,7 @@ use Rattle.slot_plan.specs.declared.condition.Condition.{Condition}
 use Rattle.slot_plan.specs.declared.condition.Condition.TheVariants.{PcrSwitch, TableSwitch, WorkSwitch, LeadSwitch, MainSwitch, ElementarySwitch}
 use Rattle.slot_plan.specs.Numbered.{numbered}
 use Rattle.slot_plan.specs.Planned.{Planned}
+use Rattle.slot_plan.specs.EmptySlots.{empty_slots}
 use Rattle.slot_plan.specs.Items.{is_own, marks}
 use Rattle.slot_plan.specs.Entries.{Entry, at_most, first_failing}
 use Rattle.slot_plan.specs.Claims.{declaration, stream_claim, program_claim, stream_share, drained_declaration, multiplexing_claim, elementary_share}

@@ -56,8 +56,8 @@ reporting_in rows = record {
 -- 2. All of them
 
 -- with empty lists
-abbrev pub plain : Subcommand → Option Text → Reporting → Option ℕ → Option Text → ℕ → ℕ → DeclareBy → Bool → ClockBase → JobArgumentsView
-plain subcommand stream reporting rate start pcr_limit lead declare_by make_dts base = record {
+abbrev pub plain : Subcommand → Option Text → Reporting → Option ℕ → Option Text → ℕ → ℕ → DeclareBy → Bool → Bool → ClockBase → JobArgumentsView
+plain subcommand stream reporting rate start pcr_limit lead declare_by make_dts strict base = record {
   subcommand = subcommand;
   stream = stream;
   reporting = reporting;
@@ -68,6 +68,7 @@ plain subcommand stream reporting rate start pcr_limit lead declare_by make_dts 
     lead = lead;
     declare_by = declare_by;
     make_dts = make_dts;
+    strict = strict;
     base = base;
     network = None;
     names = [];
@@ -88,7 +89,7 @@ values_of rows =
     given (lead_in rows) (λ lead.
     given (declare_by_of (first_of (codes "declare") rows)) (λ declare_by.
     given (base_of (first_of (codes "base") rows)) (λ base.
-    Some (plain subcommand stream (reporting_in rows) rate start pcr_limit lead declare_by (is_given (first_of (codes "make-dts") rows)) base)))))))))
+    Some (plain subcommand stream (reporting_in rows) rate start pcr_limit lead declare_by (is_given (first_of (codes "make-dts") rows)) (is_given (first_of (codes "strict") rows)) base)))))))))
 
 -- with lists
 abbrev pub with_lists : List ℕ → List ℕ → List PidBuffers → Option NetworkNameView → List ServiceNameView → JobArgumentsView → JobArgumentsView

@@ -143,6 +143,7 @@ fn values_of<'a>(alloc: Global, matches: &ArgMatches<'a>) -> Option<JobArguments
         lead,
         declare_by,
         make_dts: is_given(text_of(matches, "make-dts")),
+        strict: is_given(text_of(matches, "strict")),
         base,
         network: None,
         names: Vec::new(alloc),

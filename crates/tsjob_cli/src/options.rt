@@ -7,13 +7,13 @@ use crate::arguments::subcommand_of;
 use crate::file_mark::has_mark;
 use crate::rows::{
     BASE, BUFFERS, DECLARE, HELP, LEAD, MAKE_DTS, NAME, NETWORK, OUTPUT, PCR, PROGRAM, PROGRESS,
-    QUIET, RATE, START, VERBOSE, VERSION, WITHOUT,
+    QUIET, RATE, START, STRICT, VERBOSE, VERSION, WITHOUT,
 };
 use job_run::Subcommand;
 use word_faults::{KnownWords, OptionRow, ValueKind, word_beside};
 
 /// The options, and the word beside them. What is read, which word is a fault, and the usage follow these rows.
-pub(crate) const OPTIONS: [OptionRow; 21] = [
+pub(crate) const OPTIONS: [OptionRow; 22] = [
     OptionRow {
         name: "subcommand",
         value: ValueKind::Word,
@@ -34,6 +34,7 @@ pub(crate) const OPTIONS: [OptionRow; 21] = [
     NETWORK,
     NAME,
     MAKE_DTS,
+    STRICT,
     OptionRow {
         name: "whole",
         value: ValueKind::Flag,
@@ -65,7 +66,7 @@ pub(crate) const EXPLAIN_OPTIONS: [OptionRow; 2] = [VERSION, HELP];
 const USAGE: &str = "usage: tsjob [describe|units|why] [OPTIONS] [FILE..|-] [-o OUT]
        tsjob units --stream DESCRIPTION < PACKETS > RECORDS
        tsjob explain [DESCRIPTION [PLAN]]
-  --rate 100000..100000000       bits a second; else the least at which a plan is found
+  --rate 100000..100000000       bits a second; else the first tried rate with a plan
   --program N,..                 the programs that are taken
   --without PID,..               PIDs that are left out
   --buffers PID:RX:MAIN,..       buffers of a PID, in bits a second and bytes
@@ -77,6 +78,7 @@ const USAGE: &str = "usage: tsjob [describe|units|why] [OPTIONS] [FILE..|-] [-o 
   --network ID:NAME[:ORIGINAL]   the network, and original_network_id
   --name N:NAME[:PROVIDER],..    the names of the services of programs
   --make-dts                     DTS are made from PTS
+  --strict                       a stream that cannot be carried refuses the input; else it is left out
   --whole                        the input is no capture: its last PES packets are whole
   --stream FILE                  with units: those of the streams of this description, while the stream comes
   --output FILE                  or -o: the file that is written; else standard output

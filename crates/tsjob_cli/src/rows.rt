@@ -15,7 +15,7 @@ pub const RATE: OptionRow = OptionRow {
     form: "",
     unit: "bits a second, or with k or M",
     apart: "",
-    help: "bits a second; else the least at which a plan is found",
+    help: "bits a second; else the first tried rate with a plan",
 };
 
 /// The programs that are taken.
@@ -136,6 +136,16 @@ pub const MAKE_DTS: OptionRow = OptionRow {
     unit: "",
     apart: "",
     help: "DTS are made from PTS",
+};
+
+/// Whether a stream that cannot be carried refuses the input.
+pub const STRICT: OptionRow = OptionRow {
+    name: "strict",
+    value: ValueKind::Flag,
+    form: "",
+    unit: "",
+    apart: "",
+    help: "a stream that cannot be carried refuses the input; else it is left out",
 };
 
 /// The file that is written.

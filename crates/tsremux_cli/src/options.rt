@@ -5,20 +5,20 @@ ghost use Rattle.word_faults.specs.KnownWords.{known_of};
 
 use tsjob_cli::rows::{
     BASE, BUFFERS, DECLARE, HELP, LEAD, MAKE_DTS, NAME, NETWORK, OUTPUT, PCR, PROGRAM, PROGRESS,
-    QUIET, RATE, START, VERBOSE, VERSION, WITHOUT,
+    QUIET, RATE, START, STRICT, VERBOSE, VERSION, WITHOUT,
 };
 use word_faults::{KnownWords, OptionRow};
 
 /// The options. Which word is a fault, and the usage, follow these rows.
-pub(crate) const OPTIONS: [OptionRow; 18] = [
+pub(crate) const OPTIONS: [OptionRow; 19] = [
     RATE, PROGRAM, WITHOUT, BUFFERS, LEAD, DECLARE, PCR, START, BASE, NETWORK, NAME, MAKE_DTS,
-    OUTPUT, QUIET, VERBOSE, PROGRESS, VERSION, HELP,
+    STRICT, OUTPUT, QUIET, VERBOSE, PROGRESS, VERSION, HELP,
 ];
 
 /// The usage, written to the first writer if the words ask for help, to the second on a usage error: a line for each option of the table.
 const USAGE: &str = "usage: tsremux [OPTIONS] [FILE..|-] -o OUT
        tsremux [OPTIONS] [FILE..|-] > OUT
-  --rate 100000..100000000       bits a second; else the least at which a plan is found
+  --rate 100000..100000000       bits a second; else the first tried rate with a plan
   --program N,..                 the programs that are taken
   --without PID,..               PIDs that are left out
   --buffers PID:RX:MAIN,..       buffers of a PID, in bits a second and bytes
@@ -30,6 +30,7 @@ const USAGE: &str = "usage: tsremux [OPTIONS] [FILE..|-] -o OUT
   --network ID:NAME[:ORIGINAL]   the network, and original_network_id
   --name N:NAME[:PROVIDER],..    the names of the services of programs
   --make-dts                     DTS are made from PTS
+  --strict                       a stream that cannot be carried refuses the input; else it is left out
   --output FILE                  or -o: the file that is written; else standard output
   --quiet                        or -q: report only why nothing is written
   --verbose                      or -v: report also what is left out without a loss

@@ -1,5 +1,5 @@
 -- A written record is read again.
-use Rattle.std.proofs.Common.{◌≡◌, ℕ, ◌+◌, ◌/◌, ◌^◌, ◌≤◌, Bool, true, false, cond, Option, None, is_some, List, ◌∷◌, ◌++◌, length, take, drop, slice_index, Some, Ok, refl, sym, ap, ap₂, ◌∙◌, arith, append_assoc, take_at, drop_at}
+use Rattle.std.proofs.Common.{◌≡◌, ℕ, zero, suc, ◌+◌, ◌/◌, ◌^◌, ◌≤◌, Bool, true, false, cond, Option, None, is_some, List, ◌∷◌, ◌++◌, length, take, drop, slice_index, Some, Ok, refl, sym, ap, ap₂, ◌∙◌, arith, append_assoc, take_at, drop_at}
 use Rattle.std.proofs.lemmas.List.{length-append, length-drop, drop-drop}
 use Rattle.byteorder.specs.Endian.{big_number, big_bytes}
 use Rattle.byteorder.specs.Numbers.{length-bytes_high_first, big_number-reads_back}
@@ -69,13 +69,15 @@ no_more false n e = omega (arith, e)
 unmarked : (unit : AccessUnit) → FitsRecord unit → size_of unit ≡ 0 → marks_byte unit.marks ≡ 0
 unmarked unit fits none = ap (λ (m : Marks). marks_byte m) (fits.marked (no_more (is_some unit.marks.private_data) (length unit.bytes) none))
 
--- one with PES_private_data has its bytes
-sixteen_more : (b : Bool) (n : ℕ) → b ≡ true → 16 ≤ cond b 16 0 + n
-sixteen_more true n e = omega arith
-sixteen_more false n e = absurd cc
+-- one with PES_private_data has its bytes, and one of the unit
+with_private : (o : Option (List ℕ)) (n : ℕ) → (n ≡ 0 → o ≡ None) → is_some o ≡ true → 17 ≤ cond (is_some o) 16 0 + n
+with_private None n none is = absurd cc
+with_private (Some p) zero none is = absurd (let no : Some p ≡ None = none refl in cc (no))
+with_private (Some p) (suc n) none is = omega arith
 
-some_private : (unit : AccessUnit) → is_some unit.marks.private_data ≡ true → 16 ≤ size_of unit
-some_private unit is = sixteen_more (is_some unit.marks.private_data) (length unit.bytes) is
+some_private : (unit : AccessUnit) → FitsRecord unit → is_some unit.marks.private_data ≡ true → 17 ≤ size_of unit
+some_private unit fits is =
+    with_private unit.marks.private_data (length unit.bytes) (λ none. ap (λ (m : Marks). m.private_data) (fits.marked none)) is
 
 read_back : (stream : ℕ) (unit : AccessUnit) (rest : List ℕ) → FitsRecord unit
     → (size_at (stream ∷ (big_bytes 4 (word_of unit.marks (size_of unit)) ++ (big_bytes 8 unit.dts ++ (big_bytes 8 unit.pts ++ (body_of unit ++ rest))))) ≡ length (body_of unit))
@@ -90,7 +92,7 @@ read_back stream unit rest fits =
     big_number-reads_back 4 (word_of unit.marks (size_of unit)) later (word_below unit.marks (size_of unit)) in
     let long : size_of unit ≡ length (body_of unit) = sym (body_size unit) in
     let size : size_at all ≡ length (body_of unit) =
-    ap size_in word ∙ size_again unit.marks (size_of unit) fits.size (unmarked unit fits) (some_private unit) ∙ long in
+    ap size_in word ∙ size_again unit.marks (size_of unit) fits.size (unmarked unit fits) (some_private unit fits) ∙ long in
     let byte : byte_at all ≡ marks_byte unit.marks = ap (λ (n : ℕ). n / 2 ^ 24) word ∙ byte_again unit.marks (size_of unit) fits.size in
     let dts : big_number 8 (big_bytes 8 unit.dts ++ (big_bytes 8 unit.pts ++ (body_of unit ++ rest))) ≡ unit.dts =
     big_number-reads_back 8 unit.dts (big_bytes 8 unit.pts ++ (body_of unit ++ rest)) fits.dts in

@@ -1,5 +1,5 @@
 -- The word of a record is read as the marks and the size that it was made of.
-use Rattle.std.proofs.Common.{◌≡◌, ◌≢◌, ℕ, ◌+◌, ◌-◌, ◌*◌, ◌/◌, ◌%◌, ◌^◌, ◌<◌, ◌≤◌, ◌==◌, Bool, true, false, cond, Option, Some, None, is_some, IfSome, List, ◌++◌, length, drop, drop_at, refl, sym, ap, ◌∙◌, arith, inl, inr, ltb}
+use Rattle.std.proofs.Common.{◌≡◌, ◌≢◌, ℕ, ◌+◌, ◌-◌, ◌*◌, ◌/◌, ◌%◌, ◌^◌, ◌<◌, ◌≤◌, Bool, true, false, cond, Option, Some, None, is_some, IfSome, List, ◌++◌, length, drop, drop_at, refl, sym, ap, ◌∙◌, arith, inl, inr, ltb}
 use Rattle.std.proofs.lemmas.Bool.{lt-ltb, ltb-true, le-leb, and_from, cases_eq}
 use Rattle.bit_fields.specs.Fields.{bit, flag}
 use Rattle.bit_fields.proofs.Fields.{test_bit}
@@ -37,11 +37,11 @@ word_below marks size = word_by (ltb size (2 ^ 24)) (marks_byte marks) size (mar
 known : (b : Bool) (word size : ℕ) → b ≡ true → word % 2 ^ 24 ≡ size → cond b (word % 2 ^ 24) word ≡ size
 known b word size e is = rw e is
 
-least_by : (b : Bool) (size : ℕ) → size ≢ 0 → (b ≡ true → 16 ≤ size) → cond b 16 1 ≤ size
+least_by : (b : Bool) (size : ℕ) → size ≢ 0 → (b ≡ true → 17 ≤ size) → cond b 17 1 ≤ size
 least_by true size some h = h refl
 least_by false size some h = omega (arith, some)
 
-size_by : (byte size : ℕ) → byte < 128 → size < 2 ^ 24 → (size ≡ 0 → byte ≡ 0) → (flag byte 32 ≡ true → 16 ≤ size) → size_in (byte * 2 ^ 24 + size) ≡ size
+size_by : (byte size : ℕ) → byte < 128 → size < 2 ^ 24 → (size ≡ 0 → byte ≡ 0) → (flag byte 32 ≡ true → 17 ≤ size) → size_in (byte * 2 ^ 24 + size) ≡ size
 unfolding size_in
 size_by byte size h small none private = elim (cases_eq size 0) [
   | inl empty ↦ rw (none empty, empty) refl
@@ -88,7 +88,7 @@ named marks =
     }
 
 -- the size
-pub size_again : (marks : Marks) (size : ℕ) → size ≤ max_unit_size → (size ≡ 0 → marks_byte marks ≡ 0) → (is_some marks.private_data ≡ true → 16 ≤ size) →
+pub size_again : (marks : Marks) (size : ℕ) → size ≤ max_unit_size → (size ≡ 0 → marks_byte marks ≡ 0) → (is_some marks.private_data ≡ true → 17 ≤ size) →
     size_in (word_of marks size) ≡ size
 size_again marks size most none private =
     let small : size < 2 ^ 24 = omega (arith, most) in

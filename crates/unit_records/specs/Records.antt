@@ -49,15 +49,15 @@ bytes_in byte bytes = if flag byte 32 then drop 16 bytes else bytes
 abbrev pub word_of : Marks → ℕ → ℕ
 word_of marks size = if nat_lt size (2 ^ 24) then marks_byte marks * 2 ^ 24 + size else 2 ^ 32 - 1
 
--- the least number of bytes behind the head of a record with marks: those of PES_private_data, or one of the unit
+-- the least number of bytes behind the head of a record with marks: those of PES_private_data, and one of the unit
 abbrev pub least_size : ℕ → ℕ
-least_size byte = if flag byte 32 then 16 else 1
+least_size byte = if flag byte 32 then 17 else 1
 
 -- each bit of the byte of marks that is set says something, and the bytes are enough
 abbrev pub is_known : ℕ → Bool
 is_known word = nat_lt (word / 2 ^ 24) 128 && nat_le (least_size (word / 2 ^ 24)) (word % 2 ^ 24)
 
--- the size in a word; the whole word, which is 0 or over each size, if a bit that says nothing is set or the bytes are too few
+-- the size in a word; the whole word, which is 0 or over each size, if a bit that says nothing is set or the unit has no bytes
 unfoldable pub size_in : ℕ → ℕ
 size_in word = if is_known word then word % 2 ^ 24 else word
 

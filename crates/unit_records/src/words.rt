@@ -49,8 +49,8 @@ pub(crate) fn word_of(marks: Marks, size: u64) -> u32
     }
 }
 
-/// Gives the size in a word, or the word itself where a bit of its highest byte says nothing, or the bytes are fewer than
-/// its marks take: then it is over each size that is read.
+/// Gives the size in a word, or the word itself where a bit of its highest byte says nothing, or a unit without bytes
+/// has marks: then it is over each size that is read.
 #[tactic(auto, unfolding(crate::specs::Records::size_in))]
 pub fn size_in(word: u32) -> usize
     ensures { result ≡ size_in word }
@@ -68,7 +68,7 @@ pub fn size_in(word: u32) -> usize
 fn least_size(byte: u8) -> u32
     ensures { result ≡ least_size byte }
 {
-    if byte >> 5 & 1 == 1 { 16 } else { 1 }
+    if byte >> 5 & 1 == 1 { 17 } else { 1 }
 }
 
 /// Gives the byte of marks in a word.

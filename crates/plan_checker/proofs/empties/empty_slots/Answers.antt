@@ -1,7 +1,7 @@
 use Rattle.std.proofs.Common.{◌≡◌, ℕ, ◌+◌, ◌-◌, ◌<◌, Bool, false, List, length, get_or, ap, sym, ◌∙◌, subst, arith}
 use Rattle.own_slots.specs.Work.{work_step, work_at}
 use Rattle.own_slots.proofs.WorkLemmas.{work_begin, work_more}
-use Rattle.unit_timing.specs.EmptyBuffers.{empty_slots}
+use Rattle.slot_plan.specs.EmptySlots.{empty_slots}
 use Rattle.slot_plan.specs.declared.slot.Slot.{Slot}
 use Rattle.slot_plan.specs.declared.slot.Item.{Item}
 use Rattle.slot_plan.specs.Items.{marks}

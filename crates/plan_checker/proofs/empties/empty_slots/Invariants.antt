@@ -1,6 +1,6 @@
 use Rattle.std.proofs.Common.{◌≡◌, ◌+◌, ◌*◌, ◌≤◌}
 use Rattle.own_slots.specs.Work.{work_at}
-use Rattle.unit_timing.specs.EmptyBuffers.{empty_slots}
+use Rattle.slot_plan.specs.EmptySlots.{empty_slots}
 use Rattle.slot_plan.specs.Items.{marks}
 use Rattle.plan_checker.proofs.EmptyWalks.{Walks}
 use Rattle.plan_checker.proofs.empties.empty_slots.Given as goal
