@@ -1,6 +1,6 @@
 -- The lines of findings need no body.
-use Rattle.std.proofs.Common.{◌≡◌, ◌∙◌, ℕ, suc, ◌<◌, ◌≤◌, Bool, false, List, [], ◌∷◌, ◌++◌, length, map, drop, replicate, slice_get, Option, Some, inl, inr, refl, sym, ap, ap₂, arith, append_assoc}
-use Rattle.std.specs.Prelude.{◌||◌, codes, decimal}
+use Rattle.std.proofs.Common.{◌≡◌, ◌∙◌, ℕ, suc, ◌<◌, ◌≤◌, Bool, true, false, List, [], ◌∷◌, ◌++◌, length, map, drop, replicate, slice_get, Option, Some, Result, Ok, Err, OnOk, inl, inr, refl, sym, ap, ap₂, arith, append_assoc}
+use Rattle.std.specs.Prelude.{◌||◌, IfOk, codes, decimal}
 use Rattle.std.proofs.lemmas.List.{append-nil, drop_all, length-replicate}
 use Rattle.std.proofs.lemmas.Grind.{flat_map-append}
 use Rattle.std.proofs.lemmas.List.Folds.{list_any-append}
@@ -121,3 +121,26 @@ pub faults_end : (packet i : ℕ) (states : States) (lines all : List ℕ) (faul
 unfolding ended_found
 faults_end packet i states lines all faulty fault past h =
     or_none faulty ∙ ap (λ (xs : States). faulty || has_fault (ended_found packet xs)) (sym (drop_all i states past)) ∙ h.faults_are
+
+-- before the first PID
+pub at_first : (packet : ℕ) (states : States) (held : List FindingView) (old lines : List ℕ) (faulty : Bool) → lines ≡ old ++ finding_lines held → faulty ≡ has_fault held →
+    AtEnd packet 0 states lines (old ++ finding_lines (held ++ ended_found packet states)) faulty (has_fault (held ++ ended_found packet states))
+at_first packet states held old lines faulty listed known =
+    let rest = ended_found packet states in record {
+      lines_are = ap (λ (text : List ℕ). text ++ finding_lines rest) listed ∙ append_assoc old (finding_lines held) (finding_lines rest)
+          ∙ ap (λ (text : List ℕ). old ++ text) (sym (both_lines held rest));
+      faults_are = ap (λ (b : Bool). b || has_fault rest) known ∙ sym (both_faults held rest);
+    }
+
+-- 3. What is listed of findings that follow none
+
+pub lines_after : {V E : Type 0} (r : Result V E) (old lines : List ℕ) (none new found : List FindingView) → none ≡ [] → AddsHeaders none new found →
+    OnOk r (lines ≡ old ++ finding_lines new) → OnOk r (lines ≡ old ++ finding_lines found)
+lines_after (Ok v) old lines none new found e added is =
+    is ∙ ap (λ (text : List ℕ). old ++ text) (lines_alike new found (added_to_none none new found e added))
+lines_after (Err v) old lines none new found e added is = tt
+
+pub faults_after : {E : Type 0} (r : Result Bool E) (none new found : List FindingView) → none ≡ [] → AddsHeaders none new found →
+    IfOk r (λ faulty. faulty ≡ has_fault new) → IfOk r (λ faulty. faulty ≡ has_fault found)
+faults_after (Ok v) none new found e added is = is ∙ faults_alike new found (added_to_none none new found e added)
+faults_after (Err v) none new found e added is = tt

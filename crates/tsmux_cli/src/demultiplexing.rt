@@ -33,6 +33,7 @@ fn list(found: &[Finding<'_>], text: &mut Vec<u8>) -> Result<bool, Halt>
 }
 
 /// Appends the lines of the findings in the next piece of a stream, and returns whether one is a fault.
+#[tactic(auto, using(crate::proofs::HeaderLines::lines_alike, crate::proofs::HeaderLines::faults_alike))]
 fn list_piece(piece: &[u8], demux: &mut HeaderDemux, text: &mut Vec<u8>) -> Result<bool, Halt>
     ensures { ListsPiece piece.now demux.old demux.new text.old.items text.new.items result }
 {
@@ -65,6 +66,7 @@ impl PieceTaker for FindingList {
 }
 
 /// Lists what the end of the stream decides of the bytes of a packet that is not whole, and returns whether it is a fault.
+#[tactic(auto, using(crate::proofs::HeaderLines::lines_after, crate::proofs::HeaderLines::faults_after))]
 fn list_held(alloc: Global, demux: &HeaderDemux, text: &mut Vec<u8>) -> Result<bool, Halt>
     ensures lines { OnOk result (text.new.items ≡ text.old.items
         ++ finding_lines (held_found demux.now.packets demux.now.held)) }
@@ -79,6 +81,7 @@ fn list_held(alloc: Global, demux: &HeaderDemux, text: &mut Vec<u8>) -> Result<b
 }
 
 /// Lists what the end of the stream decides of the PID at an index, and returns whether it is a fault.
+#[tactic(auto, using(crate::proofs::HeaderLines::lines_after, crate::proofs::HeaderLines::faults_after))]
 fn list_end_of_pid(
     alloc: Global,
     demux: &HeaderDemux,
