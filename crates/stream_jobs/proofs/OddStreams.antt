@@ -11,7 +11,7 @@ use Rattle.stream_coding.specs.FrameHeaders.{frame_kind}
 use Rattle.stream_jobs.specs.Declarations.{MeasuredView, first_bytes, framing_for, measured}
 use Rattle.stream_jobs.specs.JobStreams.{WireStreamView}
 use Rattle.stream_jobs.specs.Moments.{wire_of, with_moments}
-use Rattle.stream_jobs.specs.OddStreams.{alone, own_base}
+use Rattle.stream_jobs.specs.OddStreams.{alone, first_carried, own_base}
 
 pub own_at : (base : ℕ) (us vs : List CarriedUnit) (ms : List UnitMoment) (out : List AccessUnit) → out ≡ units_at ms vs → vs ≡ us →
     ms ≡ map moment_of (moved base None (map (λ u. u.unit) us)) → out ≡ moved base None (map (λ u. u.unit) us)
@@ -22,13 +22,14 @@ own_at base us vs ms out made same is =
     ∙ at_own base None us us refl
 
 -- the first unit has the bytes that it has on the wire
-pub first_found : (w : WireStreamView) (u : CarriedUnit) (us : List CarriedUnit) → w.units ≡ u ∷ us → first_bytes (alone w).units ≡ u.unit.bytes
-unfolding alone with_moments moved unit_at first_bytes
-first_found w u us is = rw is refl
+first_is : (base : ℕ) (us : List CarriedUnit) → first_carried us ≡ first_bytes (moved base None (map (λ u. u.unit) us))
+unfolding first_carried first_bytes moved unit_at
+first_is base [] = refl
+first_is base (u ∷ us) = refl
 
-pub first_missing : (w : WireStreamView) → w.units ≡ [] → first_bytes (alone w).units ≡ []
-unfolding alone with_moments moved first_bytes
-first_missing w none = rw none refl
+pub first_same : (w : WireStreamView) → first_carried w.units ≡ first_bytes (alone w).units
+unfolding alone with_moments
+first_same w = first_is (own_base w) w.units
 
 -- the measures of a stream whose units are not frames of sound
 pub measured_alone : (w : WireStreamView) (units : CountedUnitsView) (first descriptors : List ℕ) → units ≡ counted_units (moved (own_base w) None (wire_of w)) →

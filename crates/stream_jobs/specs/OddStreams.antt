@@ -1,7 +1,8 @@
 -- Streams with units that are left out: a job can't carry them.
-use Rattle.std.specs.Prelude.{◌≡◌, ⊤, ℕ, ◌-◌, ◌%◌, ◌^◌, if◌then◌else◌, List, None, Some, Option, option_map, Result, Ok, Err}
+use Rattle.std.specs.Prelude.{◌≡◌, ⊤, ℕ, ◌-◌, ◌%◌, ◌^◌, if◌then◌else◌, List, [], ◌∷◌, None, Some, Option, option_map, Result, Ok, Err}
 use Rattle.demux.specs.Views.{FindingView}
 use Rattle.given_values.specs.declared.declare_by.DeclareBy.{DeclareBy}
+use Rattle.es_units.specs.CarriedUnits.{CarriedUnit}
 use Rattle.es_units.specs.Stamps.{first_fault}
 use Rattle.stream_jobs.specs.declared.refusal.JobError.{JobError}
 use Rattle.stream_jobs.specs.declared.refusal.JobError.TheVariants.{Memory, Refused}
@@ -30,6 +31,11 @@ odd_stamps findings w = option_map (stamps_refusal findings w.pid) (first_fault 
 -- the stream, its first unit due at once
 unfoldable pub alone : WireStreamView → TimedStreamView
 alone w = with_moments (own_base w) w
+
+-- the bytes of its first unit
+unfoldable pub first_carried : List CarriedUnit → List ℕ
+first_carried [] = []
+first_carried (u ∷ us) = u.unit.bytes
 
 abbrev pub greatest_sum : ℕ
 greatest_sum = 2 ^ 64 - 1

@@ -7,7 +7,7 @@ ghost use Rattle.stream_coding.specs.Frames.{no_frames, all_frames};
 ghost use Rattle.stream_coding.specs.FrameHeaders.{frame_kind};
 ghost use Rattle.stream_jobs.specs.Declarations as spec;
 ghost use Rattle.stream_jobs.specs.Moments.{wire_of};
-ghost use Rattle.stream_jobs.specs.OddStreams.{alone, own_base};
+ghost use Rattle.stream_jobs.specs.OddStreams.{alone, first_carried, own_base};
 
 use crate::job_stream::{TimedStream, WireStream};
 use es_units::{CountedUnits, UnitMoment};
@@ -131,9 +131,9 @@ pub(crate) fn all_measured(
 }
 
 // A copy of the bytes of the first unit.
-#[tactic(auto, unfolding(crate::specs::Declarations::first_bytes), using(crate::proofs::OddStreams::first_found, crate::proofs::OddStreams::first_missing))]
+#[tactic(auto, unfolding(crate::specs::OddStreams::first_carried))]
 fn first_copy(alloc: Global, stream: &WireStream<'_>) -> Result<Vec<u8>, AllocError>
-    ensures { IfOk result (λ bytes. bytes.items ≡ spec.first_bytes (alone stream.now).units) }
+    ensures { IfOk result (λ bytes. bytes.items ≡ first_carried stream.now.units) }
 {
     let Some(unit) = stream.units.first() else {
         return Ok(Vec::new(alloc));

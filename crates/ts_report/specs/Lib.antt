@@ -9,11 +9,15 @@ pub mod VideoTallies
 pub mod VideoFigures
 pub mod VideoEvents
 pub mod HeldEvents
+pub mod EntryStays
+pub mod EntryFrames
 pub mod Entries
 pub mod StreamTables
 pub mod ClockEvents
 pub mod ReferenceEvents
 pub mod TableEvents
+pub mod RuleEvents
+pub mod Moments
 pub mod SystemEvents
 pub mod Seen
 pub mod Views

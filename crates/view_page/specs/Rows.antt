@@ -1,7 +1,7 @@
 -- The rows that an event adds.
 use Rattle.std.specs.Prelude.{ℕ, ◌+◌, ◌-◌, ◌^◌, min, nat_lt, if◌then◌else◌, List, [], ◌∷◌, ◌++◌, flat_map}
 use Rattle.events.specs.declared.event.Event.{Event}
-use Rattle.events.specs.declared.event.Event.TheVariants.{Input, Stream, Window, Held, Units, Excess, MainExcess, MultiplexingExcess, ElementaryExcess, SystemExcess, SystemMainExcess, Late, ElementaryLate, Ahead, PcrRepetition, PcrDiscontinuity, PcrAccuracy, TableRepetition, Unclocked, Refused, Continuity, CheckWord, Transport, Main, Multiplexing, Elementary, Marks, System, Clock, Table, Pid, Unreferenced, Missing, Check, End}
+use Rattle.events.specs.declared.event.Event.TheVariants.{Input, Stream, Window, Held, Units, Excess, MainExcess, MultiplexingExcess, ElementaryExcess, SystemExcess, SystemMainExcess, Late, ElementaryLate, Ahead, PcrRepetition, PcrDiscontinuity, PcrAccuracy, TableRepetition, Unclocked, Refused, Continuity, CheckWord, Transport, Main, Multiplexing, Elementary, Marks, System, Clock, Table, Pid, Unreferenced, Missing, Check, End, Rule, Summary}
 use Rattle.events.specs.declared.event.StreamBegin.{StreamBegin}
 use Rattle.events.specs.declared.input_event.InputEvent.{InputEvent}
 use Rattle.events.specs.declared.input_event.InputEvent.TheVariants as inputs
@@ -61,6 +61,8 @@ with_fault_event labels r (Unreferenced e) = r
 with_fault_event labels r (Missing e) = r
 with_fault_event labels r (Check e) = r
 with_fault_event labels r (End e) = r
+with_fault_event labels r (Rule e) = r
+with_fault_event labels r (Summary e) = r
 
 -- how the bytes of the input are packets: packets of another size are no fault
 unfoldable pub with_input : LabelsState → RowTexts → InputEvent → RowTexts
@@ -112,3 +114,5 @@ with_event labels r (Unreferenced e) = record r { apart = r.apart ++ row labels 
 with_event labels r (Missing e) = record r { apart = r.apart ++ row labels (reference_cells words.Missing e) }
 with_event labels r (Check e) = record r { checks = r.checks ++ row labels (check_cells e) }
 with_event labels r (End e) = with_fault_event labels r (End e)
+with_event labels r (Rule e) = with_fault_event labels r (Rule e)
+with_event labels r (Summary e) = with_fault_event labels r (Summary e)
