@@ -34,6 +34,7 @@ first_same w = first_is (own_base w) w.units
 -- the measures of a stream whose units are not frames of sound
 pub measured_alone : (w : WireStreamView) (units : CountedUnitsView) (first descriptors : List ℕ) → units ≡ counted_units (moved (own_base w) None (wire_of w)) →
     first ≡ first_bytes (alone w).units → descriptors ≡ w.descriptors → frame_kind w.stream_type w.descriptors ≡ None →
-    record { pid = w.pid; stream_id = w.stream_id; stream_type = w.stream_type; descriptors = descriptors; first = first; framing = None; units = units } ≡ measured (alone w)
+    ◌≡◌ {A = MeasuredView} (record { pid = w.pid; stream_id = w.stream_id; stream_type = w.stream_type; descriptors = descriptors; first = first; framing = None; units = units })
+    (measured (alone w))
 unfolding measured alone with_moments framing_for
 measured_alone w units first descriptors counted bytes same frames = rw (counted, bytes, same, frames) refl
