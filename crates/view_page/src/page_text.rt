@@ -357,6 +357,16 @@ fn write_streams(
     write_stream_rows(text, labels, rows)
 }
 
+// The tables of streams.
+#[tactic(auto, unfolding(crate::specs::PageText::of_streams))]
+fn write_of_streams(text: &mut String, labels: &PidLabels, rows: &Rows) -> Result<(), AllocError>
+    ensures { OnOk result (string_bytes text.new ≡ string_bytes text.old ++ spec.of_streams labels.now rows.now) }
+{
+    write_streams(text, labels, &rows.streams)?;
+    write_table(text, buffers_text(), &rows.buffers)?;
+    write_table(text, marks_text(), &rows.marks)
+}
+
 // The tables of what is measured.
 #[tactic(auto, unfolding(crate::specs::PageText::measures))]
 fn write_measures(text: &mut String, labels: &PidLabels, rows: &Rows) -> Result<(), AllocError>
@@ -364,9 +374,7 @@ fn write_measures(text: &mut String, labels: &PidLabels, rows: &Rows) -> Result<
 {
     write_table(text, checks_text(), &rows.checks)?;
     write_table(text, faults_text(), &rows.faults)?;
-    write_streams(text, labels, &rows.streams)?;
-    write_table(text, buffers_text(), &rows.buffers)?;
-    write_table(text, marks_text(), &rows.marks)?;
+    write_of_streams(text, labels, rows)?;
     write_table(text, systems_text(), &rows.systems)?;
     write_table(text, clocks_text(), &rows.clocks)
 }
