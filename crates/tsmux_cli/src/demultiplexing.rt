@@ -1,5 +1,5 @@
 //! `demux`: a line for each finding in a transport stream, which is read piece by piece.
-ghost use Rattle.std.specs.Prelude.{◌≡◌, ◌<◌, ◌++◌, ℕ, IfOk, IfErr, OnOk, Some, Err, length, map, slice_get};
+ghost use Rattle.std.specs.Prelude.{◌≡◌, ◌<◌, ◌++◌, ℕ, true, IfOk, IfErr, OnOk, Some, Err, length, map, slice_get};
 ghost use Rattle.demux.specs.Findings.{ended};
 ghost use Rattle.demux.specs.Machine.{PidState};
 ghost use Rattle.demux.specs.Stream.{held_found};

@@ -1,4 +1,4 @@
-use Rattle.std.proofs.Common.{◌<◌, ◌≤◌, length, refl, sym, subst, arith, add-one}
+use Rattle.std.proofs.Common.{◌<◌, ◌≤◌, ◌++◌, length, refl, sym, subst, arith, add-one}
 use Rattle.std.specs.Prelude.{◌||◌}
 use Rattle.demux.specs.Stream.{held_found}
 use Rattle.tsmux_cli.specs.Demultiplexing.{found_at_end}
@@ -15,9 +15,13 @@ loop-i-init c =
 pub loop-i-preserved : goal.loop-i-preserved
 loop-i-preserved c =
     let demux = c.args.demux.now in
+    let next = c.list_end_of_pid.new.text.items in
+    let all = c.args.text.now.items ++ finding_lines (found_at_end demux) in
+    let fault = has_fault (found_at_end demux) in
+    let more = c.loop-i.faulty || c.in_ok-ended.ended in
     let less : c.loop-i.i < length demux.states = omega (arith, c.loop-i-test.true, c.pids-i-end.ensures) in
-    subst (λ n. AtEnd demux.packets n demux.states _ _ _ _) (sym (add-one c.loop-i.i))
-    (end_more demux.packets c.loop-i.i demux.states c.loop-i.text.items c.list_end_of_pid.new.text.items _ c.loop-i.faulty c.in_ok-ended.ended (c.loop-i.faulty || c.in_ok-ended.ended) _
+    subst (λ n. AtEnd demux.packets n demux.states next all more fault) (sym (add-one c.loop-i.i))
+    (end_more demux.packets c.loop-i.i demux.states c.loop-i.text.items next all c.loop-i.faulty c.in_ok-ended.ended more fault
     less c.in_ok-ended.ensures.lines c.in_ok-ended.ensures.fault refl c.loop-i.invariant)
 
 pub returns-clause-lines : goal.returns-clause-lines
