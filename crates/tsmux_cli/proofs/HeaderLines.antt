@@ -1,5 +1,5 @@
 -- The lines of findings need no body.
-use Rattle.std.proofs.Common.{◌≡◌, ◌∙◌, ℕ, suc, ◌<◌, ◌≤◌, Bool, true, false, List, [], ◌∷◌, ◌++◌, length, map, drop, replicate, slice_get, Option, Some, Result, Ok, Err, OnOk, inl, inr, refl, sym, ap, ap₂, arith, append_assoc}
+use Rattle.std.proofs.Common.{◌≡◌, ◌∙◌, ℕ, suc, ◌<◌, ◌≤◌, Bool, true, false, List, [], ◌∷◌, ◌++◌, length, map, drop, slice_get, Some, Result, Ok, Err, OnOk, inl, inr, refl, sym, ap, ap₂, arith, append_assoc}
 use Rattle.std.specs.Prelude.{◌||◌, IfOk, codes, decimal}
 use Rattle.std.proofs.lemmas.List.{append-nil, drop_all, length-replicate}
 use Rattle.std.proofs.lemmas.Grind.{flat_map-append}
@@ -10,7 +10,7 @@ use Rattle.demux.specs.Machine.{PidState}
 use Rattle.demux.specs.Findings.{ended}
 use Rattle.demux.specs.Shown.{with_pid}
 use Rattle.demux.specs.Stream.{States, ended_found}
-use Rattle.demux.specs.Bodies.{AddsHeaders, all_without_body, finding_without_body, without_body}
+use Rattle.demux.specs.Bodies.{AddsHeaders, all_without_body, without_body}
 use Rattle.demux.proofs.StreamEnd.{ended_next}
 use Rattle.tsmux_cli.specs.FindingLines.{finding_line, finding_lines, has_fault, is_fault, pes_text, place_text, what_text}
 

@@ -1,17 +1,14 @@
 -- The lines of a stream's findings, piece by piece and at its end.
 use Rattle.std.proofs.Common.{◌≡◌, ℕ, Bool, false, List, [], ◌++◌, refl, sym, ap, subst, ◌∙◌, Ok}
 use Rattle.std.specs.Prelude.{◌||◌}
-use Rattle.std.proofs.lemmas.List.{append-nil}
-use Rattle.std.proofs.lemmas.Grind.{flat_map-append}
-use Rattle.std.proofs.lemmas.List.Folds.{list_any-append}
 use Rattle.demux.specs.Views.{FindingView}
-use Rattle.demux.specs.Stream.{StreamState, finished, pushed, start}
+use Rattle.demux.specs.Stream.{StreamState, pushed, start}
 use Rattle.demux.specs.FoundSoFar.{with_found}
-use Rattle.demux.specs.Bodies.{HeadersSoFar, all_without_body, finding_without_body, headers_pushed, without_body}
+use Rattle.demux.specs.Bodies.{HeadersSoFar, all_without_body, headers_pushed}
 use Rattle.demux.proofs.StreamBodies.{headers_are_found, no_headers_at_first}
 use Rattle.devices.specs.Devices.{Device}
 use Rattle.devices.specs.WholeInput.{ReadsInput}
-use Rattle.tsmux_cli.specs.FindingLines.{finding_line, finding_lines, has_fault, is_fault}
+use Rattle.tsmux_cli.specs.FindingLines.{finding_lines, has_fault}
 use Rattle.tsmux_cli.specs.Demultiplexing.{ListsSome, ListsWhole, found_at_end, findings_of}
 use Rattle.tsmux_cli.proofs.HeaderLines.{both_faults, both_lines, faults_alike, lines_alike}
 
