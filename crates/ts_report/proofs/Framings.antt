@@ -99,7 +99,7 @@ pub whole_entered : (entry entry' : StreamEntry) (options : ViewOptions) (index 
     (video_unit_of e.video e.held options.arrival (arriving_at options index clock e packet)) →
     IsEntry entry' (entry_entered options index window clock e packet)
 unfolding held_in tally_in framed_after parts_delayed video_tally_after AreFrames
-whole_entered entry entry' options index window clock e packet k none pid clock_pid counter no limit marks counted video videos = record {
+whole_entered entry entry' options index window clock e packet k none pid clock_pid counter absent limit marks counted video videos = record {
   pid = pid ∙ k.pid;
   clock_pid = clock_pid ∙ k.clock_pid;
   counter = counter ∙ k.counter;
@@ -108,7 +108,7 @@ whole_entered entry entry' options index window clock e packet k none pid clock_
   video = rw none video;
   video_tally = rw none videos;
   mark_tally = marks ∙ k.mark_tally;
-  frames = rw (none, no) tt;
+  frames = rw (none, absent) tt;
   limit = limit ∙ k.limit;
   delayed = rw none counted.delayed;
 }
