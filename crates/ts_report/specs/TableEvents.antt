@@ -112,9 +112,9 @@ distances_after d (Some w) = distances.taken d w
 abbrev pub with_whole : TimesState → Option WholeSection → TimesState
 with_whole s section = record { intervals = s.intervals; distances = distances_after s.distances section; errors = s.errors }
 
-unfoldable pub distance_events : TimesState → Option WholeSection → List Event
-distance_events s None = []
-distance_events s (Some w) = soon_events (distances.error_at s.distances w)
+unfoldable pub distance_events : DistanceState → Option WholeSection → List Event
+distance_events d None = []
+distance_events d (Some w) = soon_events (distances.error_at d w)
 
 -- a section whose check word is wrong (ETSI TR 101 290, 5.2.2, 2.2)
 unfoldable pub is_wrong : WhatView → Bool
@@ -143,7 +143,7 @@ abbrev pub with_finding : ViewOptions → TimesState → FindingView → TimesSt
 with_finding options s f = with_begin (with_whole (with_check_word s f) (whole_in options f)) (section_in options f)
 
 abbrev pub finding_events : ViewOptions → TimesState → FindingView → List Event
-finding_events options s f = check_word_events f ++ (other_events (whole_section f) ++ (distance_events s (whole_in options f) ++ begin_events s (section_in options f)))
+finding_events options s f = check_word_events f ++ (other_events (whole_section f) ++ (distance_events s.distances (whole_in options f) ++ begin_events s (section_in options f)))
 
 unfoldable pub with_findings : ViewOptions → TimesState → List FindingView → TimesState
 with_findings options s [] = s

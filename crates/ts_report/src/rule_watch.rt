@@ -241,6 +241,7 @@ impl RuleWatch {
 }
 
 // Appends the error of accuracy of a reference at a constant rate, if it has one, and returns how many there are.
+#[tactic(auto, unfolding(tr101290::specs::RateJudges::error_list))]
 fn push_exact(events: &mut Vec<Event>, pid: u16, report: &PcrReport) -> Result<u64, AllocError>
     ensures found { OnOk result (events.new.items ≡ events.old.items ++ spec.exact_events pid report.now) }
     ensures errors { IfOk result (λ n. n ≡ spec.exact_count pid report.now) }

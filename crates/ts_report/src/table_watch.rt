@@ -206,7 +206,7 @@ impl TableTimes {
         events: &mut Vec<Event>,
     ) -> Result<(), AllocError>
         ensures times { OnOk result (self.new ≡ spec.with_whole self.old section.now) }
-        ensures found { OnOk result (events.new.items ≡ events.old.items ++ spec.distance_events self.old section.now) }
+        ensures found { OnOk result (events.new.items ≡ events.old.items ++ spec.distance_events self.old.distances section.now) }
     {
         match section {
             None => Ok(()),

@@ -169,9 +169,3 @@ on_two (Err e) f a b = tt
 pub on_ok : {V E A B : Type 0} (r : Result V E) → (A → B) → OnOk r A → OnOk r B
 on_ok (Ok v) f a = f a
 on_ok (Err e) f a = tt
-
--- what is so for each state, where there is memory
-pub on_all : {V E S : Type 0} {P A B C : S → Type 0} (r : Result V E) → (((s : S) → P s → A s) → ((s : S) → P s → B s) → (s : S) → P s → C s) →
-    ((s : S) → P s → OnOk r (A s)) → ((s : S) → P s → OnOk r (B s)) → OnOk r ((s : S) → P s → C s)
-on_all (Ok v) f a b = f a b
-on_all (Err e) f a b = tt

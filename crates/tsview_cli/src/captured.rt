@@ -53,7 +53,8 @@ impl PartTaker for ViewedParts {
     ghost has_taken = { λ first parts now. TakesParts parts first now };
 
     fn take_size(&mut self, other: OtherPackets) -> Result<(), AllocError> {
-        self.view.take_event(size_event(other), &mut self.events)
+        self.view.take_event(size_event(other), &mut self.events)?;
+        Ok(())
     }
 
     fn take_packets(&mut self, packets: &[[u8; 188]]) -> Result<(), AllocError> {
@@ -62,7 +63,8 @@ impl PartTaker for ViewedParts {
     }
 
     fn take_slip(&mut self, slip: Slip) -> Result<(), AllocError> {
-        self.view.take_event(slip_event(slip), &mut self.events)
+        self.view.take_event(slip_event(slip), &mut self.events)?;
+        Ok(())
     }
 }
 
