@@ -1,5 +1,5 @@
 -- Records that leap are followed by the eighth at the latest.
-use Rattle.std.proofs.Common.{◌≡◌, ℕ, suc, ◌+◌, ◌-◌, ◌<◌, ◌≤◌, ◌&&◌, Bool, true, false, List, [], ◌∷◌, length, Option, Some, None, refl, ap, sym, ◌∙◌, cond, arith, inl, inr}
+use Rattle.std.proofs.Common.{◌≡◌, ℕ, ◌+◌, ◌-◌, ◌<◌, ◌≤◌, Bool, true, false, List, [], ◌∷◌, length, Option, Some, None, refl, ap, ◌∙◌, cond, arith, inl, inr}
 use Rattle.std.specs.Prelude.{nat_le, nat_lt, option_map}
 use Rattle.std.proofs.lemmas.Bool.{and_parts, cases_Bool, leb-false, leb-true, ltb-true, lt-ltb}
 use Rattle.pes_packet.specs.AccessUnits.{AccessUnit}
@@ -9,7 +9,7 @@ use Rattle.on_air.specs.declared.refusals.AirRefusal.{AirRefusal}
 use Rattle.on_air.specs.declared.refusals.AirRefusal.TheVariants.{Feed, Ahead, Followed}
 use Rattle.on_air.specs.Leaps.{is_followed, is_near, leap_with, leap_records}
 use Rattle.on_air.specs.Airing.{Run, Air, is_tick, is_far_from, leap_by, leap_left, unit_refusal, air_cause, greatest_by, judged_by, aired, caught_up, on_to, settled_at, slots_followed}
-use Rattle.on_air.specs.Laws.{NearEach, AllFar, LeapFollowed, GoesOnFrom, LeapMovesOn}
+use Rattle.on_air.specs.Laws.{NearEach, AllFar, LeapFollowed, LeapMovesOn}
 
 -- ---- one record that lies too far ahead
 

@@ -1,5 +1,5 @@
 -- After any input, a record that is near is refused for nothing but itself and the units of its stream.
-use Rattle.std.proofs.Common.{◌≡◌, ℕ, zero, suc, ◌+◌, ◌-◌, ◌<◌, ◌≤◌, ◌||◌, max, Bool, true, false, List, [], ◌∷◌, ◌++◌, length, Option, Some, None, Result, Ok, Err, refl, ap, sym, ◌∙◌, subst, cond, arith, All}
+use Rattle.std.proofs.Common.{◌≡◌, ℕ, zero, suc, ◌+◌, ◌-◌, ◌≤◌, max, Bool, true, false, List, [], ◌∷◌, length, Option, Some, None, Result, Ok, Err, refl, ap, sym, ◌∙◌, subst, cond, arith, All}
 use Rattle.std.specs.Prelude.{⊤, ◌==◌, ◌^◌, map, nat_lt, option_map, slice_get, if◌then◌else◌}
 use Rattle.std.proofs.lemmas.Bool.{le-ltb, ltb-true}
 use Rattle.std.proofs.lemmas.List.Elements.{All-append, All-cons, All-nil, All-weaker}
@@ -15,17 +15,16 @@ use Rattle.unit_timing.specs.declared.allowance.Allowance.TheVariants.{Groups, P
 use Rattle.unit_queue.specs.OwnedStreams.{OwnedStream, timed}
 use Rattle.unit_queue.specs.Causes.{unit_cause, or_cause, own_cause, time_cause, room_cause, packets_cause, over_cause, is_bad_pts, is_late, is_full, min_next_dts_of}
 use Rattle.unit_queue.specs.declared.refusal.FeedError.{FeedError}
-use Rattle.unit_queue.specs.declared.refusal.FeedError.TheVariants.{UnknownStream, Empty, TooLarge, TooSoon, BadPts, Late, TooFar, Full, Group, Pace}
+use Rattle.unit_queue.specs.declared.refusal.FeedError.TheVariants.{Empty, TooLarge, TooSoon, BadPts, TooFar}
 use Rattle.unit_records.specs.Records.{record_at}
 use Rattle.unit_records.specs.declared.reading.UnitFileError.{UnitFileError}
 use Rattle.carry.specs.RecordRuns.{after_records}
-use Rattle.mux_core.specs.Scheduled.{Scheduled}
 use Rattle.mux_core.specs.Histories.{owned_stream}
 use Rattle.mux_core.specs.MuxStates.{feed_cause}
 use Rattle.mux_core.specs.WholeJobs.{job_history}
 use Rattle.on_air.specs.declared.refusals.AirRefusal.{AirRefusal}
 use Rattle.on_air.specs.declared.refusals.AirRefusal.TheVariants.{Feed, Ahead, Followed}
-use Rattle.on_air.specs.Airing.{Run, Air, silence, greatest_lead, lead_of, needed_room, settled_at, is_tick, is_far_from, far_cause, unit_refusal, air_cause, accepted_by, greatest_by, judged_by, aired, caught_up, slots_followed, with_record, heard}
+use Rattle.on_air.specs.Airing.{Run, Air, silence, lead_of, needed_room, settled_at, is_tick, is_far_from, far_cause, unit_refusal, air_cause, accepted_by, greatest_by, judged_by, caught_up, slots_followed, with_record, heard}
 use Rattle.on_air.specs.AirStates.{Promises}
 use Rattle.on_air.specs.Laws.{ComesNear, IsJudgedAlone, IsOwnCause, NearIsJudgedAlone}
 use Rattle.on_air.proofs.AsMultiplexed.{more_settled, none_taken, release_rises}

@@ -1,8 +1,7 @@
-use Rattle.std.proofs.Common.{ℕ, sym, ap, ◌∙◌, subst}
+use Rattle.std.proofs.Common.{sym, ap, ◌∙◌, subst}
 use Rattle.mux_core.specs.MuxStates.{MuxState}
-use Rattle.on_air.specs.Airing.{job_of, ended, on_to, with_count}
-use Rattle.on_air.specs.AirStates.{AirState, Carries, IsOnAir}
-use Rattle.on_air.specs.Hearing.{Fails}
+use Rattle.on_air.specs.Airing.{job_of, ended}
+use Rattle.on_air.specs.AirStates.{AirState, Carries}
 use Rattle.on_air.proofs.Aired.{count_fails, counted_on, counted_same, end_output, fails_same, last_same}
 use Rattle.on_air.proofs.airing.OnAir.end.Goals as goal
 

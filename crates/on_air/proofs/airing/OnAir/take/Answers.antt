@@ -1,4 +1,4 @@
-use Rattle.std.proofs.Common.{◌≡◌, ◌+◌, ℕ, max, true, false, None, sym, ap, ◌∙◌, subst}
+use Rattle.std.proofs.Common.{◌≡◌, ◌+◌, ℕ, max, true, false, sym, ap, ◌∙◌, subst}
 use Rattle.pes_packet.specs.AccessUnits.{AccessUnit}
 use Rattle.mux_core.specs.MuxStates.{MuxState}
 use Rattle.on_air.specs.declared.options.Terms.{Terms}

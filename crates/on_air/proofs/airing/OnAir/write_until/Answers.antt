@@ -1,9 +1,8 @@
-use Rattle.std.proofs.Common.{ℕ, refl, sym, ap, ◌∙◌, subst}
+use Rattle.std.proofs.Common.{refl, sym, ap, ◌∙◌, subst}
 use Rattle.std.proofs.lemmas.Result.{on_ok_weaker, IfErr-weaker}
 use Rattle.mux_core.specs.MuxStates.{MuxState}
-use Rattle.on_air.specs.Airing.{job_of, on_to, with_count}
-use Rattle.on_air.specs.AirStates.{AirState, Carries, IsOnAir}
-use Rattle.on_air.specs.Hearing.{Fails}
+use Rattle.on_air.specs.Airing.{job_of}
+use Rattle.on_air.specs.AirStates.{AirState, Carries}
 use Rattle.on_air.proofs.Aired.{count_fails, counted_on, counted_same, end_output, fails_same, settled_same}
 use Rattle.on_air.proofs.airing.OnAir.write_until.Goals as goal
 
