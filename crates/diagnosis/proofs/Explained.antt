@@ -12,6 +12,8 @@ use Rattle.checked_jobs.specs.Jobs.{planned}
 use Rattle.checked_jobs.proofs.JobReaders.{names_line, planned_front}
 use Rattle.diagnosis.specs.Explained.{bad_line_words, plan_words, served_words, text_lines}
 use Rattle.diagnosis.specs.KeyPlaces.{lines_of}
+use Rattle.diagnosis.specs.UnknownWords.{named_words, unnamed_words, word_words}
+use Rattle.diagnosis.specs.declared.unknown_words.Head.{Head}
 
 -- 1. The lines of a description
 
@@ -24,6 +26,16 @@ not_utf8 bytes false e n = cc
 
 pub no_lines : (bytes : List ℕ) → ¬ (IsUtf8 bytes) → [] ≡ text_lines bytes
 no_lines bytes n = sym (ap (λ (b : Bool). if b then lines_of bytes else []) (not_utf8 bytes (is_utf8 bytes) (let same : is_utf8 bytes ≡ is_utf8 bytes = cc in same) n))
+
+-- a word of a line
+
+pub named_text : (head : Head) (bytes word : List ℕ) → word ≡ bytes → IsUtf8 bytes → named_words head word ≡ word_words head bytes
+named_text head bytes word e u =
+    ap (named_words head) e ∙ sym (ap (λ (b : Bool). if b then named_words head bytes else unnamed_words) (is_utf8-from_IsUtf8 bytes u))
+
+pub unnamed_bytes : (head : Head) (bytes : List ℕ) → ¬ (IsUtf8 bytes) → unnamed_words ≡ word_words head bytes
+unnamed_bytes head bytes n =
+    sym (ap (λ (b : Bool). if b then named_words head bytes else unnamed_words) (not_utf8 bytes (is_utf8 bytes) (let same : is_utf8 bytes ≡ is_utf8 bytes = cc in same) n))
 
 -- 2. A plan
 

@@ -15,8 +15,8 @@ unfoldable pub rule_words : List ℕ → List ℕ → List ℕ
 rule_words name values = name ++ codes " has to be " ++ values ++ codes "\n"
 
 -- a key that has no line of its own
-abbrev pub missing_words : List ℕ → List ℕ → List ℕ
-missing_words name values = name ++ (codes " is missing, or not on a line of its own: it has to be " ++ (values ++ codes "\n"))
+unfoldable pub missing_words : List ℕ → List ℕ → List ℕ
+missing_words name values = name ++ codes " is missing, or not on a line of its own: it has to be " ++ values ++ codes "\n"
 
 -- the same where there is no text
 abbrev pub absent_words : Bool → List ℕ → List ℕ → List ℕ

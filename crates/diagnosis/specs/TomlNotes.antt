@@ -10,11 +10,14 @@ pub record TomlNoteView : Type 0 where
 -- the line with the byte at a place: its number, of lines numbered from n on, what of the place is in it, and the line
 unfoldable pub row_at : ℕ → ℕ → List (List ℕ) → Option (ℕ × (ℕ × List ℕ))
 row_at place n [] = None
-row_at place n (l ∷ ls) = if nat_le place (length l) then Some (n, (place, l)) else row_at (place - (length l + 1)) (n + 1) ls
+row_at place n (l ∷ ls) = if nat_le place (length l) then Some (n, (place, l)) else row_at (place - length l - 1) (n + 1) ls
 
 unfoldable pub fault_place : Option (ℕ × (ℕ × List ℕ)) → List ℕ
 fault_place None = codes "the description: "
 fault_place (Some row) = place_words row.0 (row.1.0 + 1) row.1.1
 
+unfoldable pub message_words : List ℕ → List ℕ
+message_words message = codes "not valid TOML: " ++ message ++ codes "\n"
+
 abbrev pub note_line : List (List ℕ) → TomlNoteView → List ℕ
-note_line lines note = fault_place (row_at note.place 1 lines) ++ (codes "not valid TOML: " ++ (note.message ++ codes "\n"))
+note_line lines note = fault_place (row_at note.place 1 lines) ++ message_words note.message

@@ -87,13 +87,18 @@ unfoldable pub meant_words : Option (List ℕ) → List ℕ
 meant_words None = codes "\n"
 meant_words (Some near) = codes "; did you mean " ++ (near ++ codes "?\n")
 
--- the word, and the nearest name that its table has
+-- the word, and the nearest name that its table has; bytes that are no UTF-8 have no name
+abbrev pub named_words : Head → List ℕ → List ℕ
+named_words head word = (kind_of head ++ word) ++ meant_words (nearest (names_of head) word)
+
+abbrev pub unnamed_words : List ℕ
+unnamed_words = codes "unknown key\n"
+
 abbrev pub word_words : Head → List ℕ → List ℕ
-word_words head word =
-    if is_utf8 word then kind_of head ++ (word ++ meant_words (nearest (names_of head) word)) else codes "unknown key\n"
+word_words head word = if is_utf8 word then named_words head word else unnamed_words
 
 abbrev pub unknown_words : Option (ℕ × (List ℕ × Head)) → List ℕ
-unknown_words None = codes "unknown key\n"
+unknown_words None = unnamed_words
 unknown_words (Some row) = row_words (Some (row.0, row.1.0)) ++ word_words row.1.1 (word_on row.1.0)
 
 abbrev pub unknown_line : List (List ℕ) → List ℕ

@@ -24,10 +24,10 @@ fn write_rule(name: &str, values: &str, text: &mut String) -> Result<(), AllocEr
 fn write_missing(name: &str, values: &str, text: &mut String) -> Result<(), AllocError>
     ensures { OnOk result (string_bytes text.new ≡ string_bytes text.old ++ spec.missing_words name.now values.now) }
 {
-    text.push_str(name)?;
-    text.push_str(" is missing, or not on a line of its own: it has to be ")?;
-    text.push_str(values)?;
-    text.push_str("\n")
+    write!(
+        text,
+        "{name} is missing, or not on a line of its own: it has to be {values}\n"
+    )
 }
 
 // Appends what a key has to be that is on none of the lines of a text; or of a description that has no text.

@@ -54,7 +54,7 @@ fn row_at<'a>(place: usize, lines: &[&'a str]) -> Option<(usize, usize, &'a str)
         if left <= line.len() {
             return Some((i + 1, left, line));
         }
-        left = left.saturating_sub(line.len() + 1);
+        left = left.saturating_sub(line.len()).saturating_sub(1);
     }
     None
 }
@@ -71,6 +71,13 @@ fn write_row(row: Option<(usize, usize, &str)>, text: &mut String) -> Result<(),
     }
 }
 
+// Appends what the reader says.
+fn write_message(message: &str, text: &mut String) -> Result<(), AllocError>
+    ensures { OnOk result (string_bytes text.new ≡ string_bytes text.old ++ spec.message_words message.now) }
+{
+    write!(text, "not valid TOML: {message}\n")
+}
+
 /// Appends the line for a text that is not valid TOML.
 pub(crate) fn write_note(
     lines: &[&str],
@@ -81,7 +88,5 @@ pub(crate) fn write_note(
         ≡ string_bytes text.old ++ spec.note_line (map (λ s. s.now) lines.now) note.now) }
 {
     write_row(row_at(note.place, lines), text)?;
-    text.push_str("not valid TOML: ")?;
-    text.push_str(note.message.as_str())?;
-    text.push_str("\n")
+    write_message(note.message.as_str(), text)
 }

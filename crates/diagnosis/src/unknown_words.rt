@@ -229,11 +229,7 @@ fn write_meant(near: Option<&str>, text: &mut String) -> Result<(), AllocError>
         ≡ string_bytes text.old ++ spec.meant_words (option_map (λ s. s.now) near.entry)) }
 {
     match near {
-        Some(near) => {
-            text.push_str("; did you mean ")?;
-            text.push_str(near)?;
-            text.push_str("?\n")
-        }
+        Some(near) => write!(text, "; did you mean {near}?\n"),
         None => text.push_str("\n"),
     }
 }
@@ -263,17 +259,36 @@ fn kind_of(head: Head) -> &'static str
     }
 }
 
+// Appends which kind of word is unknown, and the word.
+fn write_pair(kind: &str, word: &str, text: &mut String) -> Result<(), AllocError>
+    ensures { OnOk result (string_bytes text.new ≡ string_bytes text.old ++ (kind.now ++ word.now)) }
+{
+    text.push_str(kind)?;
+    text.push_str(word)
+}
+
 // Appends an unknown word, and the name that may be meant.
+fn write_named(alloc: Global, head: Head, word: &str, text: &mut String) -> Result<(), AllocError>
+    ensures { OnOk result (string_bytes text.new ≡ string_bytes text.old ++ spec.named_words head word.now) }
+{
+    write_pair(kind_of(head), word, text)?;
+    write_near(alloc, names_of(head), word, text)
+}
+
+// Appends that a key is unknown.
+fn write_unnamed(text: &mut String) -> Result<(), AllocError>
+    ensures { OnOk result (string_bytes text.new ≡ string_bytes text.old ++ spec.unnamed_words) }
+{
+    text.push_str("unknown key\n")
+}
+
+// Appends what is said of the bytes of an unknown word.
 fn write_word(alloc: Global, head: Head, word: &[u8], text: &mut String) -> Result<(), AllocError>
     ensures { OnOk result (string_bytes text.new ≡ string_bytes text.old ++ spec.word_words head word.now) }
 {
     match str::from_utf8(word) {
-        Ok(word) => {
-            text.push_str(kind_of(head))?;
-            text.push_str(word)?;
-            write_near(alloc, names_of(head), word, text)
-        }
-        Err(_) => text.push_str("unknown key\n"),
+        Ok(word) => write_named(alloc, head, word, text),
+        Err(_) => write_unnamed(text),
     }
 }
 
@@ -287,7 +302,7 @@ pub(crate) fn write_unknown(
         ≡ string_bytes text.old ++ spec.unknown_line (map (λ s. s.now) lines.now)) }
 {
     let Some((number, line, head)) = unknown_row(lines) else {
-        return text.push_str("unknown key\n");
+        return write_unnamed(text);
     };
     write_row(Some((number, line)), text)?;
     write_word(alloc, head, word_on(line), text)
