@@ -7,6 +7,7 @@ use Rattle.arrival.specs.declared.arrival.Arrival.TheVariants.{Unknown, AtRate, 
 use Rattle.demux.specs.Views.{FindingView, WhatView, IsDuplicate, BreaksCounter, IsScrambled, IsTruncated, IsSection, IsBadSection, IsPes, IsBadPes, IsBadPacket, IsErrored}
 use Rattle.psi_tables.specs.declared.error.SectionError.TheVariants as refusals
 use Rattle.demux.specs.Stream.{StreamState, start, pushed}
+use Rattle.demux.specs.Bodies.{headers_pushed}
 use Rattle.demux.specs.FoundSoFar.{with_found}
 use Rattle.tr101290.specs.Distances.{DistanceState, no_end}
 use Rattle.tr101290.specs.Distances as distances
@@ -153,7 +154,7 @@ unfoldable pub findings_events : ViewOptions → TimesState → List FindingView
 findings_events options s [] = []
 findings_events options s (f ∷ fs) = finding_events options s f ++ findings_events options (with_finding options s f) fs
 
--- 3. Packet by packet: what is found of a packet is forgotten once its sections are known
+-- 3. Packet by packet: what is found of a packet is forgotten once its sections are known, and no body of a PES packet is kept
 
 pub record TablesState : Type 0 where
   pub demux : StreamState
@@ -168,7 +169,7 @@ abbrev pub no_tables : TableTiming → TablesState
 no_tables timing = record { demux = start; times = record { intervals = no_section timing; distances = no_end timing; errors = 0 } }
 
 abbrev pub with_packet : ViewOptions → TablesState → List ℕ → TablesState
-with_packet options s bytes = record { demux = with_found [] (pushed s.demux bytes); times = with_findings options s.times (pushed s.demux bytes).found }
+with_packet options s bytes = record { demux = with_found [] (headers_pushed s.demux bytes); times = with_findings options s.times (pushed s.demux bytes).found }
 
 abbrev pub packet_events : ViewOptions → TablesState → List ℕ → List Event
 packet_events options s bytes = findings_events options s.times (pushed s.demux bytes).found

@@ -10,7 +10,7 @@ ghost use Rattle.ts_report.specs.TableEvents as spec;
 use crate::clocks::first_byte;
 use crate::view_options::ViewOptions;
 use arrival::Arrival;
-use demux::{Demux, Finding, What};
+use demux::{Finding, HeaderDemux, What};
 use events::{CheckWordFault, Event, OtherTable, RuleEvent, TableFault, TableTotals};
 use psi_tables::SectionError;
 use std::alloc::{AllocError, Global};
@@ -43,7 +43,7 @@ impl Model for TableTimes {
 #[derive(Drop)]
 pub struct TableWatch {
     alloc: Global,
-    demux: Demux,
+    demux: HeaderDemux,
     times: TableTimes,
 }
 
@@ -298,7 +298,7 @@ impl TableWatch {
         let distances = SectionDistances::new(alloc, intervals.timing());
         TableWatch {
             alloc,
-            demux: Demux::new(alloc),
+            demux: HeaderDemux::new(alloc),
             times: TableTimes {
                 intervals,
                 distances,
