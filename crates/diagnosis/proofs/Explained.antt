@@ -10,8 +10,7 @@ use Rattle.slot_plan.specs.declared.reader.PlanTextError.{PlanTextError}
 use Rattle.slot_plan.specs.declared.reader.PlanTextError.TheVariants as bad_text
 use Rattle.checked_jobs.specs.Jobs.{planned}
 use Rattle.checked_jobs.proofs.JobReaders.{names_line, planned_front}
-use Rattle.diagnosis.specs.ConditionLines.{condition_lines}
-use Rattle.diagnosis.specs.Explained.{bad_line_words, plan_words, text_lines}
+use Rattle.diagnosis.specs.Explained.{bad_line_words, plan_words, served_words, text_lines}
 use Rattle.diagnosis.specs.KeyPlaces.{lines_of}
 
 -- 1. The lines of a description
@@ -28,7 +27,7 @@ no_lines bytes n = sym (ap (λ (b : Bool). if b then lines_of bytes else []) (no
 
 -- 2. A plan
 
-words_read : (d : Described) (r : Result (Planned × List ℕ) ℕ) (p : Planned) (rest : List ℕ) → r ≡ Ok (p, rest) → condition_lines d p ≡ plan_words d r
+words_read : (d : Described) (r : Result (Planned × List ℕ) ℕ) (p : Planned) (rest : List ℕ) → r ≡ Ok (p, rest) → served_words d p ≡ plan_words d r
 unfolding plan_words
 words_read d r p rest e = sym (ap (plan_words d) e)
 
@@ -36,7 +35,7 @@ words_bad : (d : Described) (r : Result (Planned × List ℕ) ℕ) (line : ℕ) 
 unfolding plan_words
 words_bad d r line e = sym (ap (plan_words d) e)
 
-pub of_plan : (d : Described) (text : List ℕ) (p : Planned) (size : ℕ) → BeginsWithPlan text p size → condition_lines d p ≡ plan_words d (planned text)
+pub of_plan : (d : Described) (text : List ℕ) (p : Planned) (size : ℕ) → BeginsWithPlan text p size → served_words d p ≡ plan_words d (planned text)
 of_plan d text p size b = words_read d (planned text) p (drop size text) (planned_front text p size b)
 
 pub of_bad_line : (d : Described) (text : List ℕ) (error : PlanTextError) (line told : ℕ) → error ≡ bad_text.Line line → line ≡ told → Refuses text error →

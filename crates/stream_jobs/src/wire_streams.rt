@@ -16,7 +16,10 @@ use crate::refusal::{JobError, JobRefusal};
 use crate::warning::Warning;
 use crate::warnings::push_pid_warnings;
 use demux::Finding;
-use es_units::{DtsError, FoundUnit, first_other, found_units, units_with_made_dts, written_id};
+use es_units::{
+    DtsError, FoundUnit, UnitWarning, UnitWarningCause, first_other, found_units, unit_warnings,
+    units_with_made_dts, written_id,
+};
 use std::alloc::{AllocError, Global};
 use stream_coding::is_ac3;
 use stream_programs::FoundStream;
@@ -144,6 +147,30 @@ pub(crate) fn is_selected_stream(without: &[u16], stream: &FoundStream) -> bool
     !is_among(stream.pid, without)
 }
 
+// Whether it is about a PES packet that has no PTS, and no unit before it.
+#[tactic(auto, unfolding(crate::specs::WireStreams::is_unstamped, crate::specs::WireStreams::is_unstamped_cause))]
+fn is_unstamped(warning: &UnitWarning) -> bool
+    ensures { result ≡ spec.is_unstamped warning.now }
+{
+    match warning.cause {
+        UnitWarningCause::NoUnitBefore(_) => true,
+        _ => false,
+    }
+}
+
+// The warning about a stream without a unit: no PES packet comes, or none that has a PTS.
+#[tactic(auto, unfolding(crate::specs::WireStreams::no_unit_warning))]
+fn no_unit_warning(program: u16, pid: u16, found: &[UnitWarning]) -> Warning
+    ensures { result ≡ spec.no_unit_warning program pid found.now }
+{
+    if found.iter().any(|warning| is_unstamped(warning)) {
+        let why = JobRefusal::NoStamps(pid);
+        Warning::LeftOut { pid, why }
+    } else {
+        Warning::NoUnit { program, pid }
+    }
+}
+
 // Appends the warnings about a stream that can't be carried.
 #[tactic(auto, unfolding(crate::specs::WireStreams::why_not_carried))]
 fn push_empty_stream_warnings(
@@ -170,7 +197,8 @@ fn push_empty_stream_warnings(
             Ok(())
         }
         None => {
-            warnings.push(Warning::NoUnit { program, pid })?;
+            let found = unit_warnings(alloc, pid, count, findings)?;
+            warnings.push(no_unit_warning(program, pid, &found))?;
             push_pid_warnings(alloc, pid, count, findings, warnings)
         }
     }

@@ -5,3 +5,5 @@ pub mod Tables
 pub mod Sections
 pub mod TablePackets
 pub mod Videos
+pub mod Frames
+pub mod Framings

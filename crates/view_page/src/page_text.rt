@@ -3,6 +3,7 @@ ghost use Rattle.std.specs.Prelude.{◌≡◌, ◌++◌, OnOk, codes, flat_map, 
 ghost use Rattle.view_page.specs.PageText as spec;
 
 use crate::cells::write_carried;
+use crate::mark_cells::marks_text;
 use crate::page::Page;
 use crate::rows::{Rows, StreamRow};
 use events::ReportEnd;
@@ -365,6 +366,7 @@ fn write_measures(text: &mut String, labels: &PidLabels, rows: &Rows) -> Result<
     write_table(text, faults_text(), &rows.faults)?;
     write_streams(text, labels, &rows.streams)?;
     write_table(text, buffers_text(), &rows.buffers)?;
+    write_table(text, marks_text(), &rows.marks)?;
     write_table(text, systems_text(), &rows.systems)?;
     write_table(text, clocks_text(), &rows.clocks)
 }
