@@ -1,5 +1,5 @@
 -- Small runs whose findings compute.
-use Rattle.std.proofs.Common.{◌≡◌, ℕ, true, false, List, [], ◌∷◌, replicate, Some, refl}
+use Rattle.std.proofs.Common.{◌≡◌, ℕ, true, false, List, [], ◌∷◌, replicate, None, Some, refl}
 use Rattle.pes_packet.specs.AccessUnits.{AccessUnit}
 use Rattle.pes_packet.specs.declared.time_stamps.Stamps.TheVariants.{Pts, PtsDts}
 use Rattle.pes_packet.specs.Encoding.{pes_header_bytes, header_with, pts_header, pts_dts_header, pes_start_bytes, packet_length, stamp_bytes, pes_packet_bytes}

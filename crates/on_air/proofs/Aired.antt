@@ -1,5 +1,7 @@
 -- What a record, and the end, leave of a run.
-use Rattle.std.proofs.Common.{◌≡◌, ℕ, ◌+◌, max, Bool, true, false, List, [], Option, Some, None, refl, sym, ap, ◌∙◌, subst}
+use Rattle.std.proofs.Common.{◌≡◌, ℕ, ◌+◌, max, Bool, true, false, List, [], Option, Some, None, Result, refl, sym, ap, ◌∙◌, subst}
+use Rattle.std.specs.Prelude.{IfErr, OnOk}
+use Rattle.packet_output.specs.declared.output.OutputFault.{OutputFault}
 use Rattle.unit_queue.specs.declared.refusal.FeedError.{FeedError}
 use Rattle.description.specs.Ranges.{IsInRange}
 use Rattle.plan_timing.specs.Promised.{Promised}
@@ -18,7 +20,7 @@ use Rattle.on_air.specs.declared.leap.Leap.{Leap}
 use Rattle.on_air.specs.declared.options.Terms.{Terms}
 use Rattle.on_air.specs.declared.refusals.AirRefusal.{AirRefusal}
 use Rattle.on_air.specs.declared.refusals.AirRefusal.TheVariants.{Feed, Ahead, Followed}
-use Rattle.on_air.specs.Airing.{Run, Air, silence, job_of, air_output, lead_of, limit_of, settled, settled_at, last_of, last_at, on_to, air_cause, accepted_by, greatest_by, is_far_from, judged, judged_by, leap_by, leap_left, with_count}
+use Rattle.on_air.specs.Airing.{Run, Air, silence, job_of, air_output, lead_of, limit_of, settled, settled_at, last_of, last_at, on_to, air_cause, accepted_by, greatest_by, is_far_from, caught_up, judged, judged_by, leap_by, leap_left, slots_followed, with_count}
 use Rattle.on_air.specs.Leaps.{is_far, is_followed, leap_with, no_leap}
 use Rattle.on_air.specs.AirStates.{AirState, Carries, with_slots, WroteOn, Promises, Admits, IsOnAir, run_with}
 use Rattle.on_air.specs.Hearing.{Fails}
@@ -136,22 +138,22 @@ admitted_on run a entry start now old new h moves packets greatest leap records 
 
 -- then these slots were written
 pub taken_on : (run : Run) (a : Air) (entry : ℕ × AccessUnit) (due : ℕ) (start later : Option (List ℕ)) (m : MuxState) (new : AirState) → Admits run a entry None m → due ≡ entry.1.dts →
-    IsOnAir run (with_count (admitted a entry) (on_to a.slots (settled_at run due))) start later new → (air_cause run a entry ≡ None) × IsOnAir run (judged run a entry) start later new
+    IsOnAir run (with_count (admitted a entry) (on_to (admitted a entry).slots (settled_at run due))) start later new → (air_cause run a entry ≡ None) × IsOnAir run (judged run a entry) start later new
 unfolding admitted judged_by
 taken_on run a entry due start later m new admits is on = (
   sym admits.cause,
   subst (λ (o : Option AirRefusal). IsOnAir run (judged_by run a entry o) start later new) admits.cause
-      (subst (λ (n : ℕ). IsOnAir run (with_count (admitted a entry) (on_to a.slots (settled_at run n))) start later new) is on),
+      (subst (λ (n : ℕ). IsOnAir run (with_count (admitted a entry) (on_to (admitted a entry).slots (settled_at run n))) start later new) is on),
 )
 
 -- or the writer failed
 pub fails_on : (run : Run) (a : Air) (entry : ℕ × AccessUnit) (due sent : ℕ) (start later : Option (List ℕ)) (m : MuxState) → Admits run a entry None m → due ≡ entry.1.dts →
-    Fails run (with_count (admitted a entry) (on_to a.slots (settled_at run due))) start later sent → (air_cause run a entry ≡ None) × Fails run (judged run a entry) start later sent
+    Fails run (with_count (admitted a entry) (on_to (admitted a entry).slots (settled_at run due))) start later sent → (air_cause run a entry ≡ None) × Fails run (judged run a entry) start later sent
 unfolding admitted judged_by
 fails_on run a entry due sent start later m admits is fails = (
   sym admits.cause,
   subst (λ (o : Option AirRefusal). Fails run (judged_by run a entry o) start later sent) admits.cause
-      (subst (λ (n : ℕ). Fails run (with_count (admitted a entry) (on_to a.slots (settled_at run n))) start later sent) is fails),
+      (subst (λ (n : ℕ). Fails run (with_count (admitted a entry) (on_to (admitted a entry).slots (settled_at run n))) start later sent) is fails),
 )
 
 -- what waited was written
@@ -208,6 +210,40 @@ count_fails run a target sent hex start now later old h like took = record {
   took = subst (λ (b : Bool). Took start later sent (output_of b run.scheduled (job_of (with_count a (on_to a.slots target))))) (like ∙ h.hex) took;
   headline = keeps run a.accepted a.slots (on_to a.slots target) old.mux h.promises h.mux;
 }
+
+-- the same by the number of slots that was asked for
+pub counted_same : (run : Run) (a : Air) (target wanted : ℕ) (start later : Option (List ℕ)) (new : AirState) → target ≡ wanted → IsOnAir run (with_count a (on_to a.slots target)) start later new →
+    IsOnAir run (with_count a (on_to a.slots wanted)) start later new
+counted_same run a target wanted start later new is on = subst (λ (n : ℕ). IsOnAir run (with_count a (on_to a.slots n)) start later new) is on
+
+pub fails_same : (run : Run) (a : Air) (target wanted sent : ℕ) (start later : Option (List ℕ)) → target ≡ wanted → Fails run (with_count a (on_to a.slots target)) start later sent →
+    Fails run (with_count a (on_to a.slots wanted)) start later sent
+fails_same run a target wanted sent start later is fails = subst (λ (n : ℕ). Fails run (with_count a (on_to a.slots n)) start later sent) is fails
+
+-- the slots up to a record were written, if the run follows it
+pub followed_on : {V : Type 0} (run : Run) (a : Air) (refusal : AirRefusal) (packet from to : ℕ) (start later : Option (List ℕ)) (new : AirState) (result : Result V OutputFault) →
+    refusal ≡ Followed packet from to → OnOk result (IsOnAir run (with_count a (on_to a.slots (settled_at run to))) start later new) →
+    OnOk result (IsOnAir run (caught_up run a (Some refusal)) start later new)
+unfolding slots_followed
+followed_on run a refusal packet from to start later new result is on =
+    subst (λ (r : AirRefusal). OnOk result (IsOnAir run (caught_up run a (Some r)) start later new)) (sym is) on
+
+pub follow_fails : {V : Type 0} (run : Run) (a : Air) (refusal : AirRefusal) (packet from to : ℕ) (start later : Option (List ℕ)) (result : Result V OutputFault) →
+    refusal ≡ Followed packet from to → IfErr result (λ fault. Fails run (with_count a (on_to a.slots (settled_at run to))) start later fault.sent) →
+    IfErr result (λ fault. Fails run (caught_up run a (Some refusal)) start later fault.sent)
+unfolding slots_followed
+follow_fails run a refusal packet from to start later result is fails =
+    subst (λ (r : AirRefusal). IfErr result (λ fault. Fails run (caught_up run a (Some r)) start later fault.sent)) (sym is) fails
+
+pub stays_ahead : (run : Run) (a : Air) (refusal : AirRefusal) (start now : Option (List ℕ)) (s : AirState) → refusal ≡ Ahead → IsOnAir run a start now s →
+    IsOnAir run (caught_up run a (Some refusal)) start now s
+unfolding slots_followed
+stays_ahead run a refusal start now s is on = subst (λ (r : AirRefusal). IsOnAir run (caught_up run a (Some r)) start now s) (sym is) on
+
+pub stays_fed : (run : Run) (a : Air) (refusal : AirRefusal) (cause : FeedError) (start now : Option (List ℕ)) (s : AirState) → refusal ≡ Feed cause → IsOnAir run a start now s →
+    IsOnAir run (caught_up run a (Some refusal)) start now s
+unfolding slots_followed
+stays_fed run a refusal cause start now s is on = subst (λ (r : AirRefusal). IsOnAir run (caught_up run a (Some r)) start now s) (sym is) on
 
 -- ---- what the calls count by
 

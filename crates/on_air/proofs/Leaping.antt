@@ -38,7 +38,7 @@ some_records ahead due leap true true near is = rw (near, is) (omega arith)
 some_records ahead due leap true false near is = rw (near, is) (omega arith)
 
 not_many : (leap : Leap) → is_followed leap ≡ false → leap.records < leap_records
-not_many leap no = leb-false leap_records leap.records no
+not_many leap less = leb-false leap_records leap.records less
 
 -- ---- records one after another
 
@@ -63,12 +63,12 @@ more_records run a (entry ∷ rest) few near all =
       | inl many ↦
           let none = none_after run (aired run a entry) entry.1.dts rest (followed run a entry all.0 many) near.1 all.1 in
           omega (arith, none, few)
-      | inr no ↦
-          let leap = counted run a entry all.0 no in
+      | inr less ↦
+          let leap = counted run a entry all.0 less in
           let count = ap (λ (l : Leap). l.records) leap ∙ records in
           let due : (aired run a entry).leap.due ≡ entry.1.dts = ap (λ (l : Leap). l.due) leap in
-          let less = not_many (leap_by run a entry) no in
-          let fewer : (aired run a entry).leap.records < leap_records = omega (arith, less, ap (λ (l : Leap). l.records) leap) in
+          let below = not_many (leap_by run a entry) less in
+          let fewer : (aired run a entry).leap.records < leap_records = omega (arith, below, ap (λ (l : Leap). l.records) leap) in
           let others = more_records run (aired run a entry) rest fewer (rw due near.1) all.1 in
           omega (arith, others, count)
     ]
@@ -79,13 +79,13 @@ leap_followed run a first rest near all = elim (cases_Bool (is_followed (leap_by
   | inl many ↦
       let none = none_after run (aired run a first) first.1.dts rest (followed run a first all.0 many) near all.1 in
       omega (arith, none)
-  | inr no ↦
-      let leap = counted run a first all.0 no in
+  | inr less ↦
+      let leap = counted run a first all.0 less in
       let some = some_records run.terms.ahead first.1.dts a.leap (is_near run.terms.ahead a.leap.due first.1.dts) (nat_lt a.leap.records leap_records) refl refl in
       let count = ap (λ (l : Leap). l.records) leap in
       let due : (aired run a first).leap.due ≡ first.1.dts = ap (λ (l : Leap). l.due) leap in
-      let less = not_many (leap_by run a first) no in
-      let fewer : (aired run a first).leap.records < leap_records = omega (arith, less, count) in
+      let below = not_many (leap_by run a first) less in
+      let fewer : (aired run a first).leap.records < leap_records = omega (arith, below, count) in
       let others = more_records run (aired run a first) rest fewer (rw due near) all.1 in
       omega (arith, others, count, some)
 ]

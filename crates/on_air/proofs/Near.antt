@@ -47,10 +47,10 @@ later g h units le all = All-weaker (λ e. e.1.dts ≤ g) (λ e. e.1.dts ≤ h) 
 
 -- a unit that is accepted
 fed_none : (far tick : Bool) (cause : AirRefusal) (refused : Option FeedError) → cond far (Some cause) (cond tick None (option_map Feed refused)) ≡ None → tick ≡ false → refused ≡ None
-fed_none true tick cause refused e no = absurd cc
-fed_none false true cause refused e no = absurd cc
-fed_none false false cause None e no = refl
-fed_none false false cause (Some c) e no = absurd cc
+fed_none true tick cause refused e unit = absurd cc
+fed_none false true cause refused e unit = absurd cc
+fed_none false false cause None e unit = refl
+fed_none false false cause (Some c) e unit = absurd cc
 
 taken_units : (run : Run) (a : Air) (entry : ℕ × AccessUnit) (tick : Bool) → is_tick entry ≡ tick → IsInRange run.scheduled.description → air_cause run a entry ≡ None → Steady run a →
     All (λ e. e.1.dts ≤ max a.greatest entry.1.dts) (accepted_by a entry None) × AllKept run.scheduled (accepted_by a entry None)

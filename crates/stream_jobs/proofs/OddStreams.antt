@@ -1,5 +1,5 @@
 -- Units at moments of their own.
-use Rattle.std.proofs.Common.{◌≡◌, ◌∙◌, ℕ, List, [], ◌∷◌, None, map, refl, ap}
+use Rattle.std.proofs.Common.{◌≡◌, ◌∙◌, ℕ, Option, List, [], ◌∷◌, None, map, refl, sym, ap}
 use Rattle.pes_packet.specs.AccessUnits.{AccessUnit}
 use Rattle.es_units.specs.CarriedUnits.{CarriedUnit}
 use Rattle.es_units.specs.CountedUnits.{CountedUnitsView, counted_units}
@@ -8,8 +8,9 @@ use Rattle.es_units.specs.UnitMoments.{moment_of, units_at}
 use Rattle.es_units.specs.declared.unit_moments.UnitMoment.{UnitMoment}
 use Rattle.es_units.proofs.UnitMoments.{at_own}
 use Rattle.stream_coding.specs.FrameHeaders.{frame_kind}
+use Rattle.unit_timing.specs.declared.framing.Framing.{Framing}
 use Rattle.stream_jobs.specs.Declarations.{MeasuredView, first_bytes, framing_for, measured}
-use Rattle.stream_jobs.specs.JobStreams.{WireStreamView}
+use Rattle.stream_jobs.specs.JobStreams.{TimedStreamView, WireStreamView}
 use Rattle.stream_jobs.specs.Moments.{wire_of, with_moments}
 use Rattle.stream_jobs.specs.OddStreams.{alone, first_carried, own_base}
 
@@ -31,9 +32,23 @@ pub first_same : (w : WireStreamView) → first_carried w.units ≡ first_bytes 
 unfolding alone with_moments
 first_same w = first_is (own_base w) w.units
 
+no_framing : (t : TimedStreamView) → frame_kind t.stream_type t.descriptors ≡ None → framing_for t ≡ None
+unfolding framing_for
+no_framing t none = rw none refl
+
 -- the measures of a stream whose units are not frames of sound
 pub measured_alone : (w : WireStreamView) (units : CountedUnitsView) (first descriptors : List ℕ) → units ≡ counted_units (moved (own_base w) None (wire_of w)) →
     first ≡ first_bytes (alone w).units → descriptors ≡ w.descriptors → frame_kind w.stream_type w.descriptors ≡ None →
-    record { pid = w.pid; stream_id = w.stream_id; stream_type = w.stream_type; descriptors = descriptors; first = first; framing = None; units = units } ≡ measured (alone w)
-unfolding measured alone with_moments framing_for
-measured_alone w units first descriptors counted bytes same frames = rw (counted, bytes, same, frames) refl
+    ◌≡◌ {A = MeasuredView} (record { pid = w.pid; stream_id = w.stream_id; stream_type = w.stream_type; descriptors = descriptors; first = first; framing = None; units = units })
+    (measured (alone w))
+unfolding measured alone with_moments
+measured_alone w units first descriptors counted bytes same frames =
+    rw (counted, bytes, same) (ap (λ (framing : Option Framing). (let m : MeasuredView = record {
+      pid = w.pid;
+      stream_id = w.stream_id;
+      stream_type = w.stream_type;
+      descriptors = w.descriptors;
+      first = first_bytes (alone w).units;
+      framing = framing;
+      units = counted_units (moved (own_base w) None (wire_of w));
+    } in m)) (sym (no_framing (alone w) frames)))

@@ -1,6 +1,7 @@
 //! The streams of a transport stream, their units with the stamps on the wire.
 
 ghost use Rattle.std.specs.Prelude.{◌≡◌, ◌++◌, IfOk, IfErr, OnOk, Ok, All, flat_map, map, option_to_list};
+ghost use Rattle.std.specs.List.{list_any};
 ghost use Rattle.demux.specs.Shown.{finding_view};
 ghost use Rattle.stream_jobs.specs.Answers.{Answers, Refuses};
 ghost use Rattle.stream_jobs.specs.Jobs.{IsCarried};
@@ -158,12 +159,19 @@ fn is_unstamped(warning: &UnitWarning) -> bool
     }
 }
 
+// Whether one of these is such a warning.
+fn has_unstamped(found: &[UnitWarning]) -> bool
+    ensures { result ≡ list_any spec.is_unstamped found.now }
+{
+    found.iter().any(|warning| is_unstamped(warning))
+}
+
 // The warning about a stream without a unit: no PES packet comes, or none that has a PTS.
 #[tactic(auto, unfolding(crate::specs::WireStreams::no_unit_warning))]
 fn no_unit_warning(program: u16, pid: u16, found: &[UnitWarning]) -> Warning
     ensures { result ≡ spec.no_unit_warning program pid found.now }
 {
-    if found.iter().any(|warning| is_unstamped(warning)) {
+    if has_unstamped(found) {
         let why = JobRefusal::NoStamps(pid);
         Warning::LeftOut { pid, why }
     } else {

@@ -17,9 +17,9 @@ pub record JudgeState : Type 0 where
 abbrev pub no_rate : JudgeState
 no_rate = record { rate = None; pairs = 0; apart = 0; held = [] }
 
--- the lesser is less than nine tenths of the greater
+-- the lesser is more than a fiftieth below the greater
 abbrev pub are_apart : ℕ → ℕ → Bool
-are_apart a b = nat_lt b (a - a / 10) || nat_lt a (b - b / 10)
+are_apart a b = nat_lt b (a - a / 50) || nat_lt a (b - b / 50)
 
 abbrev pub one_if : Bool → ℕ
 one_if b = if b then 1 else 0

@@ -35,11 +35,11 @@ impl Model for RateJudge {
     ghost view = { λ j. record { rate = j.rate; pairs = j.pairs; apart = j.apart; held = j.held.items } };
 }
 
-// Whether the lesser of two rates is less than nine tenths of the greater.
+// Whether the lesser of two rates is more than a fiftieth below the greater.
 fn are_apart(a: u128, b: u128) -> bool
     ensures { result ≡ spec.are_apart a b }
 {
-    b < a - a / 10 || a < b - b / 10
+    b < a - a / 50 || a < b - b / 50
 }
 
 // The last rate after a reference, which may give none.

@@ -215,7 +215,7 @@ impl RuleWatch {
         Ok(())
     }
 
-    /// Returns whether an error of accuracy is held that counts at the end.
+    /// Returns whether no error of accuracy is held that counts at the end.
     pub fn holds_none(&self) -> bool
         ensures { result ≡ spec.holds_none self.now }
     {

@@ -294,12 +294,14 @@ impl TableWatch {
     pub fn new(alloc: Global, timing: TableTiming) -> TableWatch
         ensures { result ≡ spec.no_tables timing }
     {
+        let intervals = TableIntervals::new(alloc, timing);
+        let distances = SectionDistances::new(alloc, intervals.timing());
         TableWatch {
             alloc,
             demux: Demux::new(alloc),
             times: TableTimes {
-                intervals: TableIntervals::new(alloc, timing),
-                distances: SectionDistances::new(alloc, timing),
+                intervals,
+                distances,
                 errors: 0,
             },
         }

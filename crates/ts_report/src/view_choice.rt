@@ -91,10 +91,9 @@ impl ViewChoice {
     pub fn frames_for(&self, pid: u16, stream_type: u8, descriptors: &[u8]) -> Option<FrameKind>
         ensures { result ≡ spec.frames_for self.now pid stream_type descriptors.now }
     {
-        if given_buffers(&self.buffers, pid).is_some() {
-            None
-        } else {
-            frame_kind(stream_type, descriptors)
+        match given_buffers(&self.buffers, pid) {
+            Some(_) => None,
+            None => frame_kind(stream_type, descriptors),
         }
     }
 }

@@ -86,9 +86,11 @@ row_head pid = codes "<tr><td>" ++ decimal pid
 unfoldable pub stream_row : LabelsState → StreamText → List ℕ
 stream_row labels r = row_head r.pid ++ (carried_cell labels r.pid ++ (r.cells ++ codes "\n"))
 
+unfoldable pub figures : RowTexts → List ℕ
+figures r = (buffers_text ++ r.buffers) ++ ((marks_text ++ r.marks) ++ ((systems_text ++ r.systems) ++ (clocks_text ++ r.clocks)))
+
 unfoldable pub measures : LabelsState → RowTexts → List ℕ
-measures labels r = (checks_text ++ r.checks) ++ ((faults_text ++ r.faults) ++ ((streams_text ++ flat_map (stream_row labels) r.streams)
-    ++ ((buffers_text ++ r.buffers) ++ ((marks_text ++ r.marks) ++ ((systems_text ++ r.systems) ++ (clocks_text ++ r.clocks))))))
+measures labels r = (checks_text ++ r.checks) ++ ((faults_text ++ r.faults) ++ ((streams_text ++ flat_map (stream_row labels) r.streams) ++ figures r))
 
 unfoldable pub lists : RowTexts → List ℕ
 lists r = (tables_text ++ r.tables) ++ ((pids_text ++ r.pids) ++ (apart_text ++ r.apart))

@@ -20,7 +20,7 @@ records-preserved-else-stop g c =
     let clean = rw c.in-Ok-Refused.field-0-is at c.in-Ok-Refused.ensures.fault in
     record {
       reads = clean.0 ∙ c.records.invariant.reads;
-      writes = c.in-Ok-follow.ensures.clean ∙ clean.1 ∙ c.records.invariant.writes;
+      writes = c.in-Ok.ensures.clean ∙ clean.1 ∙ c.records.invariant.writes;
       known = λ run start h.
           let m = c.records.invariant.known run start h in
           next run (g.R.Read.remaining c.args.input.now) (g.R.Read.remaining c.records.input) (g.R.Read.remaining c.hear_on.new.input) start
@@ -30,7 +30,7 @@ records-preserved-else-stop g c =
           (record { bytes = g.E.Write.contents c.report_refused.new.faults; failed = g.E.Sink.fault_count c.report_refused.new.faults })
           c.records.has_refused c.records.on_air c.hear_on.new.self c.follow.new.self c.in-Ok-Refused.index c.in-Ok-Refused.cause m
           (rw c.in-Ok-Refused.field-0-is at (c.in-Ok-Refused.ensures.heard run m.airs.heard_is.count m.airs.came (g.R.Read.remaining c.args.input.now) start m.state m.airs.heard_is.heard_is))
-          (λ a on. c.in-Ok-follow.ensures.ok run a start on)
+          (λ a on. c.in-Ok.ensures.ok run a start on)
           c.report_refused.ensures;
     }
 
@@ -50,9 +50,9 @@ returns-then-stop g c = λ run start h.
     (record { bytes = g.E.Write.contents c.records.faults; failed = g.E.Sink.fault_count c.records.faults }) after
     c.records.has_refused c.records.on_air c.hear_on.new.self c.follow.new.self c.in-Ok-Refused.index c.in-Ok-Refused.cause m
     (rw c.in-Ok-Refused.field-0-is at (c.in-Ok-Refused.ensures.heard run m.airs.heard_is.count m.airs.came (g.R.Read.remaining c.args.input.now) start m.state m.airs.heard_is.heard_is))
-    (λ a on. c.in-Ok-follow.ensures.ok run a start on)
+    (λ a on. c.in-Ok.ensures.ok run a start on)
     c.report_refused.ensures)
-    (clean.0 ∙ c.records.invariant.reads) (c.in-Ok-follow.ensures.clean ∙ clean.1 ∙ c.records.invariant.writes)
+    (clean.0 ∙ c.records.invariant.reads) (c.in-Ok.ensures.clean ∙ clean.1 ∙ c.records.invariant.writes)
 
 pub returns-in-Err-follow : goal.returns-in-Err-follow
 returns-in-Err-follow g c = λ run start h.

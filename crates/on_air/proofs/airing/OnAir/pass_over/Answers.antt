@@ -29,5 +29,5 @@ returns-clause-passes g c = λ run a entry start now h due far.
     passed_last run a entry c.now-packet.result c.self.inside.greatest c.args.due start now c.args.self.now _ h
     (record { terms = terms; rate = ap (λ (x : AirState). x.rate) c.self.view_is; lead = ap (λ (x : AirState). x.lead) c.self.view_is }) far many
     (c.now-packet.ensures (job_of a) stands) (ap (λ (x : AirState). x.greatest) c.self.view_is) due
-    (ap (λ (x : AirState). x.mux) c.self.view_is) (ap (λ (x : AirState). x.packets) c.self.view_is) refl c.none.ensures
+    (ap (λ (x : AirState). x.mux) c.self.view_is) (ap (λ (x : AirState). x.packets) c.self.view_is) refl c.none-self-inside.ensures
     (ap (λ (x : AirState). x.records + 1) c.self.view_is)

@@ -48,7 +48,7 @@ returns-in-Ok-clause-takes g c = λ run a start h.
     ∙ sym c.is_far.ensures ∙ c.if-is_far.false in
     let admits = rw c.in-None.is at (c.admit.ensures run a carries h.promises near) in
     let last = c.max-greatest.ensures ∙ ap (λ (n : ℕ). max n c.unit.inside.dts) greatest ∙ ap (λ (n : ℕ). max c.args.self.now.greatest n) due in
-    let on = admitted_on run a (c.args.stream, c.args.unit) start _ c.args.self.now _ h (record { terms = terms; rate = rate; lead = lead }) packets last c.none.ensures records admits in
+    let on = admitted_on run a (c.args.stream, c.args.unit) start _ c.args.self.now _ h (record { terms = terms; rate = rate; lead = lead }) packets last c.none-self-inside.ensures records admits in
     taken_on run a (c.args.stream, c.args.unit) c.unit.inside.dts start _ c.admit.new.mux _ admits due (c.in-Ok.ensures.ok run (admitted a (c.args.stream, c.args.unit)) start on)
 
 pub returns-in-Err-clause-takes : goal.returns-in-Err-clause-takes
@@ -66,6 +66,6 @@ returns-in-Err-clause-takes g c = λ run a start h.
     ∙ sym c.is_far.ensures ∙ c.if-is_far.false in
     let admits = rw c.in-None.is at (c.admit.ensures run a carries h.promises near) in
     let last = c.max-greatest.ensures ∙ ap (λ (n : ℕ). max n c.unit.inside.dts) greatest ∙ ap (λ (n : ℕ). max c.args.self.now.greatest n) due in
-    let on = admitted_on run a (c.args.stream, c.args.unit) start _ c.args.self.now _ h (record { terms = terms; rate = rate; lead = lead }) packets last c.none.ensures records admits in
+    let on = admitted_on run a (c.args.stream, c.args.unit) start _ c.args.self.now _ h (record { terms = terms; rate = rate; lead = lead }) packets last c.none-self-inside.ensures records admits in
     fails_on run a (c.args.stream, c.args.unit) c.unit.inside.dts c.in-Err.fault.sent start _ c.admit.new.mux admits due
     (c.in-Err.ensures.err run (admitted a (c.args.stream, c.args.unit)) start on)
