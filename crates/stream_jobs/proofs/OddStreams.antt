@@ -34,7 +34,7 @@ first_same w = first_is (own_base w) w.units
 
 no_framing : (t : TimedStreamView) → frame_kind t.stream_type t.descriptors ≡ None → framing_for t ≡ None
 unfolding framing_for
-no_framing t none = rw none refl
+no_framing t none = rw (none, framing_for) refl
 
 -- the measures of a stream whose units are not frames of sound
 pub measured_alone : (w : WireStreamView) (units : CountedUnitsView) (first descriptors : List ℕ) → units ≡ counted_units (moved (own_base w) None (wire_of w)) →
