@@ -42,6 +42,7 @@ fn write_room(
 }
 
 // Appends that a buffer is never empty.
+#[tactic(auto, unfolding(crate::specs::ConditionLines::never_empty_words))]
 fn write_never_empty(buffer: &str, text: &mut String) -> Result<(), AllocError>
     ensures { OnOk result (string_bytes text.new ≡ string_bytes text.old ++ spec.never_empty_words buffer.now) }
 {
