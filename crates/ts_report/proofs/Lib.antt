@@ -3,5 +3,9 @@ pub mod Packets
 pub mod ClockedPackets
 pub mod Tables
 pub mod Sections
+pub mod HeaderTables
 pub mod TablePackets
 pub mod Videos
+pub mod Frames
+pub mod Payloads
+pub mod Framings
