@@ -4,6 +4,12 @@ it; tools/plain-view has the multiplexing buffer with it as one."""
 
 # level: greatest rate in bits a second, video buffer in bits (ISO/IEC 13818-2, tables 8-13 and 8-14)
 MPEG2 = {10: (4_000_000, 475_136), 8: (15_000_000, 1_835_008), 6: (60_000_000, 7_340_032), 4: (80_000_000, 9_781_248)}
+HIGH_MPEG2 = {8: (20_000_000, 2_441_216), 6: (80_000_000, 9_781_248), 4: (100_000_000, 12_222_464)}  # high profile, all layers
+ESCAPED_MPEG2 = {0x82: (300_000_000, 47_185_920), 0x85: (50_000_000, 9_437_184)}  # 4:2:2 profile at high and at main level
+# profile_idc: cpbBrNalFactor (ISO/IEC 14496-10, A.3.1, A.3.3, table A-2); 1,200 of others
+AVC_FACTORS = {**dict.fromkeys((100, 83, 86, 118, 128, 134, 135, 138, 139), 1_500), 110: 3_600, **dict.fromkeys((122, 244, 44), 4_800)}
+# CpbNalFactor for samples of at most 8, 10, 12 and 16 bits (ISO/IEC 23008-2, A.4.2), of profiles with flags of their limits
+HEVC_FACTORS = {"400": (733, 917, 1_100, 1_467), "420": (1_100, 1_100, 1_650, 4_400), "422": (1_833, 1_833, 2_200, 4_400), "444": (2_200, 2_750, 3_300, 4_400)}
 # level_idc: MaxBR, MaxCPB (ISO/IEC 14496-10, table A-1)
 AVC = {10: (64, 175), 9: (128, 350), 11: (192, 500), 12: (384, 1_000), 13: (768, 2_000), 20: (2_000, 2_000), 21: (4_000, 4_000), 22: (4_000, 4_000),
        30: (10_000, 10_000), 31: (14_000, 14_000), 32: (20_000, 20_000), 40: (20_000, 25_000), 41: (50_000, 62_500), 42: (50_000, 62_500),
@@ -42,14 +48,21 @@ def bits_of(data):
 
 
 def mpeg2_sequence(data):
-    """Level, bit_rate in units of 400 bits a second, vbv_buffer_size in units of 16,384 bits, by the syntax of ISO/IEC 13818-2, 6.2.2."""
+    """profile_and_level_indication, bit_rate in units of 400 bits a second, vbv_buffer_size in units of 16,384 bits (ISO/IEC 13818-2, 6.2.2)."""
     header = bits_of(next(starts(data, b"\0\0\1\xB3"), b"")[:8])
     extension = bits_of(next((d for d in starts(data, b"\0\0\1\xB5") if d and d[0] >> 4 == 1), b"")[:6])
     number = lambda bits, at, size: int(bits[at: at + size], 2) if len(bits) >= at + size else 0
-    level = number(extension, 8, 4) if extension[4:5] == "0" else 0
+    indication = number(extension, 4, 8)
     rate = number(header, 32, 18) if len(header) >= 56 else 0
     rate += (number(extension, 19, 12) if len(extension) >= 32 else 0) << 18
-    return level, rate, number(header, 51, 10 if len(header) == 64 else 99) + (number(extension, 32, 8) << 10)
+    return indication, rate, number(header, 51, 10 if len(header) == 64 else 99) + (number(extension, 32, 8) << 10)
+
+
+def mpeg2_limits(indication):
+    """Rmax and VBVmax."""
+    if indication & 0x80:
+        return ESCAPED_MPEG2.get(indication, MPEG2[8])
+    return (HIGH_MPEG2 if indication >> 4 == 1 else MPEG2).get(indication & 15, (HIGH_MPEG2 if indication >> 4 == 1 else MPEG2)[8])
 
 
 class Bits:
@@ -154,19 +167,25 @@ def avc_cpb_size(nal):
 
 
 def avc_sequence(data):
-    """level_idc and CpbSize; level 1b, 11 with constraint_set3_flag in the Baseline, Main and Extended profiles, is 9."""
+    """level_idc, CpbSize and the factor of the profile; level 1b, 11 with constraint_set3_flag in the Baseline, Main and Extended profiles, is 9."""
     nal = next((d[1:] for d in starts(data, b"\0\0\1") if d and d[0] & 31 == 7), b"")
     if len(nal) < 3:
-        return 0, 0
+        return 0, 0, 1_200
     level = 9 if nal[2] == 11 and nal[1] & 0x10 and nal[0] in (66, 77, 88) else nal[2]
-    return level, avc_cpb_size(nal)
+    return level, avc_cpb_size(nal), AVC_FACTORS.get(nal[0], 1_200)
 
 
 def hevc_sequence(data):
-    """general_level_idc and general_tier_flag."""
+    """general_level_idc, general_tier_flag, BrNalFactor and CpbNalFactor."""
     nals = (d[2:64].replace(b"\0\0\3", b"\0\0") for d in starts(data, b"\0\0\1") if len(d) > 1 and d[0] == 0x42 and d[1] < 8)
     plain = next(nals, b"")
-    return plain[12] if len(plain) > 12 else 0, len(plain) > 1 and plain[1] & 0x20 != 0
+    at = lambda place: plain[place] if len(plain) > place else 0
+    size = rate = 1_100
+    if at(1) & 31 in (4, 5, 9, 10, 11):
+        format = "400" if at(7) & 64 else "420" if at(7) & 128 else "422" if at(6) & 1 else "444"
+        size = rate = HEVC_FACTORS[format][0 if at(6) & 2 else 1 if at(6) & 4 else 2 if at(6) & 8 else 3]
+        rate *= 2 if at(7) & 32 and not at(7) & 8 else 1
+    return at(12), at(1) & 0x20 != 0, rate, size
 
 
 def channels(data):
@@ -194,8 +213,8 @@ def kept(said, greatest, most):
     return ebs if ebs // 8 >= most else greatest
 
 
-def by_rate(unit, maximum, size, said, most):
-    rate, greatest = max(unit * maximum, 2_000_000), unit * size
+def by_rate(units, maximum, size, said, most):
+    rate, greatest = max(units[0] * maximum, 2_000_000), units[1] * size
     ebs = kept(said, greatest, most)
     return declared(rate, ebs, rate, mux(rate) + greatest - ebs)
 
@@ -203,21 +222,21 @@ def by_rate(unit, maximum, size, said, most):
 def video(kind, first, most):
     """(rx, main, rbx, mb) of video with this stream_type, first unit and greatest size of a unit; None of other streams."""
     if kind in (1, 2):
-        level, said_rate, said = mpeg2_sequence(first)
-        rate, greatest = MPEG2.get(level, MPEG2[8])
+        indication, said_rate, said = mpeg2_sequence(first)
+        rate, greatest = mpeg2_limits(indication)
         ebs = kept(16_384 * said, greatest, most)
-        if level in (4, 6):
+        if indication == 0x82 or indication < 128 and indication & 15 in (4, 6):
             return declared(rate * 12 // 10, ebs, min(420 * said_rate or rate, rate), mux(rate))
         return declared(rate * 12 // 10, ebs, rate, mux(rate) + greatest - ebs)
     if kind == 0x1B:
-        level, said = avc_sequence(first)
-        return by_rate(1_200, *AVC.get(level, AVC[40]), said, most)
+        level, said, factor = avc_sequence(first)
+        return by_rate((factor, factor), *AVC.get(level, AVC[40]), said, most)
     if kind == 0x24:
-        level, high = hevc_sequence(first)
+        level, high, *factors = hevc_sequence(first)
         if high and (level == 0 or level >= 120):
             limit = HIGH_TIER.get(level, HIGH_TIER[120])
-            return by_rate(1_100, limit, limit, 0, most)
-        return by_rate(1_100, *HEVC.get(level, HEVC[120]), 0, most)
+            return by_rate(factors, limit, limit, 0, most)
+        return by_rate(factors, *HEVC.get(level, HEVC[120]), 0, most)
     return None
 
 
@@ -240,6 +259,12 @@ def buffers(kind, loop, number, first, most):
     sizes = video(kind, first, most)
     if sizes:
         return sizes[:2]
+    if kind == 0x21:
+        said = found.get(0x32, b"")
+        rate, size = (int.from_bytes(said[at : at + 4], "big") if len(said) >= 18 else 0 for at in (10, 14))
+        return min(max(rate * 12 // 10, 2_000_000), 200_000_000) if rate else 200_000_000, min(size, 10_000_000) or 10_000_000
+    if kind == 6 and any(tag == 5 and body[:4] == b"BSSD" for tag, body in tags(loop)):
+        return 3_225_600 * (first[2] // 64 + 1 if len(first) > 2 else 4), 65_536
     if kind in (0x81, 0x87) or 0x6A in found or 0x7A in found:
         return 2_000_000, 5_696
     if kind == 0x0F:

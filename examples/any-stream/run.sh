@@ -23,7 +23,7 @@ try() {
     result=$results/$name$(echo "$*" | tr -d ' ')
     printf '%-28s ' "$name${*:+ $*}"
     set -- --base input "$@"
-    "$tsjob" --whole "$@" < "$stream" > "$result.job" 2> "$result.lines"
+    "$tsjob" -v --whole "$@" < "$stream" > "$result.job" 2> "$result.lines"
     if [ $? -gt 1 ] || ! [ -s "$result.job" ]; then
         echo "tsjob: $(tail -n 1 "$result.lines")"
         status=1
