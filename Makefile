@@ -101,6 +101,7 @@ test: ## The merge gate: all proofs and tests (docs/GATE.md).
 check-docs: ## Check the documents: links, words of commands, claims, generated tables, messages, options, plain English.
 	tools/links
 	tools/claims
+	tools/contracts --check
 	tools/crate-map --check
 	tools/messages
 	tools/options --check
