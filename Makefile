@@ -9,7 +9,7 @@ TSREMUX = crates/tsremux/out/tsremux
 PROGRAM ?= tsmux
 PREFIX ?= /usr/local
 
-.PHONY: help run try install dist deb test check-docs edits bench binary tsjob tsremux tsair tsview pages picture any-stream on-air clean
+.PHONY: help run try install dist deb test check-docs edits bench binary tsjob tsremux tsair tsview pages picture any-stream on-air soak clean
 
 help: ## List the targets.
 	@sed -n 's/^\([a-z-]*\):.*## \(.*\)/\1\t\2/p' $(MAKEFILE_LIST) | while IFS="$$(printf '\t')" read -r target text; do \
@@ -81,6 +81,11 @@ tsview: ## Prove and build tsview (19 minutes more).
 
 on-air: binary tsjob tsair ## Air a stream from a feeder to a loopback socket (examples/on-air).
 	sh examples/on-air/run.sh $(TSJOB) $(BINARY) $(TSAIR)
+
+# `make soak HOURS=24` takes a day. SOAK has further words of tools/soak: `SOAK='--seed 7 --without gap'`.
+HOURS ?= 1
+soak: binary tsjob tsair tsview ## Air two live encoders with faults for an hour (tools/soak).
+	tools/soak --seconds $$(($(HOURS) * 3600)) $(SOAK) $(TSJOB) $(BINARY) $(TSAIR) $(TSVIEW)
 
 # Chromium, if it is installed, draws them on light and dark paper; out/pages keeps the pictures.
 pages: tsview ## Draw the pages of the cases and check them.

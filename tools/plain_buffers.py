@@ -254,3 +254,15 @@ def buffers(kind, loop, number, first, most):
     if 192 <= number <= 223:
         return 2_000_000, 3_584
     return 2_000_000, 65_536
+
+
+def is_ac3(kind, loop):
+    return kind in (0x81, 0x87) or any(tag in (0x6A, 0x7A) or kind == 6 and tag == 5 and body[:4] in (b"AC-3", b"EAC3") for tag, body in tags(loop))
+
+
+def longest_stay(kind, loop):
+    """The longest time in seconds that a byte may stay before its decoding time (ISO/IEC 13818-1, 2.4.2.6)."""
+    stills = any(len(body) > at and tag == name and body[at] & bit for name, at, bit in ((2, 0, 1), (40, 3, 128), (56, 12, 64)) for tag, body in tags(loop))
+    if kind in (1, 2, 0x10, 0x1B, 0x24):
+        return 60 if stills else 1 if kind < 3 else 10
+    return 10 if kind in (0x11, 0x1C) else 1 if kind in (3, 4, 0x0F) or is_ac3(kind, loop) else 60

@@ -81,3 +81,38 @@ def framing(header, units):
             unit, count = unit[found[0]:], count + 1
         most = max(most, count)
     return {"frames": most, "frame": time, "frame_size": largest}
+
+
+class Walk:
+    """The frames of units whose bytes come one by one: where each begins, and how long after the first of its unit it is due."""
+
+    def __init__(self, header):
+        self.header, self.text, self.left, self.time, self.ahead = header, None, 0, 0, 0
+
+    def begin(self):
+        self.text, self.left, self.ahead = b"", None, 0
+
+    def take(self, byte):
+        """A byte of a unit: the time after its first frame at which a frame is due that begins with it, None where none does."""
+        begun = None
+        if self.text is None:
+            return None
+        if self.left == 0:
+            self.ahead += self.time
+            self.text, self.left, begun = b"", None, self.ahead
+        if self.left is None:
+            self.text += bytes([byte])
+            if len(self.text) == 7:
+                found = self.header(self.text)
+                if not found or found[0] < 7:
+                    self.text = None
+                else:
+                    self.left, self.time = found[0] - 7, found[1] or self.time
+        else:
+            self.left -= 1
+        return begun
+
+
+def header_of(kind, is_ac3):
+    """How the header of a frame of a stream of this stream_type is read; None where it is no sound with frames."""
+    return {3: layer, 4: layer, 0x0F: adts, 0x11: loas}.get(kind) or (ac3 if is_ac3 else None)

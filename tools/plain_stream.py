@@ -16,6 +16,18 @@ jobs = SourceFileLoader("read_job", str(TOOLS / "read-job")).load_module()
 FLAGLESS = {0xBC, 0xBE, 0xBF, 0xF0, 0xF1, 0xF2, 0xF8, 0xFF}
 
 
+class Marks(int):
+    """The marks of a unit in one byte, and its PES_private_data."""
+
+    private = b""
+
+    @classmethod
+    def of(cls, marks, private):
+        made = cls(marks | (jobs.PRIVATE if private else 0))
+        made.private = private
+        return made
+
+
 class Refused(Exception):
     """There is no job of the stream: the line that says why."""
 
@@ -51,6 +63,7 @@ class Pid(syntax.Pid):
         body = data[length: length + size]
         marks = data[6] & 15 | (16 if data[8] == 36 else 0) if length > 6 else 0
         marks |= jobs.RANDOM_ACCESS if self.begun in self.accesses else 0
+        marks = Marks.of(marks, private_data(data) if length > 6 else b"")
         self.found.append((packet, self.begun, "pes", (number, dts if dts is not None else pts, pts, body, tail != "", marks)))
 
     def tell(self, packet, text):
@@ -100,10 +113,22 @@ def adaptation_flags(p):
     return p[5] if p[3] & 0x20 and p[4] else 0
 
 
+def before_extension(flags):
+    """The bytes of a PES header before the flags of its PES extension, by the second flag byte."""
+    return 9 + sum(n for bit, n in ((7, 5), (6, 5), (5, 6), (4, 3), (3, 1), (2, 1), (1, 2)) if flags >> bit & 1)
+
+
+def private_data(header):
+    """PES_private_data of a PES header with flags, if it is whole."""
+    at = before_extension(header[7])
+    data = header[:9 + header[8]]
+    return data[at + 1: at + 17] if header[7] & 1 and len(data) >= at + 17 and data[at] & 0x80 else b""
+
+
 def fields_of(p):
     """The fields of a packet and of a PES header at its front that are not written again."""
     body = p[5 + p[4] if p[3] & 0x20 else 4:] if p[1] >> 6 == 1 and p[3] >> 6 == 0 and p[3] & 0x10 else b""
-    begins = len(body) > 8 and body[:3] == b"\0\0\1" and body[3] not in FLAGLESS and body[7] >= 0x80
+    begins = body[:3] == b"\0\0\1" and body[3] not in FLAGLESS and body[7] >= 0x80 if len(body) > 8 else bool(body)
     flags = adaptation_flags(p) & ~(jobs.RANDOM_ACCESS if begins else 0)
     told = [TRANSPORT_PRIORITY] * bool(p[1] & 0x20) + [name for bit, name in INDICATORS if flags & bit]
     if len(body) < 9:
@@ -111,10 +136,10 @@ def fields_of(p):
     if body[:3] != b"\0\0\1" or body[3] in FLAGLESS:
         return told
     first, second, size = body[6:9]
-    more = 9 + sum(n for bit, n in ((7, 5), (6, 5), (5, 6), (4, 3), (3, 1), (2, 1), (1, 2)) if second >> bit & 1)
+    more = before_extension(second)
     extension = body[more] if second & 1 and more < min(9 + size, len(body)) else 0
     goes_on = second < 0x80
-    stand = ((ALIGNMENT, goes_on and first & 4), (FLAGS, goes_on and first & 0x0B), (SCRAMBLED, first & 0x30), (LONG, goes_on and body[3] == 0xBD and size == 36), (PRIVATE, extension & 0x80),
+    stand = ((ALIGNMENT, goes_on and first & 4), (FLAGS, goes_on and first & 0x0B), (SCRAMBLED, first & 0x30), (LONG, goes_on and body[3] == 0xBD and size == 36), (PRIVATE, extension & 0x80 and (goes_on or 9 + size < more + 17)),
              (OTHER, second & 0x3E or extension & 0x71), (UNREAD, len(body) < 9 + size))
     return told + [name for name, there in stand if there]
 

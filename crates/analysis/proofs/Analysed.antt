@@ -1,35 +1,49 @@
--- Packets one by one, and the events that come after others.
-use Rattle.std.proofs.Common.{◌≡◌, ◌≤◌, ◌∙◌, sym, ℕ, List, [], ◌∷◌, ◌++◌, length, drop, ap, ap₂, subst, append_assoc, append-nil}
-use Rattle.std.proofs.Math.Seq.{drop-append_seam}
-use Rattle.std.proofs.lemmas.List.{drop_all}
-use Rattle.events.specs.declared.check_counts.CheckCounts.{CheckCounts}
+-- Events one by one, and packets one by one.
+use Rattle.std.proofs.Common.{◌≡◌, ◌∙◌, sym, ℕ, List, [], ◌∷◌, ◌++◌, ap, subst, append_assoc, append-nil}
 use Rattle.events.specs.declared.event.Event.{Event}
-use Rattle.events.specs.CheckCounts.{with_events}
+use Rattle.events.specs.declared.timed_event.TimedEvent.{TimedEvent}
 use Rattle.analysis.specs.declared.analyser.Analyser.{Analyser}
-use Rattle.analysis.specs.Analysis.{AnalysisState, IsAnalysed, after_all, after_packet, events_all, events_at}
+use Rattle.analysis.specs.Analysis.{AnalysisState, IsAnalysed, after_all, after_packet, all_timed, events_all, events_at, timed, with_event, with_events}
 
--- 1. The events after the first ones
+-- 1. Events one by one
 
-pub none_after : (counts : CheckCounts) (events : List Event) (n : ℕ) → length events ≤ n → with_events counts (drop n events) ≡ counts
+-- what an analyser is after some events, with those that are left, and what is still to be written
+pub record Going (analyser : Analyser) (left : List Event) (out : List TimedEvent) (last : AnalysisState) (whole : List TimedEvent) : Type 0 where
+  pub now : AnalysisState
+  pub is : IsAnalysed analyser now
+  pub kept : with_events now left ≡ last
+  pub rest : out ++ all_timed now left ≡ whole
+
+pub event_taken : (old new : Analyser) (event : Event) (left : List Event) (out out' : List TimedEvent) (last : AnalysisState) (whole : List TimedEvent) →
+    ((s : AnalysisState) → IsAnalysed old s → IsAnalysed new (with_event s event)) → ((s : AnalysisState) → IsAnalysed old s → out' ≡ out ++ timed s.view event ∷ []) →
+    Going old (event ∷ left) out last whole → Going new left out' last whole
+unfolding with_events all_timed
+event_taken old new event left out out' last whole takes writes g = record {
+  now = with_event g.now event;
+  is = takes g.now g.is;
+  kept = g.kept;
+  rest = ap (λ (t : List TimedEvent). t ++ all_timed (with_event g.now event) left) (writes g.now g.is)
+      ∙ append_assoc out (timed g.now.view event ∷ []) (all_timed (with_event g.now event) left) ∙ g.rest;
+}
+
+pub events_kept : (analyser : Analyser) (out : List TimedEvent) (last : AnalysisState) (whole : List TimedEvent) → Going analyser [] out last whole → IsAnalysed analyser last
 unfolding with_events
-none_after counts events n over = ap (with_events counts) (drop_all n events over)
+events_kept analyser out last whole g = subst (IsAnalysed analyser) g.kept g.is
 
-pub counted_after : (old new seen counts : CheckCounts) (before events found : List Event) (n : ℕ) → n ≡ length before → events ≡ before ++ found →
-    new ≡ with_events old (drop n events) → old ≡ seen → new ≡ with_events seen found
-counted_after old new seen counts before events found n size is goes same =
-    goes ∙ ap₂ (λ (c : CheckCounts) (es : List Event). with_events c es) same
-    (ap₂ (λ (k : ℕ) (es : List Event). drop k es) size is ∙ drop-append_seam before found)
+pub events_written : (analyser : Analyser) (out : List TimedEvent) (last : AnalysisState) (whole : List TimedEvent) → Going analyser [] out last whole → out ≡ whole
+unfolding all_timed
+events_written analyser out last whole g = sym (append-nil out) ∙ g.rest
 
 -- 2. Packets one by one
 
 -- what an analyser is after some packets, with those that are left, and the events that are still to come
-pub record Settled (analyser : Analyser) (packets : List (List ℕ)) (events : List Event) (last : AnalysisState) (whole : List Event) : Type 0 where
+pub record Settled (analyser : Analyser) (packets : List (List ℕ)) (events : List TimedEvent) (last : AnalysisState) (whole : List TimedEvent) : Type 0 where
   pub now : AnalysisState
   pub is : IsAnalysed analyser now
   pub kept : after_all now packets ≡ last
   pub rest : events ++ events_all now packets ≡ whole
 
-pub one_taken : (old new : Analyser) (packet : List ℕ) (packets : List (List ℕ)) (events events' : List Event) (last : AnalysisState) (whole : List Event) →
+pub one_taken : (old new : Analyser) (packet : List ℕ) (packets : List (List ℕ)) (events events' : List TimedEvent) (last : AnalysisState) (whole : List TimedEvent) →
     ((s : AnalysisState) → IsAnalysed old s → IsAnalysed new (after_packet s packet)) → ((s : AnalysisState) → IsAnalysed old s → events' ≡ events ++ events_at s packet) →
     Settled old (packet ∷ packets) events last whole → Settled new packets events' last whole
 unfolding after_all events_all
@@ -37,14 +51,14 @@ one_taken old new packet packets events events' last whole takes writes s = reco
   now = after_packet s.now packet;
   is = takes s.now s.is;
   kept = s.kept;
-  rest = ap (λ (t : List Event). t ++ events_all (after_packet s.now packet) packets) (writes s.now s.is)
+  rest = ap (λ (t : List TimedEvent). t ++ events_all (after_packet s.now packet) packets) (writes s.now s.is)
       ∙ append_assoc events (events_at s.now packet) (events_all (after_packet s.now packet) packets) ∙ s.rest;
 }
 
-pub all_kept : (analyser : Analyser) (events : List Event) (last : AnalysisState) (whole : List Event) → Settled analyser [] events last whole → IsAnalysed analyser last
+pub all_kept : (analyser : Analyser) (events : List TimedEvent) (last : AnalysisState) (whole : List TimedEvent) → Settled analyser [] events last whole → IsAnalysed analyser last
 unfolding after_all
 all_kept analyser events last whole s = subst (IsAnalysed analyser) s.kept s.is
 
-pub all_settled : (analyser : Analyser) (events : List Event) (last : AnalysisState) (whole : List Event) → Settled analyser [] events last whole → events ≡ whole
+pub all_settled : (analyser : Analyser) (events : List TimedEvent) (last : AnalysisState) (whole : List TimedEvent) → Settled analyser [] events last whole → events ≡ whole
 unfolding events_all
 all_settled analyser events last whole s = sym (append-nil events) ∙ s.rest

@@ -1,1 +1,1 @@
-mod Analysed
+pub mod Analysed

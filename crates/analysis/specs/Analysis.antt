@@ -1,48 +1,91 @@
--- A stream, packet by packet: its view, the events that each packet settles, and how often each check has failed.
-use Rattle.std.specs.Prelude.{◌≡◌, ℕ, Bool, List, [], ◌∷◌, ◌++◌}
-use Rattle.events.specs.declared.check_counts.CheckCounts.{CheckCounts}
+-- A stream, packet by packet: its view, the events that each packet settles with their moments, and what they come to.
+use Rattle.std.specs.Prelude.{◌≡◌, ℕ, Bool, List, [], ◌∷◌, ◌++◌, map, Option, Some, None}
 use Rattle.events.specs.declared.event.Event.{Event}
-use Rattle.events.specs.CheckCounts.{no_faults, rows, with_events}
+use Rattle.events.specs.declared.fault.Fault.{Fault}
+use Rattle.events.specs.declared.timed_event.TimedEvent.{TimedEvent}
+use Rattle.events.specs.Faults.{fault_of}
 use Rattle.ts_report.specs.Choices.{RequestView}
-use Rattle.ts_report.specs.ClockedViews.{ClockedState, IsClocked}
+use Rattle.ts_report.specs.ClockedViews.{ClockedState, IsClocked, is_clocked, moment_in}
 use Rattle.ts_report.specs.ClockedViews as views
 use Rattle.ts_report.specs.Crowding as crowding
+use Rattle.fault_summary.specs.Summaries.{SummaryState, nothing}
+use Rattle.fault_summary.specs.Summaries as summaries
 use Rattle.analysis.specs.declared.analyser.Analyser.{Analyser}
 
 pub record AnalysisState : Type 0 where
   pub view : ClockedState
-  pub counts : CheckCounts
+  pub summary : SummaryState
 
 pub record IsAnalysed (analyser : Analyser) (s : AnalysisState) : Type 0 where
   pub view : IsClocked analyser.view s.view
-  pub counts : analyser.counts ≡ s.counts
+  pub summary : analyser.summary ≡ s.summary
 
 -- before the first packet
 abbrev pub start : RequestView → AnalysisState
-start request = record { view = views.start request; counts = no_faults }
+start request = record { view = views.start request; summary = nothing }
 
--- a packet, and the events that it settles
-abbrev pub events_at : AnalysisState → List ℕ → List Event
-events_at s bytes = views.events_at s.view bytes
+-- 1. An event, with the moment of the packet of its fault, as packets arrive when it is found
+
+unfoldable pub at_of : ClockedState → Option Fault → Option ℕ
+at_of v None = None
+at_of v (Some fault) = moment_in v fault.packet
+
+abbrev pub event_at : ClockedState → Event → Option ℕ
+event_at v event = at_of v (fault_of event None)
+
+abbrev pub timed : ClockedState → Event → TimedEvent
+timed v event = record { event = event; at = event_at v event }
+
+abbrev pub with_event : AnalysisState → Event → AnalysisState
+with_event s event = record { view = s.view; summary = summaries.with_event s.summary event (fault_of event (event_at s.view event)) }
+
+unfoldable pub with_events : AnalysisState → List Event → AnalysisState
+with_events s [] = s
+with_events s (event ∷ events) = with_events (with_event s event) events
+
+unfoldable pub all_timed : AnalysisState → List Event → List TimedEvent
+all_timed s [] = []
+all_timed s (event ∷ events) = timed s.view event ∷ all_timed (with_event s event) events
+
+-- 2. A packet, and the events that it settles
+
+abbrev pub viewed : AnalysisState → List ℕ → AnalysisState
+viewed s bytes = record { view = views.after_packet s.view bytes; summary = s.summary }
+
+abbrev pub events_at : AnalysisState → List ℕ → List TimedEvent
+events_at s bytes = all_timed (viewed s bytes) (views.events_at s.view bytes)
 
 abbrev pub after_packet : AnalysisState → List ℕ → AnalysisState
-after_packet s bytes = record { view = views.after_packet s.view bytes; counts = with_events s.counts (events_at s bytes) }
+after_packet s bytes = with_events (viewed s bytes) (views.events_at s.view bytes)
 
 -- after packets
 unfoldable pub after_all : AnalysisState → List (List ℕ) → AnalysisState
 after_all s [] = s
 after_all s (bytes ∷ packets) = after_all (after_packet s bytes) packets
 
-unfoldable pub events_all : AnalysisState → List (List ℕ) → List Event
+unfoldable pub events_all : AnalysisState → List (List ℕ) → List TimedEvent
 events_all s [] = []
 events_all s (bytes ∷ packets) = events_at s bytes ++ events_all (after_packet s bytes) packets
 
--- at the end: the last events, and then the row of each check, by all events
-abbrev pub last_events : AnalysisState → ℕ → List Event
-last_events s left = views.end_events s.view left
+-- 3. At the end: the last events, and then what all events come to
 
-abbrev pub end_events : AnalysisState → ℕ → List Event
-end_events s left = last_events s left ++ rows (with_events s.counts (last_events s left))
+abbrev pub view_ended : AnalysisState → AnalysisState
+view_ended s = record { view = views.ended s.view; summary = s.summary }
+
+abbrev pub last_events : AnalysisState → ℕ → List TimedEvent
+last_events s left = all_timed (view_ended s) (views.end_events s.view left)
+
+abbrev pub ended : AnalysisState → ℕ → AnalysisState
+ended s left = with_events (view_ended s) (views.end_events s.view left)
+
+abbrev pub is_faultless : AnalysisState → Bool
+is_faultless s = summaries.is_good s.summary
+
+abbrev pub all_untimed : List Event → List TimedEvent
+all_untimed events = map (λ event. record { event = event; at = None }) events
+
+abbrev pub conclusion : AnalysisState → Bool → List TimedEvent
+conclusion s good = all_untimed (summaries.end_events s.summary good (is_clocked s.view))
 
 -- so many units of a stream wait that no more is viewed
 abbrev pub is_crowded : Analyser → Bool

@@ -1,29 +1,33 @@
-//! A view of a stream, whose events are counted by the checks that they fail.
-ghost use Rattle.std.specs.Prelude.{◌≡◌, ◌++◌, IfOk, OnOk, drop, false};
-ghost use Rattle.events.specs.CheckCounts.{with_events};
+//! A view of a stream, whose events get their times, and are counted by the checks that they fail.
+ghost use Rattle.std.specs.Prelude.{◌≡◌, ◌++◌, ◌∷◌, [], IfOk, OnOk, false};
+ghost use Rattle.ts_report.specs.ClockedViews.{ClockedState, IsClocked};
+ghost use Rattle.ts_report.specs.ClockedViews as views;
 ghost use Rattle.analysis.specs.Analysis as spec;
 ghost use Rattle.analysis.specs.Analysis.{AnalysisState, IsAnalysed};
 
-use events::{CheckCounts, Event};
+use events::{Event, Fault, TimedEvent, fault_of};
+use fault_summary::Summary;
 use std::alloc::{AllocError, Global};
 use ts_report::{ClockedView, ViewRequest};
 
-/// A stream so far, without its packets, and how often each check has failed.
+/// A stream so far, without its packets, and what its events come to.
 ///
 /// After an `AllocError` it describes no stream: drop it.
 #[derive(Drop)]
 pub struct Analyser {
+    alloc: Global,
     pub view: ClockedView,
-    pub counts: CheckCounts,
+    pub summary: Summary,
 }
 
-// Counts the events after the first ones.
-#[tactic(auto, unfolding(events::specs::CheckCounts::with_events), using(crate::proofs::Analysed::none_after))]
-fn count_after(counts: &mut CheckCounts, events: &[Event], before: usize)
-    ensures { counts.new ≡ with_events counts.old (drop before events.now) }
+// The moment of the packet of a fault.
+#[tactic(auto, unfolding(crate::specs::Analysis::at_of))]
+fn at_of(view: &ClockedView, fault: &Option<Fault>) -> Option<u128>
+    ensures { (v : ClockedState) → IsClocked view.now v → result ≡ spec.at_of v fault.now }
 {
-    if before < events.len() {
-        counts.take_all(&events[before..]);
+    match fault {
+        None => None,
+        Some(fault) => view.moment(fault.packet),
     }
 }
 
@@ -34,22 +38,61 @@ impl Analyser {
         ensures calm { spec.is_crowded result ≡ false }
     {
         Analyser {
+            alloc,
             view: ClockedView::new(alloc, request),
-            counts: CheckCounts::new(),
+            summary: Summary::new(alloc),
         }
     }
 
+    /// Takes an event, and appends it with the moment of its packet.
+    pub fn take_event(
+        &mut self,
+        event: Event,
+        events: &mut Vec<TimedEvent>,
+    ) -> Result<(), AllocError>
+        ensures analysed { (s : AnalysisState) → IsAnalysed self.old s →
+            OnOk result (IsAnalysed self.new (spec.with_event s event)) }
+        ensures found { (s : AnalysisState) → IsAnalysed self.old s →
+            OnOk result (events.new.items ≡ events.old.items ++ spec.timed s.view event ∷ []) }
+    {
+        let at = at_of(&self.view, &fault_of(&event, None));
+        self.summary.take(&event, &fault_of(&event, at))?;
+        events.push(TimedEvent { event, at })?;
+        Ok(())
+    }
+
+    /// Takes events, and appends them with the moments of their packets.
+    #[tactic(auto, unfolding(crate::specs::Analysis::with_events, crate::specs::Analysis::all_timed))]
+    pub fn take_events(
+        &mut self,
+        found: Vec<Event>,
+        events: &mut Vec<TimedEvent>,
+    ) -> Result<(), AllocError>
+        ensures analysed { (s : AnalysisState) → IsAnalysed self.old s →
+            OnOk result (IsAnalysed self.new (spec.with_events s found.items)) }
+        ensures found { (s : AnalysisState) → IsAnalysed self.old s →
+            OnOk result (events.new.items ≡ events.old.items ++ spec.all_timed s found.items) }
+    {
+        for event in found {
+            self.take_event(event, events)?;
+        }
+        Ok(())
+    }
+
     /// Takes the next packet, and appends the events that it settles.
-    pub fn take(&mut self, bytes: &[u8; 188], events: &mut Vec<Event>) -> Result<(), AllocError>
+    pub fn take(
+        &mut self,
+        bytes: &[u8; 188],
+        events: &mut Vec<TimedEvent>,
+    ) -> Result<(), AllocError>
         ensures analysed { (s : AnalysisState) → IsAnalysed self.old s →
             OnOk result (IsAnalysed self.new (spec.after_packet s bytes.now)) }
         ensures found { (s : AnalysisState) → IsAnalysed self.old s →
             OnOk result (events.new.items ≡ events.old.items ++ spec.events_at s bytes.now) }
     {
-        let before = events.as_slice().len();
-        self.view.take(bytes, events)?;
-        count_after(&mut self.counts, events, before);
-        Ok(())
+        let mut found = Vec::new(self.alloc);
+        self.view.take(bytes, &mut found)?;
+        self.take_events(found, events)
     }
 
     /// Takes the next packets, and appends the events that they settle.
@@ -57,7 +100,7 @@ impl Analyser {
     pub fn take_all(
         &mut self,
         packets: &[[u8; 188]],
-        events: &mut Vec<Event>,
+        events: &mut Vec<TimedEvent>,
     ) -> Result<(), AllocError>
         ensures analysed { (s : AnalysisState) → IsAnalysed self.old s →
             OnOk result (IsAnalysed self.new (spec.after_all s packets.now)) }
@@ -77,17 +120,46 @@ impl Analyser {
         self.view.is_crowded()
     }
 
-    /// Ends the stream, `left` bytes after its last whole packet, and appends the last events and the row of each check. Returns
-    /// whether nothing is wrong in the stream.
-    pub fn end(&mut self, left: usize, events: &mut Vec<Event>) -> Result<bool, AllocError>
+    /// Ends the stream, `left` bytes after its last whole packet, and appends the last events. Returns whether nothing is wrong in
+    /// the stream by its view.
+    pub fn end(&mut self, left: usize, events: &mut Vec<TimedEvent>) -> Result<bool, AllocError>
+        ensures analysed { (s : AnalysisState) → IsAnalysed self.old s → OnOk result (IsAnalysed self.new (spec.ended s left)) }
         ensures found { (s : AnalysisState) → IsAnalysed self.old s →
-            OnOk result (events.new.items ≡ events.old.items ++ spec.end_events s left) }
+            OnOk result (events.new.items ≡ events.old.items ++ spec.last_events s left) }
         ensures good { (s : AnalysisState) → IsAnalysed self.old s → IfOk result (λ good. good ≡ spec.is_good s left) }
     {
-        let before = events.as_slice().len();
-        let good = self.view.end(left, events)?;
-        count_after(&mut self.counts, events, before);
-        self.counts.push_rows(events)?;
+        let mut found = Vec::new(self.alloc);
+        let good = self.view.end(left, &mut found)?;
+        self.take_events(found, events)?;
         Ok(good)
     }
+
+    /// Returns whether no event is a fault.
+    pub fn is_faultless(&self) -> bool
+        ensures { (s : AnalysisState) → IsAnalysed self.now s → result ≡ spec.is_faultless s }
+    {
+        self.summary.is_good()
+    }
+
+    /// Appends the row of each check, the faults by kind and stream, and the verdict: `good`: nothing is wrong.
+    pub fn conclude(&self, good: bool, events: &mut Vec<TimedEvent>) -> Result<(), AllocError>
+        ensures { (s : AnalysisState) → IsAnalysed self.now s →
+            OnOk result (events.new.items ≡ events.old.items ++ spec.conclusion s good) }
+    {
+        let mut found = Vec::new(self.alloc);
+        let clocked = self.view.is_clocked();
+        self.summary
+            .push_end(self.alloc, good, clocked, &mut found)?;
+        push_untimed(found, events)
+    }
+}
+
+// Appends events that have no moment.
+fn push_untimed(found: Vec<Event>, events: &mut Vec<TimedEvent>) -> Result<(), AllocError>
+    ensures { OnOk result (events.new.items ≡ events.old.items ++ spec.all_untimed found.items) }
+{
+    for event in found {
+        events.push(TimedEvent { event, at: None })?;
+    }
+    Ok(())
 }

@@ -7,7 +7,7 @@ use Rattle.ts_packet.specs.declared.start.Start.TheVariants.{Continues}
 use Rattle.ts_packet.specs.Beginnings.{start_by}
 use Rattle.ts_packet.specs.Packets.{payload_packet}
 use Rattle.slot_contents.specs.Contents.{packet_of}
-use Rattle.pes_packet.specs.Marks.{field_size}
+use Rattle.pes_packet.specs.Marks.{extension_size, field_size}
 use Rattle.pes_packet.specs.Payloads.{pieces, piece_count, part_of, unit_pieces}
 use Rattle.pes_packet.specs.AccessUnits.{AccessUnit}
 use Rattle.pes_packet.specs.Encoding.{pes_header_bytes, pes_packet_bytes, header_size, on_wire}
@@ -200,14 +200,14 @@ pes_is id unit header bytes size marks pts dts a b s m p d =
     let no_dts : unit.dts + 0 ≡ unit.dts = omega arith in
     rw (a, b, s, m, p, d, no_pts, no_dts) refl
 
-size_some : (long b : Bool) → 0 < cond long 45 (cond b 14 19)
-size_some true b = omega arith
-size_some false true = omega arith
-size_some false false = omega arith
+size_some : (long b : Bool) (more : ℕ) → 0 < cond long 45 (cond b 14 19 + more)
+size_some true b more = omega arith
+size_some false true more = omega arith
+size_some false false more = omega arith
 
 -- a PES header is not empty
 pub header_some : (id size : ℕ) (marks : Marks) (pts dts : ℕ) → 0 < length (pes_header_bytes id size marks pts dts)
 header_some id size marks pts dts =
     let long : length (pes_header_bytes id size marks pts dts) ≡ header_size marks pts dts = header_sizes id size marks pts dts in
-    let some : 0 < header_size marks pts dts = size_some marks.long (on_wire pts == on_wire dts) in
+    let some : 0 < header_size marks pts dts = size_some marks.long (on_wire pts == on_wire dts) (extension_size marks) in
     omega (arith, long, some)

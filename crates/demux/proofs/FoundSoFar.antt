@@ -24,7 +24,7 @@ completed_after : (front : List FindingView) (s : StreamState) (held : List ℕ)
 unfolding completed
 completed_after front s held = completed_if (length held == 188) front s held
 
-pushed_after : (front : List FindingView) (s : StreamState) (bytes : List ℕ) →
+pub pushed_after : (front : List FindingView) (s : StreamState) (bytes : List ℕ) →
     pushed (with_found (front ++ s.found) s) bytes ≡ with_found (front ++ (pushed s bytes).found) (pushed s bytes)
 pushed_after front s [] = refl
 pushed_after front s (byte ∷ bytes) =
@@ -41,7 +41,7 @@ finished_after : (front : List FindingView) (s : StreamState) → (finished (wit
 finished_after front s = finished_if s.ended front (held_found s.packets s.held ++ ended_found s.packets s.states) s
 
 -- a state without findings, with those before
-cleared : (front : List FindingView) (s : StreamState) → s.found ≡ [] → with_found front s ≡ with_found (front ++ s.found) s
+pub cleared : (front : List FindingView) (s : StreamState) → s.found ≡ [] → with_found front s ≡ with_found (front ++ s.found) s
 cleared front s e = ap (λ (found : List FindingView). with_found found s) (sym (ap (λ (found : List FindingView). front ++ found) e ∙ append-nil front))
 
 pub nothing_at_first : NothingAtFirst

@@ -1,12 +1,12 @@
 -- Open PES packets whose header was read: their bytes after it.
-use Rattle.std.proofs.Common.{◌≡◌, ◌≢◌, ℕ, ◌+◌, ◌-◌, ◌≤◌, ◌<◌, ◌==◌, Bool, true, false, cond, List, [], ◌∷◌, ◌++◌, length, take, drop, Option, Some, None, Ok, refl, arith, ◌∙◌, ap, sym, subst, length-append, append_assoc}
+use Rattle.std.proofs.Common.{◌≡◌, ◌≢◌, ℕ, ◌+◌, ◌-◌, ◌≤◌, ◌<◌, ◌==◌, Bool, true, false, cond, List, [], ◌∷◌, ◌++◌, length, take, drop, Option, Some, None, is_some, Ok, refl, arith, ◌∙◌, ap, sym, subst, length-append, append_assoc}
 use Rattle.std.specs.Prelude.{nat_lt}
 use Rattle.std.proofs.lemmas.Bool.Decides.{nat_tests}
 use Rattle.std.proofs.lemmas.List.{append-nil}
 use Rattle.pes_packet.specs.Reading.{header_at}
 use Rattle.pes_packet.specs.declared.reading.PesHeader.{PesHeader}
 use Rattle.pes_packet.proofs.LongerRead.{longer_is_read}
-use Rattle.demux.specs.OpenUnits.{UnitKind, OpenUnit, IsFront, IsOpen, IsUndecidedBelow, decided, of_header, of_pes, begun_kind, whole_pes, max_unbounded_pes}
+use Rattle.demux.specs.OpenUnits.{UnitKind, OpenUnit, IsFront, IsOpen, IsUndecidedBelow, appended, decided, of_header, of_pes, begun_kind, whole_pes, max_unbounded_pes}
 use Rattle.demux.specs.declared.open_unit.UnitKind.TheVariants as unit_kinds
 use Rattle.demux.specs.Views.{IsPes}
 use Rattle.demux.specs.Findings.{ended, decided_by, found_if}
@@ -16,6 +16,11 @@ use Rattle.demux.proofs.LeastSizes.{least_by, not_zero}
 pub after_front : (front rest : List ℕ) → drop (length front) (front ++ rest) ≡ rest
 after_front [] rest = refl
 after_front (x ∷ front) rest = after_front front rest
+
+-- the front of two lists that are joined
+pub take_front : (front rest : List ℕ) → take (length front) (front ++ rest) ≡ front
+take_front [] rest = refl
+take_front (x ∷ front) rest = ap (λ (xs : List ℕ). x ∷ xs) (take_front front rest)
 
 -- more bytes after it leave the header
 pub still_read : (bytes more : List ℕ) (h : PesHeader × ℕ) → header_at bytes ≡ Ok h → header_at (bytes ++ more) ≡ Ok h
@@ -72,24 +77,67 @@ unfolding found_if begun_kind
 whole_found packet access front body payload header is more le =
     rw (whole_decided front body payload header is more le, still_read (front ++ body) payload (header, length front) is) refl
 
+-- the same of an open unit whose header was read, with the bytes after its header
+abbrev ReadUnit : OpenUnit → ℕ → UnitKind → Bool → Option PesHeader → List ℕ → List ℕ → PesHeader → Type 0
+ReadUnit unit packet kind access read front body header =
+    (record { packet = packet; kind = kind; access = access; bytes = front ++ body } ≡ unit) × IsFront read kind front (front ++ body) × (read ≡ Some header)
+
+read_front : (kind : UnitKind) (read : Option PesHeader) (front all : List ℕ) (header : PesHeader) → IsFront read kind front all → read ≡ Some header →
+    IsFront (Some header) kind front all
+read_front kind read front all header stands some = subst (λ (o : Option PesHeader). IsFront o kind front all) some stands
+
+enough_in : (unit : OpenUnit) (packet : ℕ) (kind : UnitKind) (access : Bool) (front body payload : List ℕ) (header : PesHeader) →
+    record { packet = packet; kind = kind; access = access; bytes = front ++ body } ≡ unit → 6 + header.len ≤ length unit.bytes + length payload →
+    6 + header.len ≤ length front + length body + length payload
+enough_in unit packet kind access front body payload header view enough =
+    omega (arith, enough, ap (λ (u : OpenUnit). length u.bytes) view, length-append front body)
+
+pub whole_unit : (unit : OpenUnit) (packet : ℕ) (kind : UnitKind) (access : Bool) (read : Option PesHeader) (front body payload : List ℕ) (header : PesHeader) (size : ℕ) →
+    ReadUnit unit packet kind access read front body header → header.len ≢ 0 → 6 + header.len ≤ length unit.bytes + length payload → size ≡ 6 + header.len - length front →
+    decided_by (appended unit payload) ≡ whole_pes packet access header (take size (body ++ payload)) ∷ []
+whole_unit unit packet kind access read front body payload header size h more enough sized =
+    let head = read_front kind read front (front ++ body) header h.1 h.2 in
+    let le = enough_in unit packet kind access front body payload header h.0 enough in
+    ap (λ (u : OpenUnit). decided_by (appended u payload)) (sym h.0)
+    ∙ ap (λ (k : UnitKind). decided_by (record { packet = packet; kind = k; access = access; bytes = (front ++ body) ++ payload })) head.0
+    ∙ whole_found packet access front body payload header head.1 more le
+    ∙ ap (λ (n : ℕ). whole_pes packet access header (take n (body ++ payload)) ∷ []) (sym sized)
+
+pub whole_unit_decided : (unit : OpenUnit) (packet : ℕ) (kind : UnitKind) (access : Bool) (read : Option PesHeader) (front body payload : List ℕ) (header : PesHeader) →
+    ReadUnit unit packet kind access read front body header → header.len ≢ 0 → 6 + header.len ≤ length unit.bytes + length payload →
+    is_some (decided unit.kind (unit.bytes ++ payload)) ≡ true
+whole_unit_decided unit packet kind access read front body payload header h more enough =
+    let head = read_front kind read front (front ++ body) header h.1 h.2 in
+    let le = enough_in unit packet kind access front body payload header h.0 enough in
+    ap (λ (u : OpenUnit). is_some (decided u.kind (u.bytes ++ payload))) (sym h.0)
+    ∙ ap (λ (k : UnitKind). is_some (decided k ((front ++ body) ++ payload))) head.0
+    ∙ ap is_some (whole_decided front body payload header head.1 more le)
+
+-- more bytes after the last ones
+pub appended_last : (front zeros bytes payload : List ℕ) → (front ++ (zeros ++ bytes)) ++ payload ≡ front ++ (zeros ++ (bytes ++ payload))
+appended_last front zeros bytes payload =
+    append_assoc front (zeros ++ bytes) payload ∙ ap (λ (xs : List ℕ). front ++ xs) (append_assoc zeros bytes payload)
+
 -- more bytes leave an open unit as it is, as long as all are fewer than the least that may decide it
 front_stays : (header : Option PesHeader) (kind : UnitKind) (front bytes more : List ℕ) → IsFront header kind front bytes → IsFront header kind front (bytes ++ more)
 front_stays None kind front bytes more h = h
 front_stays (Some header) kind front bytes more h = (h.0, still_read bytes more (header, length front) h.1)
 
-grown : (header : Option PesHeader) (kind : UnitKind) (front bytes payload : List ℕ) (least : ℕ) → IsOpen header kind front (front ++ bytes) least →
-    length front + length bytes + length payload < least → IsOpen header kind front (front ++ (bytes ++ payload)) least
-grown header kind front bytes payload least h lt =
-    let joined = (front ++ bytes) ++ payload in
-    let few : length joined ≤ max_unbounded_pes = omega (arith, lt, h.1.0, length-append (front ++ bytes) payload, length-append front bytes) in
+grown : (header : Option PesHeader) (kind : UnitKind) (front zeros bytes payload : List ℕ) (least : ℕ) → IsOpen header kind front (front ++ (zeros ++ bytes)) least →
+    length (front ++ (zeros ++ bytes)) + length payload < least → IsOpen header kind front (front ++ (zeros ++ (bytes ++ payload))) least
+grown header kind front zeros bytes payload least h lt =
+    let all = front ++ (zeros ++ bytes) in
+    let joined = all ++ payload in
+    let few : length joined ≤ max_unbounded_pes = omega (arith, lt, h.1.0, length-append all payload) in
     let waits : IsUndecidedBelow kind joined least = λ more less.
-    subst (λ (xs : List ℕ). decided kind xs ≡ None) (sym (append_assoc (front ++ bytes) payload more))
-    (h.1.1.0 (payload ++ more) (subst (λ (xs : List ℕ). length xs < least) (append_assoc (front ++ bytes) payload more) less)) in
-    subst (λ (all : List ℕ). IsOpen header kind front all least) (append_assoc front bytes payload)
-    (few, (h.1.0, (waits, front_stays header kind front (front ++ bytes) payload h.1.1.1)))
+    subst (λ (xs : List ℕ). decided kind xs ≡ None) (sym (append_assoc all payload more))
+    (h.1.1.0 (payload ++ more) (subst (λ (xs : List ℕ). length xs < least) (append_assoc all payload more) less)) in
+    subst (λ (xs : List ℕ). IsOpen header kind front xs least) (appended_last front zeros bytes payload)
+    (few, (h.1.0, (waits, front_stays header kind front all payload h.1.1.1)))
 
-pub grown_if : (ok : Bool) (header : Option PesHeader) (kind : UnitKind) (front bytes payload new : List ℕ) (least : ℕ) → new ≡ cond ok (bytes ++ payload) bytes →
-    IsOpen header kind front (front ++ bytes) least → length front + length bytes + length payload < least → IsOpen header kind front (front ++ new) least
-grown_if true header kind front bytes payload new least e h lt =
-    subst (λ (xs : List ℕ). IsOpen header kind front (front ++ xs) least) (sym e) (grown header kind front bytes payload least h lt)
-grown_if false header kind front bytes payload new least e h lt = subst (λ (xs : List ℕ). IsOpen header kind front (front ++ xs) least) (sym e) h
+pub grown_if : (ok : Bool) (header : Option PesHeader) (kind : UnitKind) (front zeros bytes payload new : List ℕ) (least : ℕ) → new ≡ cond ok (bytes ++ payload) bytes →
+    IsOpen header kind front (front ++ (zeros ++ bytes)) least → length (front ++ (zeros ++ bytes)) + length payload < least →
+    IsOpen header kind front (front ++ (zeros ++ new)) least
+grown_if true header kind front zeros bytes payload new least e h lt =
+    subst (λ (xs : List ℕ). IsOpen header kind front (front ++ (zeros ++ xs)) least) (sym e) (grown header kind front zeros bytes payload least h lt)
+grown_if false header kind front zeros bytes payload new least e h lt = subst (λ (xs : List ℕ). IsOpen header kind front (front ++ (zeros ++ xs)) least) (sym e) h

@@ -15,3 +15,9 @@ pub mod LeastSizes
 pub mod HeadedUnits
 pub mod NullPackets
 pub mod GoingOn
+pub mod HeaderFronts
+pub mod Bodies
+pub mod StreamBodies
+pub mod LeftOut
+pub mod LeftOutStates
+pub mod HeaderSteps

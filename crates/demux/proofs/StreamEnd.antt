@@ -11,7 +11,7 @@ same_entry : (x y : ℕ × PidState) → ◌≡◌ {A = Option (ℕ × PidState)
 same_entry x y e = cc
 
 -- the end of one more PID
-ended_next : (packet i : ℕ) (states : States) (entry : ℕ × PidState) → slice_get states i ≡ Some entry →
+pub ended_next : (packet i : ℕ) (states : States) (entry : ℕ × PidState) → slice_get states i ≡ Some entry →
     ended_found packet (drop i states) ≡ map (with_pid entry.0 packet) (ended true entry.1.open_unit) ++ ended_found packet (drop (suc i) states)
 unfolding ended_found
 ended_next packet i [] entry h = absurd cc

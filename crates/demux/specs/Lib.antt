@@ -10,3 +10,4 @@ pub mod Codes
 pub mod Stream
 pub mod Laws
 pub mod FoundSoFar
+pub mod Bodies

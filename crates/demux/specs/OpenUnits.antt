@@ -1,5 +1,5 @@
 -- A section or a PES packet from its first byte on: what its bytes say, once they are enough.
-use Rattle.std.specs.Prelude.{◌≡◌, ◌<◌, ◌≤◌, ℕ, zero, suc, ◌+◌, ◌-◌, ◌*◌, ◌%◌, ◌==◌, nat_lt, Bool, true, false, if◌then◌else◌, List, [], ◌∷◌, ◌++◌, length, take, drop, slice_index, Option, Some, None, Result, Ok, Err}
+use Rattle.std.specs.Prelude.{◌≡◌, ⊤, ◌<◌, ◌≤◌, ℕ, zero, suc, ◌+◌, ◌-◌, ◌*◌, ◌%◌, ◌==◌, nat_lt, Bool, true, false, if◌then◌else◌, List, [], ◌∷◌, ◌++◌, length, take, drop, slice_index, Option, Some, None, Result, Ok, Err}
 use Rattle.pes_packet.specs.Reading.{header_at}
 use Rattle.pes_packet.specs.declared.reading.PesHeader.{PesHeader}
 use Rattle.pes_packet.specs.declared.refusal.PesError.{PesError}
@@ -58,6 +58,11 @@ IsUndecidedBelow kind bytes least = (more : List ℕ) → length (bytes ++ more)
 abbrev pub IsFront : Option PesHeader → UnitKind → List ℕ → List ℕ → Type 0
 IsFront None kind front bytes = front ≡ []
 IsFront (Some header) kind front bytes = (kind ≡ unit_kinds.Pes) × (header_at bytes ≡ Ok (header, length front))
+
+-- bytes are left out only after a header that was read
+abbrev pub FollowsHeader : Option PesHeader → ℕ → Type 0
+FollowsHeader None left_out = left_out ≡ 0
+FollowsHeader (Some header) left_out = ⊤
 
 -- the parts of an open unit: the header and the front, all bytes, and the least size at which they may decide it
 abbrev pub IsOpen : Option PesHeader → UnitKind → List ℕ → List ℕ → ℕ → Type 0

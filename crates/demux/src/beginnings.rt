@@ -115,7 +115,7 @@ fn open_pes<A: Allocator + Clone>(
     head: Head<'_>,
 ) -> Result<OpenUnit<A>, AllocError>
     requires open { units.IsOpen head.header UnitKind.Pes head.front.now (head.front.now ++ head.rest.now) head.least }
-    requires short { length head.front.now ≤ 48 }
+    requires short { length head.front.now ≤ 264 }
     ensures { IfOk result (λ unit. unit ≡ record {
       packet = packet;
       kind = UnitKind.Pes;
@@ -123,7 +123,7 @@ fn open_pes<A: Allocator + Clone>(
       bytes = head.entry.front.now ++ head.entry.rest.now;
     }) }
 {
-    let mut front = ArrayVec::<u8, 48>::new();
+    let mut front = ArrayVec::<u8, 264>::new();
     let Ok(()) = front.try_extend_from_slice(head.front) else {
         unreachable!()
     };
@@ -135,6 +135,7 @@ fn open_pes<A: Allocator + Clone>(
         access,
         header: head.header,
         front,
+        left_out: 0,
         bytes,
         least: head.least,
     })

@@ -1,14 +1,17 @@
 //! The demultiplexer: a stream in pieces, or packet by packet.
 ghost use Rattle.std.specs.Prelude.{◌≡◌, ◌<◌, ◌≤◌, ◌+◌, ◌++◌, [], false, true, Ok, IfOk, IfErr, OnOk, OnErr, map, take};
-ghost use Rattle.std.specs.Prelude.{length};
+ghost use Rattle.std.specs.Prelude.{ℕ, Some, length, slice_get};
 ghost use Rattle.bit_fields.specs.Reading.{Gives};
 ghost use Rattle.ts_packet.specs.Packets.{null_packet};
 ghost use Rattle.ts_packet.specs.Reading.{packet_at};
 ghost use Rattle.ts_packet.specs.Views.{packet_view};
 ghost use Rattle.demux.specs.GoingOn.{plain_view};
+ghost use Rattle.demux.specs.Bodies.{bodies_left_out};
+ghost use Rattle.demux.specs.Findings.{ended};
+ghost use Rattle.demux.specs.Machine.{PidState};
 ghost use Rattle.demux.specs.Stream as stream;
 ghost use Rattle.std.specs.List.{list_any};
-ghost use Rattle.demux.specs.Shown.{KeepsFindings, Spans, AddsFindings, finding_view, is_span};
+ghost use Rattle.demux.specs.Shown.{KeepsFindings, Spans, AddsFindings, finding_view, is_span, with_pid};
 
 use crate::error::DemuxError;
 use crate::finding::Finding;
@@ -22,7 +25,8 @@ use ts_packet::{Packet, PacketError, read_packet};
 /// The state of a transport stream: a state for each PID, and the at most 187 bytes of a packet that is not whole
 /// yet.
 ///
-/// The state of a PID has its last packet and its open unit: at most 8,388,608 bytes of a section or a PES packet.
+/// The state of a PID has its last packet and its open unit: at most 8,388,608 bytes of a section or a PES packet; of an
+/// open PES packet whose body was left out (`leave_out_bodies`) the header, and of a section at most 4,098 bytes.
 /// Packets are numbered from 0; the number stops at 2^64 - 1.
 #[derive(Drop)]
 pub struct Demux<A: Allocator = Global> {
@@ -297,6 +301,49 @@ impl<A: Allocator + Copy> Demux<A> {
         ensures none { stream.found_in self.old null_packet ≡ [] }
     {
         self.count();
+    }
+
+    /// Leaves out the bodies of the open PES packets whose headers can be read: the bytes are given back, and the number of
+    /// bytes of each body is kept. They are then read as zeros. A caller who reads no bodies leaves them out again and again,
+    /// so that memory goes with the number of PIDs (`headers_alone`).
+    pub fn leave_out_bodies(&mut self)
+        ensures { self.new ≡ bodies_left_out self.old }
+    {
+        self.states.leave_out_bodies();
+    }
+
+    /// Returns the number of PIDs of the stream so far, without the null packets' PID.
+    pub fn pids(&self) -> usize
+        ensures { result ≡ length self.now.states }
+    {
+        self.states.len()
+    }
+
+    /// Appends what the end of the stream decides of the bytes of a packet that is not whole. Nothing changes.
+    pub fn end_of_packet(
+        &self,
+        alloc: A,
+        found: &mut Vec<Finding<'static, A>, A>,
+    ) -> Result<(), AllocError>
+        ensures { OnOk result (AddsFindings found.old.items found.new.items
+            (stream.held_found self.now.packets self.now.held)) }
+    {
+        note_held(&alloc, self.packets, &self.held, found)
+    }
+
+    /// Appends what the end of the stream decides of the PID at an index, in the order of each PID's first packet. Nothing
+    /// changes: `finish` notes the end of all PIDs at once.
+    pub fn end_of_pid(
+        &self,
+        index: usize,
+        found: &mut Vec<Finding<'static, A>, A>,
+    ) -> Result<(), AllocError>
+        requires { index < length self.now.states }
+        ensures { (entry : ℕ × PidState) → slice_get self.now.states index ≡ Some entry →
+            OnOk result (AddsFindings found.old.items found.new.items (map
+            (with_pid entry.0 self.now.packets) (ended true entry.1.open_unit))) }
+    {
+        self.states.end_at(index, self.packets, found)
     }
 
     // What the end of the stream decides.

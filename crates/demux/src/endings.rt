@@ -11,7 +11,7 @@ ghost use Rattle.demux.specs.Shown.{Finds, KeepsFindings, has_span, what_view};
 
 use crate::beginnings::{begun_kind, is_stamped, note_decided};
 use crate::finding::{Finding, Kind, Part, What};
-use crate::open_unit::{OpenUnit, UnitKind};
+use crate::open_unit::{OpenUnit, UnitKind, fill};
 use crate::place::{Place, note};
 use crate::verdicts::decide;
 use pes_packet::{PesHeader, read_header};
@@ -282,6 +282,7 @@ pub(crate) fn end_moved<'a, A: Allocator + Clone>(
     if header.len != 0 {
         return end_unit(alloc, place, false, open_unit, found);
     }
+    fill(alloc, &mut unit.left_out, &mut unit.bytes)?;
     let begun = (unit.packet, unit.access);
     let size = unit.bytes.len();
     note_whole(
@@ -321,7 +322,8 @@ fn append_last<'a, A: Allocator + Clone>(
 {
     if let Some(header) = unit.header {
         let end = 6 + header.len as usize;
-        if header.len != 0 && end <= unit.front.len() + unit.bytes.len() + payload.len() {
+        if header.len != 0 && end <= unit.len() + payload.len() {
+            fill(alloc, &mut unit.left_out, &mut unit.bytes)?;
             let begun = (unit.packet, unit.access);
             let size = end.saturating_sub(unit.front.len());
             note_whole(
@@ -340,6 +342,7 @@ fn append_last<'a, A: Allocator + Clone>(
             return Ok(true);
         }
         unit.bytes = unit.joined(alloc, payload.len())?;
+        unit.left_out = 0;
         unit.header = None;
         unit.front.clear();
     }
@@ -377,7 +380,7 @@ pub(crate) fn append_payload<'a, A: Allocator + Clone>(
     let Some(unit) = open_unit else {
         return Ok(());
     };
-    if unit.front.len() + unit.bytes.len() + payload.len() < unit.least {
+    if unit.len() + payload.len() < unit.least {
         return unit.bytes.extend_from_slice(payload);
     }
     let decided = append_last(alloc, place, payload, unit, found)?;

@@ -93,6 +93,14 @@ fn append<A: Allocator>(
     bytes.extend_from_slice(payload)
 }
 
+// Returns how many bytes the bytes after the header are to be in the end; no number to make room for, if bytes are left out.
+fn room_of(least: usize, front: usize, left_out: usize) -> usize {
+    if left_out > 0 {
+        return usize::MAX;
+    }
+    least.saturating_sub(front)
+}
+
 /// Appends a payload to the open unit, if there is one that is open with it as well and there is memory for it.
 /// Whether it is appended.
 #[tactic(auto, unfolding(crate::specs::Findings::found_appended, crate::specs::Findings::found_if, crate::specs::Findings::undecided, crate::specs::Findings::unless_decided, crate::specs::Machine::next_open), using(crate::proofs::LeastSizes::still_open))]
@@ -108,10 +116,10 @@ pub(crate) fn grow<A: Allocator>(
     let Some(unit) = open_unit else {
         return false;
     };
-    if unit.least <= unit.front.len() + unit.bytes.len() + payload.len() {
+    if unit.least <= unit.len() + payload.len() {
         return false;
     }
-    let all = unit.least.saturating_sub(unit.front.len());
+    let all = room_of(unit.least, unit.front.len(), unit.left_out);
     match append(&mut unit.bytes, payload, all) {
         Ok(()) => true,
         Err(_) => false,

@@ -1,5 +1,6 @@
 //! Laws of the definitions. Each function does nothing: its contract is the law.
 
+ghost use Rattle.demux.specs.Bodies.{BodiesDecideNothing, FewAreKept, HeadersAlone, HeadersAreFound, NoHeadersAtFirst};
 ghost use Rattle.demux.specs.Laws.{EachPidAlone, PacketsDecide, PiecesJoin, TakenAsPushed};
 ghost use Rattle.demux.specs.Machine.{RunFindsAll};
 ghost use Rattle.demux.specs.FoundSoFar.{AllAreFound, NothingAtFirst, PacketAdds, PacketsAdd, PidFoundSoFar, PieceAdds};
@@ -46,4 +47,14 @@ pub fn nothing_is_lost()
 /// States that the findings of a PID are then the findings of its packets, with the end of the stream and without it.
 pub fn each_pid_so_far()
     ensures { PidFoundSoFar }
+{}
+
+/// States that the bodies of open PES packets may be left out at any time: later findings and states are the same besides
+/// bodies. Of an open unit whose body is left out at most 4,098 bytes are kept.
+pub fn headers_alone()
+    ensures packet { BodiesDecideNothing }
+    ensures stream { HeadersAlone }
+    ensures at_first { NoHeadersAtFirst }
+    ensures found { HeadersAreFound }
+    ensures few { FewAreKept }
 {}

@@ -11,6 +11,7 @@ mod endings;
 mod error;
 mod finding;
 mod going_on;
+mod headers;
 mod last;
 mod laws;
 mod marks;
@@ -28,9 +29,10 @@ pub use demultiplexer::{Demux, whole};
 pub use error::DemuxError;
 pub use finding::{Finding, Kind, Part, What};
 pub use going_on::pid_in;
+pub use headers::HeaderDemux;
 pub use last::Last;
 pub use laws::{
-    each_pid_alone, each_pid_so_far, nothing_is_lost, packet_by_packet, packets_decide,
-    pieces_join, taken_as_pushed,
+    each_pid_alone, each_pid_so_far, headers_alone, nothing_is_lost, packet_by_packet,
+    packets_decide, pieces_join, taken_as_pushed,
 };
 pub use marks::{Mark, keep, mark_of};

@@ -3,6 +3,7 @@ ghost use Rattle.std.specs.Prelude.{◌≡◌, [], None, Some, IfOk, OnOk, OnErr
 ghost use Rattle.demux.specs.GoingOn.{plain_entry};
 ghost use Rattle.demux.specs.Roles as roles;
 ghost use Rattle.demux.specs.Findings as findings;
+ghost use Rattle.demux.specs.Bodies.{state_without_body};
 ghost use Rattle.demux.specs.Machine as machine;
 ghost use Rattle.demux.specs.Shown.{Finds, IsPayloadOf, KeepsJoined, AddsFindingsAt, KeepsFindings, entry_with};
 ghost use Rattle.demux.specs.Shown.{is_borrowed, kept_by, payload_list};
@@ -278,6 +279,15 @@ impl<A: Allocator + Clone> PidState<A> {
         take_marked(alloc, place, mark, role, &mut self.open_unit, found)?;
         keep(&mut self.last, mark, place.packet, packet, bytes);
         Ok(())
+    }
+
+    /// Leaves out the body of an open PES packet whose header can be read.
+    pub fn leave_out_body(&mut self)
+        ensures { self.new ≡ state_without_body self.old }
+    {
+        if let Some(unit) = &mut self.open_unit {
+            unit.leave_out_body();
+        }
     }
 
     /// Ends the stream.

@@ -85,6 +85,7 @@ pub(crate) fn sections<'p, 'a: 'p, A: Allocator + Clone>(
                     access: false,
                     header: None,
                     front: ArrayVec::new(),
+                    left_out: 0,
                     bytes,
                     least: 0,
                 }));

@@ -1,6 +1,7 @@
 //! The states of the PIDs of a stream, in the order of each PID's first packet.
-ghost use Rattle.std.specs.Prelude.{◌≡◌, ◌<◌, ◌++◌, [], ℕ, Some, None, OnOk, OnErr, map, false, true, slice_get, nat_eq};
+ghost use Rattle.std.specs.Prelude.{◌≡◌, ◌<◌, ◌++◌, [], ℕ, Some, None, OnOk, OnErr, map, false, true, length, slice_get, nat_eq};
 ghost use Rattle.indexmap.specs.IndexMap.{index_map_len, get, values, set_value_at};
+ghost use Rattle.demux.specs.Bodies.{state_without_body, states_without_bodies};
 ghost use Rattle.demux.specs.Machine as machine;
 ghost use Rattle.demux.specs.Stream.{ended_found, state_of, with_state};
 ghost use Rattle.demux.specs.Shown.{Finds, KeepsFindings, entry_with, finding_view, KeepsJoined, IsPayloadOf};
@@ -108,6 +109,25 @@ fn step_first<'p, 'a: 'p, A: Allocator + Copy>(
     Ok(())
 }
 
+// Leaves out the body of the open PES packet of a PID.
+fn leave_out_at<A: Allocator + Copy>(states: &mut PidMap<PidState<A>, A>, index: usize)
+    requires there { index < index_map_len states.old }
+    ensures states { (state : machine.PidState) → slice_get (values states.old) index ≡ Some state →
+        states.new.entries ≡ set_value_at states.old.entries index (state_without_body state) }
+{
+    let state = states.value_mut(index);
+    state.leave_out_body();
+}
+
+// Leaves out the bodies of the open PES packets of all PIDs.
+fn leave_out_each<A: Allocator + Copy>(states: &mut PidMap<PidState<A>, A>)
+    ensures { states.new.entries ≡ states_without_bodies states.old.entries }
+{
+    for i in 0..states.entries().len() {
+        leave_out_at(states, i);
+    }
+}
+
 // What the end of the stream decides of a PID.
 fn end_at<'a, A: Allocator + Copy>(
     states: &PidEntries<PidState<A>, A>,
@@ -213,6 +233,35 @@ impl<A: Allocator + Copy> States<A> {
             ),
             None => step_first(&mut self.by_pid, place, bytes, packet, payload, found),
         }
+    }
+
+    /// Leaves out the bodies of the open PES packets.
+    pub fn leave_out_bodies(&mut self)
+        ensures { self.new ≡ states_without_bodies self.old }
+    {
+        leave_out_each(&mut self.by_pid);
+    }
+
+    /// Returns the number of PIDs.
+    pub fn len(&self) -> usize
+        ensures { result ≡ length self.now }
+    {
+        self.by_pid.entries().len()
+    }
+
+    /// Appends what the end of the stream decides of the PID at an index, in the order of the PIDs.
+    pub fn end_at<'a>(
+        &self,
+        index: usize,
+        packet: u64,
+        found: &mut Vec<Finding<'a, A>, A>,
+    ) -> Result<(), AllocError>
+        requires { index < length self.now }
+        ensures found { (entry : ℕ × machine.PidState) → slice_get self.now index ≡ Some entry →
+            OnOk result (AddsFindings found.old.items found.new.items (map
+            (with_pid entry.0 packet) (findings.ended true entry.1.open_unit))) }
+    {
+        end_at(self.by_pid.entries(), index, packet, found)
     }
 
     /// Appends what the end of the stream decides of each PID, in the order of the PIDs.

@@ -1,5 +1,6 @@
 //! What the bytes of a section or a PES packet decide.
-ghost use Rattle.std.specs.Prelude.{◌≡◌, ◌≤◌, ◌+◌, ◌++◌, ◌==◌, [], if◌then◌else◌, None, option_map, length};
+ghost use Rattle.std.specs.Prelude.{◌≡◌, ◌≤◌, ◌+◌, ◌++◌, ◌==◌, [], if◌then◌else◌, true, is_err, None, option_map, length};
+ghost use Rattle.pes_packet.specs.Reading.{header_at};
 ghost use Rattle.demux.specs.OpenUnits.{IsFront, IsUndecidedBelow, decided, max_unbounded_pes, of_header};
 ghost use Rattle.demux.specs.Shown.{what_of};
 
@@ -78,7 +79,7 @@ fn by_header(header: PesHeader, size: usize, bytes: &[u8]) -> Option<Verdict>
     Some(Verdict::Pes(header, size, end))
 }
 
-/// The first bytes of a PES packet: those of its header, if it can be read and is short, and those after it.
+/// The first bytes of a PES packet: those of its header, if it can be read, and those after it.
 #[derive(Clone, Copy)]
 pub(crate) struct Head<'a> {
     pub header: Option<PesHeader>,
@@ -99,45 +100,42 @@ fn least_size(header: PesHeader) -> usize
     6 + header.len as usize
 }
 
-/// Returns the header at the front, apart from the other bytes where it has at most 48.
+/// Returns the header at the front, apart from the other bytes.
 #[tactic(auto, using(crate::proofs::HeadedUnits::waits_for))]
 pub(crate) fn head_of(bytes: &[u8]) -> Head<'_>
     ensures joined { result.front.now ++ result.rest.now ≡ bytes.now }
     ensures front { IsFront result.header UnitKind.Pes result.front.now bytes.now }
     ensures waits { IsUndecidedBelow UnitKind.Pes bytes.now result.least }
     ensures bound { result.least ≤ max_unbounded_pes + 1 }
-    ensures short { length result.front.now ≤ 48 }
+    ensures unread { result.header ≡ None → is_err (header_at bytes.now) ≡ true }
+    ensures short { length result.front.now ≤ 264 }
 {
-    let Ok((header, size)) = read_header(bytes) else {
-        return unread(bytes, 0);
-    };
-    let least = least_size(header);
-    if size > 48 {
-        return unread(bytes, least);
-    }
-    match bytes.split_at_checked(size) {
-        None => unread(bytes, least),
-        Some((front, rest)) => Head {
-            header: Some(header),
-            front,
-            rest,
-            least,
-        },
+    match read_header(bytes) {
+        Err(_) => unread(bytes),
+        Ok((header, size)) => {
+            let (front, rest) = bytes.split_at(size);
+            Head {
+                header: Some(header),
+                front,
+                rest,
+                least: least_size(header),
+            }
+        }
     }
 }
 
-// Bytes whose header does not stand apart.
-fn unread(bytes: &[u8], least: usize) -> Head<'_>
+// Bytes whose header can't be read.
+fn unread(bytes: &[u8]) -> Head<'_>
     ensures header { result.header ≡ None }
     ensures front { result.front.now ≡ [] }
     ensures rest { result.rest.now ≡ bytes.now }
-    ensures least { result.least ≡ least }
+    ensures least { result.least ≡ 0 }
 {
     Head {
         header: None,
         front: &[],
         rest: bytes,
-        least,
+        least: 0,
     }
 }
 

@@ -10,9 +10,10 @@ use Rattle.slot_plan.specs.declared.reader.PlanTextError.{PlanTextError}
 use Rattle.slot_plan.specs.declared.reader.PlanTextError.TheVariants as bad_text
 use Rattle.checked_jobs.specs.Jobs.{planned}
 use Rattle.checked_jobs.proofs.JobReaders.{names_line, planned_front}
-use Rattle.diagnosis.specs.ConditionLines.{condition_lines}
-use Rattle.diagnosis.specs.Explained.{bad_line_words, plan_words, text_lines}
+use Rattle.diagnosis.specs.Explained.{bad_line_words, plan_words, served_words, text_lines}
 use Rattle.diagnosis.specs.KeyPlaces.{lines_of}
+use Rattle.diagnosis.specs.UnknownWords.{named_words, unnamed_words, word_words}
+use Rattle.diagnosis.specs.declared.unknown_words.Head.{Head}
 
 -- 1. The lines of a description
 
@@ -26,9 +27,19 @@ not_utf8 bytes false e n = cc
 pub no_lines : (bytes : List ℕ) → ¬ (IsUtf8 bytes) → [] ≡ text_lines bytes
 no_lines bytes n = sym (ap (λ (b : Bool). if b then lines_of bytes else []) (not_utf8 bytes (is_utf8 bytes) (let same : is_utf8 bytes ≡ is_utf8 bytes = cc in same) n))
 
+-- a word of a line
+
+pub named_text : (head : Head) (bytes word : List ℕ) → word ≡ bytes → IsUtf8 bytes → named_words head word ≡ word_words head bytes
+named_text head bytes word e u =
+    ap (named_words head) e ∙ sym (ap (λ (b : Bool). if b then named_words head bytes else unnamed_words) (is_utf8-from_IsUtf8 bytes u))
+
+pub unnamed_bytes : (head : Head) (bytes : List ℕ) → ¬ (IsUtf8 bytes) → unnamed_words ≡ word_words head bytes
+unnamed_bytes head bytes n =
+    sym (ap (λ (b : Bool). if b then named_words head bytes else unnamed_words) (not_utf8 bytes (is_utf8 bytes) (let same : is_utf8 bytes ≡ is_utf8 bytes = cc in same) n))
+
 -- 2. A plan
 
-words_read : (d : Described) (r : Result (Planned × List ℕ) ℕ) (p : Planned) (rest : List ℕ) → r ≡ Ok (p, rest) → condition_lines d p ≡ plan_words d r
+words_read : (d : Described) (r : Result (Planned × List ℕ) ℕ) (p : Planned) (rest : List ℕ) → r ≡ Ok (p, rest) → served_words d p ≡ plan_words d r
 unfolding plan_words
 words_read d r p rest e = sym (ap (plan_words d) e)
 
@@ -36,7 +47,7 @@ words_bad : (d : Described) (r : Result (Planned × List ℕ) ℕ) (line : ℕ) 
 unfolding plan_words
 words_bad d r line e = sym (ap (plan_words d) e)
 
-pub of_plan : (d : Described) (text : List ℕ) (p : Planned) (size : ℕ) → BeginsWithPlan text p size → condition_lines d p ≡ plan_words d (planned text)
+pub of_plan : (d : Described) (text : List ℕ) (p : Planned) (size : ℕ) → BeginsWithPlan text p size → served_words d p ≡ plan_words d (planned text)
 of_plan d text p size b = words_read d (planned text) p (drop size text) (planned_front text p size b)
 
 pub of_bad_line : (d : Described) (text : List ℕ) (error : PlanTextError) (line told : ℕ) → error ≡ bad_text.Line line → line ≡ told → Refuses text error →

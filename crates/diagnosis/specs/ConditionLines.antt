@@ -3,6 +3,7 @@
 use Rattle.std.specs.Prelude.{ℕ, ◌+◌, ◌-◌, ◌*◌, ◌/◌, ◌==◌, max, List, [], ◌++◌, length, Option, Some, None, codes, decimal, nat_lt, slice_get, if◌then◌else◌}
 use Rattle.std.specs.Int.{div_ceil}
 use Rattle.std.specs.List.{flat_map}
+use Rattle.clock27.specs.Units.{slot_seconds_at_1bps}
 use Rattle.unit_timing.specs.Allowances.{steady_time}
 use Rattle.description.specs.Described.{Described, DescribedProgram, DescribedStream}
 use Rattle.slot_plan.specs.Entries.{Entry, code_of}
@@ -88,12 +89,24 @@ size_words buffer room wanted = buffer ++ decimal room ++ codes " is less than "
 abbrev pub room_words : List ℕ → ℕ → Entry → List ℕ
 room_words buffer rate e = size_words buffer (e.right / rate) (div_ceil e.left rate)
 
--- a packet finds no room; or the claims of a peak and of a start are too little
+-- it is never empty; or the slots from one in which it becomes empty to the next are more than a second has
+unfoldable pub never_empty_words : List ℕ → List ℕ
+never_empty_words buffer = buffer ++ codes "is never empty\n"
+
+unfoldable pub seldom_words : List ℕ → ℕ → ℕ → List ℕ
+seldom_words buffer slots second = buffer ++ codes "is empty only once in " ++ decimal slots ++ codes " slots, and a second has " ++ decimal second ++ codes "\n"
+
+abbrev pub seldom_empty_words : List ℕ → Entry → List ℕ
+seldom_empty_words buffer e = seldom_words buffer (e.left / slot_seconds_at_1bps) (e.right / slot_seconds_at_1bps)
+
+-- a packet finds no room; or the claims of a peak and of a start are too little; or it is not empty at least once a second
 unfoldable pub buffer_words : List ℕ → List ℕ → List ℕ → ℕ → Entry → List ℕ
 buffer_words buffer peak start rate e =
     if e.part == 1 then room_words buffer rate e
     else (if e.part == 2 then claim_words peak e.right e.left
-    else claim_words start e.right e.left)
+    else (if e.part == 3 then claim_words start e.right e.left
+    else (if e.part == 4 then never_empty_words buffer
+    else seldom_empty_words buffer e)))
 
 -- streams and programs have one row of numbers
 abbrev pub transport_line : Described → Entry → List ℕ

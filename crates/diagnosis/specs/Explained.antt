@@ -1,8 +1,10 @@
 -- What is said of a description, or of a description and a plan for it.
-use Rattle.std.specs.Prelude.{ℕ, List, [], ◌++◌, Option, Some, None, Result, Ok, Err, codes, decimal, if◌then◌else◌}
+use Rattle.std.specs.Prelude.{◌≡◌, ℕ, ◌==◌, List, [], ◌++◌, length, Option, Some, None, Result, Ok, Err, codes, decimal, if◌then◌else◌}
 use Rattle.std.specs.Str.{is_utf8}
 use Rattle.description.specs.Described.{Described}
 use Rattle.description.specs.declared.fault.DescError.{DescError}
+use Rattle.description.specs.declared.fault.DescFault.{DescFault}
+use Rattle.description.specs.declared.fault.DescFault.TheVariants.{Text, UnknownKey}
 use Rattle.description.specs.declared.fault.DescError.TheVariants.{Refused, Memory}
 use Rattle.slot_plan.specs.Planned.{Planned}
 use Rattle.checked_jobs.specs.Jobs.{described, parts_of, planned}
@@ -10,6 +12,8 @@ use Rattle.diagnosis.specs.ConditionLines.{condition_lines}
 use Rattle.diagnosis.specs.FaultLines.{fault_line}
 use Rattle.diagnosis.specs.KeyPlaces.{lines_of}
 use Rattle.diagnosis.specs.ReasonLines.{reason_lines}
+use Rattle.diagnosis.specs.TomlNotes.{TomlNoteView, note_line}
+use Rattle.diagnosis.specs.UnknownWords.{unknown_line}
 
 -- the lines of a text; bytes that are no UTF-8 have none
 abbrev pub text_lines : List ℕ → List (List ℕ)
@@ -19,25 +23,45 @@ unfoldable pub bad_line_words : ℕ → List ℕ
 bad_line_words line = codes "line " ++ decimal line ++ codes " of the plan is not as a plan has it\n"
 
 -- of a plan: the first line that is none of a plan's text, or the conditions that it does not keep
+-- lines of conditions, and what to do if there are any
+abbrev pub remedy_line : List ℕ
+remedy_line = codes "the plan is of another description, or it was changed: tsmux plan makes a plan for this one\n"
+
+unfoldable pub with_remedy : List ℕ → List ℕ
+with_remedy lines = if length lines == 0 then [] else lines ++ remedy_line
+
+abbrev pub served_words : Described → Planned → List ℕ
+served_words d p = with_remedy (condition_lines d p)
+
 unfoldable pub plan_words : Described → Result (Planned × List ℕ) ℕ → List ℕ
 plan_words d (Err line) = bad_line_words line
-plan_words d (Ok read) = condition_lines d read.0
+plan_words d (Ok read) = served_words d read.0
 
 -- of a description without a plan: the numbers that no plan can keep
 unfoldable pub with_description : Option (List ℕ) → Described → List ℕ
 with_description None d = reason_lines d
 with_description (Some plan) d = plan_words d (planned plan)
 
--- why a description is refused, else those
-unfoldable pub description_words : List ℕ → Option (List ℕ) → Result Described DescError → List ℕ
-description_words bytes plan (Err (Refused fault)) = fault_line (text_lines bytes) fault
-description_words bytes plan (Err Memory) = []
-description_words bytes plan (Ok d) = with_description plan d
+-- why a description is refused: where it is not valid TOML, what the reader says of it; or the first word that no description has
+unfoldable pub refusal_words : TomlNoteView → List (List ℕ) → DescFault → List ℕ
+refusal_words note lines Text = note_line lines note
+refusal_words note lines UnknownKey = unknown_line lines
+refusal_words note lines fault = fault_line lines fault
+
+-- that, else what is said of the description and the plan
+unfoldable pub description_words : TomlNoteView → List ℕ → Option (List ℕ) → Result Described DescError → List ℕ
+description_words note bytes plan (Err (Refused fault)) = refusal_words note (text_lines bytes) fault
+description_words note bytes plan (Err Memory) = []
+description_words note bytes plan (Ok d) = with_description plan d
 
 -- the description ends where a plan's text begins
-unfoldable pub parts_words : List ℕ → Option (List ℕ × List ℕ) → List ℕ
-parts_words bytes None = description_words bytes None (described bytes)
-parts_words bytes (Some parts) = description_words parts.0 (Some parts.1) (described parts.0)
+unfoldable pub parts_words : TomlNoteView → List ℕ → Option (List ℕ × List ℕ) → List ℕ
+parts_words note bytes None = description_words note bytes None (described bytes)
+parts_words note bytes (Some parts) = description_words note parts.0 (Some parts.1) (described parts.0)
 
-abbrev pub explained : List ℕ → List ℕ
-explained bytes = parts_words bytes (parts_of bytes)
+abbrev pub explained : TomlNoteView → List ℕ → List ℕ
+explained note bytes = parts_words note bytes (parts_of bytes)
+
+-- whatever the TOML reader says
+abbrev pub IsExplained : List ℕ → List ℕ → Type 0
+IsExplained bytes text = (note : TomlNoteView) × (text ≡ explained note bytes)

@@ -1,5 +1,5 @@
 -- The line for why a description is refused.
-use Rattle.std.specs.Prelude.{ℕ, List, ◌++◌, codes, decimal}
+use Rattle.std.specs.Prelude.{ℕ, ◌==◌, Bool, List, ◌++◌, length, Option, Some, None, codes, decimal, if◌then◌else◌}
 use Rattle.description.specs.declared.fault.DescFault.{DescFault}
 use Rattle.description.specs.declared.fault.DescFault.TheVariants as fault
 use Rattle.diagnosis.specs.declared.key_tables.KeyTable.{KeyTable}
@@ -14,9 +14,21 @@ use Rattle.diagnosis.specs.KeyWords.{event_words, network_words, program_words, 
 unfoldable pub rule_words : List ℕ → List ℕ → List ℕ
 rule_words name values = name ++ codes " has to be " ++ values ++ codes "\n"
 
--- where it stands, if it stands on a line of its own; its table, its name and the values that it may have
+-- a key that has no line of its own
+unfoldable pub missing_words : List ℕ → List ℕ → List ℕ
+missing_words name values = name ++ codes " is missing, or not on a line of its own: it has to be " ++ values ++ codes "\n"
+
+-- the same where there is no text
+abbrev pub absent_words : Bool → List ℕ → List ℕ → List ℕ
+absent_words textless name values = if textless then rule_words name values else missing_words name values
+
+-- its line, if it is on a line of its own; its table, its name and the values that it may have
+unfoldable pub row_line : Option (ℕ × List ℕ) → Bool → KeyTable → List ℕ × List ℕ → List ℕ
+row_line None textless table words = table_words table ++ absent_words textless words.0 words.1
+row_line (Some row) textless table words = row_words (Some row) ++ (table_words table ++ rule_words words.0 words.1)
+
 unfoldable pub key_line : List (List ℕ) → KeyTable → List ℕ × List ℕ → List ℕ
-key_line lines table words = row_words (row_of table words.0 lines) ++ (table_words table ++ rule_words words.0 words.1)
+key_line lines table words = row_line (row_of table words.0 lines) (length lines == 0) table words
 
 -- the number of a table in its array is counted from 0
 unfoldable pub fault_line : List (List ℕ) → DescFault → List ℕ

@@ -15,7 +15,7 @@ use Rattle.description.specs.declared.table_keys.TableKey.TheVariants as table
 
 unfoldable pub top_words : TopKey → List ℕ × List ℕ
 top_words top.Rate = (codes "rate", codes "100000 to 100000000 bits a second")
-top_words top.Start = (codes "start", codes "a time YYYY-MM-DDThh:mm:ss, 1970-01-01T00:00:00 to 2037-12-31T23:59:59")
+top_words top.Start = (codes "start", codes "a time in quotation marks, YYYY-MM-DDThh:mm:ss, 1970-01-01T00:00:00 to 2037-12-31T23:59:59")
 top_words top.Base0 = (codes "base0", codes "0 to 8589934591 units of 90 kHz")
 top_words top.TsId = (codes "ts_id", codes "0 to 65535")
 top_words top.OriginalNetworkId = (codes "original_network_id", codes "0 to 65535")
@@ -38,7 +38,7 @@ program_words program.Provider = (codes "provider", codes "a text of up to 100 b
 program_words program.Name = (codes "name", codes "a text of up to 100 bytes")
 
 unfoldable pub stream_words : StreamKey → List ℕ × List ℕ
-stream_words stream.Program = (codes "program", codes "the number of a program")
+stream_words stream.Program = (codes "program", codes "the number of a [[program]] of this description")
 stream_words stream.Pid = (codes "pid", codes "a PID, 32 to 8190")
 stream_words stream.StreamId = (codes "id", codes "189, or 192 to 239")
 stream_words stream.StreamType = (codes "type", codes "0 to 255")
@@ -62,9 +62,9 @@ stream_words stream.Frame = (codes "frame", codes "1 to interval / (frames - 1) 
 stream_words stream.FrameSize = (codes "frame_size", codes "1 to size bytes, beside frames and frame")
 
 unfoldable pub event_words : EventKey → List ℕ × List ℕ
-event_words event.Program = (codes "program", codes "the number of a program")
+event_words event.Program = (codes "program", codes "the number of a [[program]] of this description")
 event_words event.Id = (codes "id", codes "0 to 65535")
-event_words event.Start = (codes "start", codes "a time YYYY-MM-DDThh:mm:ss, 1970-01-01T00:00:00 to 2037-12-31T23:59:59")
+event_words event.Start = (codes "start", codes "a time in quotation marks, YYYY-MM-DDThh:mm:ss, 1970-01-01T00:00:00 to 2037-12-31T23:59:59")
 event_words event.Duration = (codes "duration", codes "1 to 359999 seconds")
 event_words event.Language = (codes "language", codes "three ASCII letters")
 event_words event.Name = (codes "name", codes "a text of up to 100 bytes")

@@ -7,3 +7,5 @@ pub mod KeyTables
 pub mod EqualKeys
 pub mod FaultLines
 pub mod Explained
+pub mod TomlNotes
+pub mod UnknownWords

@@ -1,4 +1,4 @@
-//! The lines for buffers that overflow and for units that are late.
+//! The lines for buffers that overflow or are not empty at least once a second, and for units that are late.
 
 ghost use Rattle.std.specs.Prelude.{◌≡◌, ◌++◌, ◌^◌, ◌<◌, OnOk, option_map, string_bytes};
 ghost use Rattle.plan_checker.specs.Refusals.{entry_of};
@@ -8,7 +8,7 @@ use crate::item_names::{write_name_of_stream, write_program_name, write_stream_n
 use crate::least_values::{write_key, write_least};
 use crate::slot_conditions::write_claim;
 use crate::stream_numbers::{GREATEST_LEAD, StreamNumber, key_of};
-use clock27::Rate;
+use clock27::{Rate, SLOT_SECONDS_AT_1BPS};
 use description::{Description, StreamDescription};
 use plan_checker::Refusal;
 use std::alloc::AllocError;
@@ -41,7 +41,41 @@ fn write_room(
     )
 }
 
-// Appends that a packet finds no room, or that the claim of a peak or of a start is too little.
+// Appends that a buffer is never empty.
+#[tactic(auto, unfolding(crate::specs::ConditionLines::never_empty_words))]
+fn write_never_empty(buffer: &str, text: &mut String) -> Result<(), AllocError>
+    ensures { OnOk result (string_bytes text.new ≡ string_bytes text.old ++ spec.never_empty_words buffer.now) }
+{
+    write!(text, "{buffer}is never empty\n")
+}
+
+// Appends in how many slots a buffer is empty once, and how many a second has.
+fn write_seldom(
+    buffer: &str,
+    slots: u128,
+    second: u128,
+    text: &mut String,
+) -> Result<(), AllocError>
+    ensures { OnOk result (string_bytes text.new
+        ≡ string_bytes text.old ++ spec.seldom_words buffer.now slots second) }
+{
+    write!(
+        text,
+        "{buffer}is empty only once in {slots} slots, and a second has {second}\n"
+    )
+}
+
+// Appends that a buffer is empty less often than once a second.
+fn write_seldom_empty(buffer: &str, refusal: Refusal, text: &mut String) -> Result<(), AllocError>
+    ensures { OnOk result (string_bytes text.new
+        ≡ string_bytes text.old ++ spec.seldom_empty_words buffer.now (entry_of refusal)) }
+{
+    let slot = u128::from(SLOT_SECONDS_AT_1BPS);
+    write_seldom(buffer, refusal.left / slot, refusal.right / slot, text)
+}
+
+// Appends that a packet finds no room, that the claim of a peak or of a start is too little, or that a buffer is not empty
+// at least once a second.
 #[tactic(auto, unfolding(crate::specs::ConditionLines::buffer_words))]
 fn write_buffer(
     buffer: &str,
@@ -57,7 +91,9 @@ fn write_buffer(
     match refusal.part {
         1 => write_room(buffer, rate, refusal, text),
         2 => write_claim(peak, refusal.right, refusal.left, text),
-        _ => write_claim(start, refusal.right, refusal.left, text),
+        3 => write_claim(start, refusal.right, refusal.left, text),
+        4 => write_never_empty(buffer, text),
+        _ => write_seldom_empty(buffer, refusal, text),
     }
 }
 

@@ -25,8 +25,8 @@ fn ends_value(byte: u8) -> bool
     is_blank(byte) || byte == b'\r' || byte == b'#'
 }
 
-// The bytes up to the end of a value.
-fn first_word(bytes: &[u8]) -> &[u8]
+/// Returns the bytes up to a space, a tab, the end of a line or a comment.
+pub fn first_word(bytes: &[u8]) -> &[u8]
     ensures { result.now ≡ spec.first_word bytes.entry.now }
 {
     for (i, byte) in bytes.iter().enumerate() {

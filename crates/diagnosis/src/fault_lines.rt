@@ -20,8 +20,35 @@ fn write_rule(name: &str, values: &str, text: &mut String) -> Result<(), AllocEr
     write!(text, "{name} has to be {values}\n")
 }
 
+// Appends a key that has no line of its own, and what it has to be.
+fn write_missing(name: &str, values: &str, text: &mut String) -> Result<(), AllocError>
+    ensures { OnOk result (string_bytes text.new ≡ string_bytes text.old ++ spec.missing_words name.now values.now) }
+{
+    write!(
+        text,
+        "{name} is missing, or not on a line of its own: it has to be {values}\n"
+    )
+}
+
+// Appends what a key has to be that is on none of the lines of a text; or of a description that has no text.
+fn write_absent(
+    textless: bool,
+    name: &str,
+    values: &str,
+    text: &mut String,
+) -> Result<(), AllocError>
+    ensures { OnOk result (string_bytes text.new
+        ≡ string_bytes text.old ++ spec.absent_words textless name.now values.now) }
+{
+    if textless {
+        write_rule(name, values, text)
+    } else {
+        write_missing(name, values, text)
+    }
+}
+
 // Appends the line of a key of a table.
-#[tactic(auto, unfolding(crate::specs::FaultLines::key_line))]
+#[tactic(auto, unfolding(crate::specs::FaultLines::key_line, crate::specs::FaultLines::row_line))]
 fn write_key(
     lines: &[&str],
     table: KeyTable,
@@ -32,9 +59,17 @@ fn write_key(
         ++ spec.key_line (map (λ s. s.now) lines.now) table (words.entry.0.now, words.entry.1.now)) }
 {
     let (name, values) = words;
-    write_row(row_of(table, name, lines), text)?;
-    write_table(table, text)?;
-    write_rule(name, values, text)
+    match row_of(table, name, lines) {
+        Some(row) => {
+            write_row(Some(row), text)?;
+            write_table(table, text)?;
+            write_rule(name, values, text)
+        }
+        None => {
+            write_table(table, text)?;
+            write_absent(lines.is_empty(), name, values, text)
+        }
+    }
 }
 
 /// Appends the line of a refusal.

@@ -36,8 +36,8 @@ pub fn unindented(line: &[u8]) -> &[u8]
     rest
 }
 
-// Whether a line begins with this.
-fn begins(line: &[u8], word: &[u8]) -> bool
+/// Returns whether a line begins with a word, after spaces and tabs.
+pub fn begins(line: &[u8], word: &[u8]) -> bool
     ensures { result ≡ spec.begins line.now word.now }
 {
     unindented(line).starts_with(word)
@@ -124,8 +124,13 @@ pub fn table_row<'a>(
     )
 }
 
-// Appends the number and the column of a line, and the line itself.
-fn write_place(number: usize, column: u128, line: &str, text: &mut String) -> Result<(), AllocError>
+/// Appends the number and the column of a line, and the line itself.
+pub fn write_place(
+    number: usize,
+    column: u128,
+    line: &str,
+    text: &mut String,
+) -> Result<(), AllocError>
     ensures { OnOk result (string_bytes text.new
         ≡ string_bytes text.old ++ spec.place_words number column line.now) }
 {

@@ -17,7 +17,7 @@ pub fn top_words(key: TopKey) -> KeyWords
         TopKey::Rate => ("rate", "100000 to 100000000 bits a second"),
         TopKey::Start => (
             "start",
-            "a time YYYY-MM-DDThh:mm:ss, 1970-01-01T00:00:00 to 2037-12-31T23:59:59",
+            "a time in quotation marks, YYYY-MM-DDThh:mm:ss, 1970-01-01T00:00:00 to 2037-12-31T23:59:59",
         ),
         TopKey::Base0 => ("base0", "0 to 8589934591 units of 90 kHz"),
         TopKey::TsId => ("ts_id", "0 to 65535"),
@@ -62,7 +62,7 @@ pub fn stream_words(key: StreamKey) -> KeyWords
     ensures { (result.0.now, result.1.now) ≡ spec.stream_words key }
 {
     match key {
-        StreamKey::Program => ("program", "the number of a program"),
+        StreamKey::Program => ("program", "the number of a [[program]] of this description"),
         StreamKey::Pid => ("pid", "a PID, 32 to 8190"),
         StreamKey::StreamId => ("id", "189, or 192 to 239"),
         StreamKey::StreamType => ("type", "0 to 255"),
@@ -117,11 +117,11 @@ pub fn event_words(key: EventKey) -> KeyWords
     ensures { (result.0.now, result.1.now) ≡ spec.event_words key }
 {
     match key {
-        EventKey::Program => ("program", "the number of a program"),
+        EventKey::Program => ("program", "the number of a [[program]] of this description"),
         EventKey::Id => ("id", "0 to 65535"),
         EventKey::Start => (
             "start",
-            "a time YYYY-MM-DDThh:mm:ss, 1970-01-01T00:00:00 to 2037-12-31T23:59:59",
+            "a time in quotation marks, YYYY-MM-DDThh:mm:ss, 1970-01-01T00:00:00 to 2037-12-31T23:59:59",
         ),
         EventKey::Duration => ("duration", "1 to 359999 seconds"),
         EventKey::Language => ("language", "three ASCII letters"),

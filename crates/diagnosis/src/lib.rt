@@ -2,7 +2,8 @@
 //!
 //! `explaining` says the first fault of a job (`specs/Explained`): why the description is refused, by `fault_lines`, with the
 //! names of keys and the values that they may have (`key_words`), their tables (`key_tables`), the place of a key in the text
-//! (`key_places`) and the lines of equal values (`equal_keys`); the conditions that the plan does not keep; without a plan the
+//! (`key_places`) and the lines of equal values (`equal_keys`); where a text is not valid TOML (`toml_note`), and which key or
+//! table is unknown (`unknown_words`); the conditions that the plan does not keep; without a plan the
 //! numbers of the description that no plan can keep.
 //!
 //! `reasons` has a line for each number of a description that no plan can keep, with the least that would do
@@ -27,7 +28,10 @@ mod reasons;
 mod shape_conditions;
 mod slot_conditions;
 mod stream_numbers;
+mod toml_note;
+mod unknown_words;
 
 pub use conditions::write_conditions;
 pub use explaining::explain;
+pub use fault_lines::write_fault;
 pub use reasons::write_reasons;

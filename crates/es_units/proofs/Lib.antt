@@ -7,6 +7,7 @@ pub mod MovedUnits
 pub mod UnitCounts
 pub mod PacketRows
 pub mod RunLevels
+pub mod UnitWeights
 pub mod KeptDeclarations
 pub mod QueueAcceptance
 pub mod UnitWarnings

@@ -6,6 +6,7 @@ use Rattle.std.proofs.lemmas.List.Elements.{All-nil, All-cons, All-head, All-tai
 use Rattle.std.proofs.lemmas.List.Sums.{sum-map, sum_by-cons, sum_by_more, sum_by-le}
 use Rattle.pes_packet.specs.AccessUnits.{AccessUnit}
 use Rattle.unit_timing.specs.PesPacket.{PesPacket, packets_of_unit, packets_of_units}
+use Rattle.es_units.specs.CountedUnits.{max_row, row_packets}
 use Rattle.es_units.specs.Declaration.{AreAtMost, CountedPacketsView, counted_packets, group_packets, max_group, max_unit_packets, max_unit_size, timed_unit, timed_units}
 
 -- the number of one unit more
@@ -138,6 +139,33 @@ pub counted_is : (id base0 largest : ℕ) (units : List AccessUnit) (numbers : L
     largest ≡ max_unit_packets (max_unit_size units) → counted_packets id base0 units ≡ record { numbers = numbers; largest = largest }
 unfolding counted_packets
 counted_is id base0 largest units numbers same most = rw (same, most) refl
+
+-- numbers are the packets of some units
+packet_of : ℕ → PesPacket
+packet_of n = record { dts = 0; size = 184 * n - 183; front = 0 }
+
+counts : (n : ℕ) → packets_of_unit (packet_of n) ≡ n
+unfolding packet_of
+counts n = omega arith
+
+all_count : (ns : List ℕ) → map packets_of_unit (map packet_of ns) ≡ ns
+all_count [] = refl
+all_count (n ∷ ns) = rw (counts n, all_count ns) refl
+
+row_count : (group : ℕ) (ns : List ℕ) → sum (take group ns) ≡ packets_of_units (take group (map packet_of ns))
+row_count group ns =
+    ap (λ (l : List ℕ). sum (take group l)) (sym (all_count ns)) ∙ ap sum (take-map packets_of_unit group (map packet_of ns))
+    ∙ sum-map packets_of_unit (take group (map packet_of ns))
+
+rows_count : (group : ℕ) (ns : List ℕ) → max_group group (map packet_of ns) ≡ max_row group ns
+unfolding max_group max_row
+rows_count group [] = refl
+rows_count group (n ∷ ns) = omega (arith, row_count group (n ∷ ns), rows_count group ns)
+
+pub row_packets_are : (group largest row : ℕ) (numbers : List ℕ) (counted : CountedPacketsView) → numbers ≡ counted.numbers → largest ≡ counted.largest →
+    ((all : List PesPacket) → numbers ≡ map packets_of_unit all → row ≡ max_group group all) → max largest row ≡ row_packets group counted
+row_packets_are group largest row numbers counted same most greatest =
+    rw (sym same, sym most) (ap (max largest) (greatest (map packet_of numbers) (sym (all_count numbers)) ∙ rows_count group numbers))
 
 pub group_is : (id base0 group largest row : ℕ) (units : List AccessUnit) (numbers : List ℕ) (counted : CountedPacketsView) → numbers ≡ counted.numbers → largest ≡ counted.largest →
     counted ≡ counted_packets id base0 units → ((all : List PesPacket) → numbers ≡ map packets_of_unit all → row ≡ max_group group all) →

@@ -6,7 +6,7 @@ use Rattle.std.proofs.lemmas.Grind.{div_ceil_times}
 use Rattle.std.proofs.lemmas.List.{drop_all, length-append}
 use Rattle.pes_packet.specs.AccessUnits.{AccessUnit}
 use Rattle.pes_packet.specs.Encoding.{pes_packet_bytes, pes_header_bytes, on_wire, header_size}
-use Rattle.pes_packet.specs.Marks.{field_size, marks_size}
+use Rattle.pes_packet.specs.Marks.{extension_size, field_size, marks_size}
 use Rattle.pes_packet.specs.declared.marks.Marks.{Marks}
 use Rattle.pes_packet.proofs.Written.{header_sizes}
 use Rattle.es_units.specs.Stamps.{distance, min_distance}
@@ -54,13 +54,13 @@ pub least_some : (us rest : List AccessUnit) (u : AccessUnit) → us ≡ u ∷ r
 unfolding min_interval
 least_some us rest u is = rw is refl
 
-header_by : (long same : Bool) → cond long 45 (cond same 14 19) ≤ 19 + cond long 26 0
-header_by true same = omega arith
-header_by false true = omega arith
-header_by false false = omega arith
+header_by : (long same : Bool) (more : ℕ) → cond long 45 (cond same 14 19 + more) ≤ 19 + cond long 26 more
+header_by true same more = omega arith
+header_by false true more = omega arith
+header_by false false more = omega arith
 
 header_most : (marks : Marks) (pts dts : ℕ) → field_size marks.random_access + header_size marks pts dts ≤ 19 + marks_size marks
-header_most marks pts dts = omega (arith, header_by marks.long (on_wire pts == on_wire dts))
+header_most marks pts dts = omega (arith, header_by marks.long (on_wire pts == on_wire dts) (extension_size marks))
 
 -- a header has at most 19 bytes with what is in front of it, and what the marks take
 pub bytes_most : (id base0 size : ℕ) (u : AccessUnit) → length u.bytes + marks_size u.marks ≤ size →

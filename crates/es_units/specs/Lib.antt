@@ -10,6 +10,7 @@ pub mod MadeDts
 pub mod DtsErrors
 pub mod Declaration
 pub mod UnitRuns
+pub mod CountedUnits
 pub mod Laws
 pub mod UnitSteps
 pub mod UnitMoments

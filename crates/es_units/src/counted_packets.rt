@@ -3,9 +3,12 @@
 ghost use Rattle.std.specs.Prelude.{◌≡◌, ◌≤◌, ◌^◌, ℕ, All, IfOk, List, length, map, sum};
 ghost use Rattle.pes_packet.specs.AccessUnits.{AccessUnit};
 ghost use Rattle.unit_timing.specs.PesPacket.{PesPacket, packets_of_unit};
+ghost use Rattle.es_units.specs.CountedUnits.{IsWeight, row_packets, weighed_packets};
 ghost use Rattle.es_units.specs.Declaration as spec;
 
-use crate::declaration::{max_unit_packets, max_unit_size, unit_packets};
+use crate::counted_units::largest_of;
+use crate::declaration::max_unit_packets;
+use crate::unit_weights::{UnitWeight, unit_weights};
 use pes_packet::Unit;
 use std::alloc::{AllocError, Allocator, Global};
 use std::marker::Model;
@@ -32,20 +35,12 @@ impl<A: Allocator> Model for CountedPackets<A> {
 }
 
 // The packets of each unit.
-fn packet_numbers<A: Allocator>(
-    alloc: A,
-    base0: u64,
-    units: &[Unit<A>],
-) -> Result<Vec<u64, A>, AllocError>
-    ensures numbers { IfOk result (λ numbers. (id : ℕ) →
-        numbers.items ≡ map packets_of_unit (spec.timed_units id base0 units.now)) }
+fn packet_numbers<A: Allocator>(alloc: A, weights: &[UnitWeight]) -> Result<Vec<u64, A>, AllocError>
+    requires { All IsWeight weights.now }
+    ensures numbers { IfOk result (λ numbers. numbers.items ≡ map (λ w. w.packets) weights.now) }
     ensures bound { IfOk result (λ numbers. All (λ n. n ≤ 2 ^ 56) numbers.items) }
 {
-    let mut numbers = Vec::with_capacity(alloc, units.len())?;
-    for unit in units {
-        numbers.push(unit_packets(base0, unit))?;
-    }
-    Ok(numbers)
+    weights.iter().map(|weight| weight.packets).collect(alloc)
 }
 
 // The sum of the numbers of a row.
@@ -89,14 +84,26 @@ fn greatest_row(numbers: &[u64], greatest: u64, group: usize) -> u64
     most.max(row)
 }
 
-impl<A: Allocator> CountedPackets<A> {
+impl<A: Allocator + Clone> CountedPackets<A> {
     /// Counts the packets of each unit with the clock's first value `base0`, which decides which of them have a DTS in their header.
     pub fn of_units(alloc: A, base0: u64, units: &[Unit<A>]) -> Result<Self, AllocError>
         ensures { IfOk result (λ packets. (id : ℕ) → packets ≡ spec.counted_packets id base0 units.now) }
     {
-        let numbers = packet_numbers(alloc, base0, units)?;
+        let weights = unit_weights(alloc.clone()?, base0, units)?;
+        let packets = CountedPackets::of_weights(alloc, &weights)?;
+        Ok(packets)
+    }
+}
+
+impl<A: Allocator> CountedPackets<A> {
+    /// Counts the packets of units that count so.
+    pub(crate) fn of_weights(alloc: A, weights: &[UnitWeight]) -> Result<Self, AllocError>
+        requires { All IsWeight weights.now }
+        ensures { IfOk result (λ packets. packets ≡ weighed_packets weights.now) }
+    {
+        let numbers = packet_numbers(alloc, weights)?;
         let greatest = greatest_of(&numbers);
-        let largest = max_unit_packets(max_unit_size(units));
+        let largest = max_unit_packets(largest_of(weights));
         Ok(CountedPackets {
             numbers,
             greatest,
@@ -108,7 +115,8 @@ impl<A: Allocator> CountedPackets<A> {
     /// size has, whatever its header.
     pub fn of_group(&self, group: u8) -> u64
         requires { group ≤ 64 }
-        ensures { (id base0 : ℕ) (us : List AccessUnit) → self.now ≡ spec.counted_packets id base0 us →
+        ensures value { result ≡ row_packets group self.now }
+        ensures of_units { (id base0 : ℕ) (us : List AccessUnit) → self.now ≡ spec.counted_packets id base0 us →
             result ≡ spec.group_packets id base0 group us }
     {
         self.largest

@@ -35,8 +35,8 @@ fn interval_after<A: Allocator>(before: u64, units: &[Unit<A>]) -> u32
     least
 }
 
-// The shorter of two times.
-fn shorter(least: u32, time: u64) -> u32
+/// Returns the shorter of two times.
+pub(crate) fn shorter(least: u32, time: u64) -> u32
     ensures { result ≡ min least time }
 {
     if time < u64::from(least) {

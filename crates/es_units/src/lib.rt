@@ -10,6 +10,7 @@
 
 mod carried;
 mod counted_packets;
+mod counted_units;
 mod declaration;
 mod dts_from_pts;
 mod found;
@@ -28,11 +29,13 @@ mod unit_moments;
 mod unit_runs;
 mod unit_taker;
 mod unit_warning;
+mod unit_weights;
 mod warnings;
 mod wire_unit;
 
 pub use carried::carried_units;
 pub use counted_packets::CountedPackets;
+pub use counted_units::CountedUnits;
 pub use declaration::{max_unit_size, min_interval};
 pub use dts_from_pts::{DtsError, DtsFault, made_dts};
 pub use found::found_units;

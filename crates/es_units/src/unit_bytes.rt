@@ -61,6 +61,15 @@ impl<'f, A: Allocator> Model for LentBytes<'f, A> {
     ghost view = { λ b. b.body.now ++ b.more.items };
 }
 
+impl<'f, A: Allocator> LentBytes<'f, A> {
+    /// Returns how many bytes there are.
+    pub fn len(&self) -> usize
+        ensures { result ≡ length self.now }
+    {
+        self.body.len() + self.more.len()
+    }
+}
+
 impl<'f, A: Allocator> UnitBytes for LentBytes<'f, A> {
     ghost bytes = { λ b. b };
 

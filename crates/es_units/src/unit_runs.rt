@@ -3,11 +3,13 @@
 ghost use Rattle.std.specs.Prelude.{◌≡◌, ◌≤◌, ◌-◌, ◌*◌, ◌^◌, ◌∷◌, ◌++◌, [], ℕ, All, IfOk, List, OnOk, max, min, replicate};
 ghost use Rattle.std.specs.List.{flat_map};
 ghost use Rattle.pes_packet.specs.AccessUnits.{AccessUnit};
-ghost use Rattle.es_units.specs.Declaration.{burst_packets, timed_units};
+ghost use Rattle.es_units.specs.CountedUnits.{IsWeight, weighed_runs, weighed_steps};
+ghost use Rattle.es_units.specs.Declaration.{burst_packets};
 ghost use Rattle.es_units.specs.UnitRuns as spec;
 
-use crate::declaration::{max_unit_packets, max_unit_size, unit_packets};
-use crate::unit::dts_of;
+use crate::counted_units::largest_of;
+use crate::declaration::max_unit_packets;
+use crate::unit_weights::{UnitWeight, unit_weights};
 use clock27::SLOT_UNITS_AT_1BPS;
 use pes_packet::Unit;
 use std::alloc::{AllocError, Allocator, Global};
@@ -82,13 +84,9 @@ fn count_unit<A: Allocator>(
 }
 
 // The runs of units.
-fn runs_of<A: Allocator>(
-    alloc: A,
-    base0: u64,
-    units: &[Unit<A>],
-) -> Result<Vec<UnitRun, A>, AllocError>
-    ensures steps { IfOk result (λ runs. (id : ℕ) →
-        flat_map spec.steps_of runs.items ≡ spec.steps_after 0 (timed_units id base0 units.now)) }
+fn runs_of<A: Allocator>(alloc: A, weights: &[UnitWeight]) -> Result<Vec<UnitRun, A>, AllocError>
+    requires { All IsWeight weights.now }
+    ensures steps { IfOk result (λ runs. flat_map spec.steps_of runs.items ≡ weighed_steps 0 weights.now) }
     ensures runs { IfOk result (λ runs. All spec.IsRun runs.items) }
 {
     let mut runs = Vec::new(alloc);
@@ -98,11 +96,10 @@ fn runs_of<A: Allocator>(
         count: 0,
     };
     let mut last = 0;
-    for unit in units {
-        let dts = dts_of(unit);
-        let time = dts.saturating_sub(last);
-        run = count_unit(&mut runs, run, time, unit_packets(base0, unit))?;
-        last = dts;
+    for weight in weights {
+        let time = weight.dts.saturating_sub(last);
+        run = count_unit(&mut runs, run, time, weight.packets)?;
+        last = weight.dts;
     }
     runs.push(run)?;
     Ok(runs)
@@ -149,14 +146,26 @@ fn run_levels(pace: u32, level: u128, run: UnitRun) -> (u128, u128)
     (last, first.max(last))
 }
 
-impl<A: Allocator> UnitRuns<A> {
+impl<A: Allocator + Clone> UnitRuns<A> {
     /// Returns the units of a stream, with the clock's first value `base0`, which decides which of them have a DTS in their
     /// header.
     pub fn of_units(alloc: A, base0: u64, units: &[Unit<A>]) -> Result<Self, AllocError>
         ensures { IfOk result (λ runs. (id : ℕ) → runs ≡ spec.unit_runs id base0 units.now) }
     {
-        let runs = runs_of(alloc, base0, units)?;
-        let largest = max_unit_packets(max_unit_size(units));
+        let weights = unit_weights(alloc.clone()?, base0, units)?;
+        let runs = UnitRuns::of_weights(alloc, &weights)?;
+        Ok(runs)
+    }
+}
+
+impl<A: Allocator> UnitRuns<A> {
+    /// Returns units that count so.
+    pub(crate) fn of_weights(alloc: A, weights: &[UnitWeight]) -> Result<Self, AllocError>
+        requires { All IsWeight weights.now }
+        ensures { IfOk result (λ runs. runs ≡ weighed_runs weights.now) }
+    {
+        let runs = runs_of(alloc, weights)?;
+        let largest = max_unit_packets(largest_of(weights));
         Ok(UnitRuns { runs, largest })
     }
 

@@ -4,7 +4,7 @@ use Rattle.events.specs.declared.event.BufferExcess.{BufferExcess}
 use Rattle.events.specs.declared.event.ClockFault.{ClockFault}
 use Rattle.events.specs.declared.event.ClockTotals.{ClockTotals}
 use Rattle.events.specs.declared.event.Event.{Event}
-use Rattle.events.specs.declared.event.Event.TheVariants.{Input, Stream, Window, Held, Units, Excess, MainExcess, MultiplexingExcess, ElementaryExcess, SystemExcess, SystemMainExcess, Late, ElementaryLate, Ahead, PcrRepetition, PcrDiscontinuity, PcrAccuracy, TableRepetition, Unclocked, Refused, Continuity, CheckWord, Transport, Main, Multiplexing, Elementary, System, Clock, Table, Pid, Unreferenced, Missing, Check, End}
+use Rattle.events.specs.declared.event.Event.TheVariants.{Input, Stream, Window, Held, Units, Excess, MainExcess, MultiplexingExcess, ElementaryExcess, SystemExcess, SystemMainExcess, Late, ElementaryLate, Ahead, PcrRepetition, PcrDiscontinuity, PcrAccuracy, TableRepetition, Unclocked, Refused, Continuity, CheckWord, Transport, Main, Multiplexing, Elementary, Marks, System, Clock, Table, Pid, Unreferenced, Missing, Check, End, Rule, Summary}
 use Rattle.events.specs.declared.event.FarAhead.{FarAhead}
 use Rattle.events.specs.declared.event.HeldFigures.{HeldFigures}
 use Rattle.events.specs.declared.event.LateUnit.{LateUnit}
@@ -19,11 +19,16 @@ use Rattle.events.specs.declared.event.TableTotals.{TableTotals}
 use Rattle.events.specs.declared.event.TransportTotals.{TransportTotals}
 use Rattle.events.specs.declared.event.UnclockedPackets.{UnclockedPackets}
 use Rattle.events.specs.declared.event.UnitFigures.{UnitFigures}
-use Rattle.events.specs.FaultLines.{check_line, check_word_line, continuity_line, refused_line}
+use Rattle.events.specs.declared.timed_event.TimedEvent.{TimedEvent}
+use Rattle.events.specs.FaultLines.{check_word_line, continuity_line, refused_line}
+use Rattle.events.specs.Faults.{fault_of}
 use Rattle.events.specs.FieldViews.{FieldView}
 use Rattle.events.specs.InputLines.{input_line}
+use Rattle.events.specs.MarkLines.{marks_line}
 use Rattle.events.specs.PidNames.{line_word}
 use Rattle.events.specs.ReportLines.{field_text, first_text, last_text, line_of, name_text, number_field, quoted, word_field}
+use Rattle.events.specs.RuleLines.{rule_line}
+use Rattle.events.specs.SummaryLines.{check_line, fault_time, summary_line}
 use Rattle.events.specs.VideoLines.{elementary_late_line, elementary_line, multiplexing_line}
 use Rattle.events.specs.Windows.{WindowView}
 
@@ -48,7 +53,7 @@ abbrev pub label_text : Bool → WindowView → List ℕ
 label_text json w = program_text json w.program ++ (field_text json (word_field (codes "coding") (line_word w.coding)) ++ service_text json w.service)
 
 abbrev pub window_line : Bool → WindowView → List ℕ
-window_line json w = first_text json (codes "window") ++ (flat_map (field_text json) (count_fields w) ++ (label_text json w ++ last_text json))
+window_line json w = first_text json (codes "window") ++ (flat_map (field_text json) (count_fields w) ++ label_text json w)
 
 -- 2. What else is found
 
@@ -170,6 +175,7 @@ event_line json (Transport e) = transport_line json e
 event_line json (Main e) = main_line json e
 event_line json (Multiplexing e) = multiplexing_line json e
 event_line json (Elementary e) = elementary_line json e
+event_line json (Marks e) = marks_line json e
 event_line json (System e) = system_line json e
 event_line json (Clock e) = clock_line json e
 event_line json (Table e) = table_line json e
@@ -178,6 +184,12 @@ event_line json (Unreferenced pid) = reference_line json (codes "unreferenced") 
 event_line json (Missing pid) = reference_line json (codes "missing") pid
 event_line json (Check e) = check_line json e
 event_line json (End e) = end_line json e
+event_line json (Rule e) = rule_line json e
+event_line json (Summary e) = summary_line json e
 
-abbrev pub lines_of : Bool → List Event → List ℕ
-lines_of json events = flat_map (event_line json) events
+-- and when it is, of a fault
+abbrev pub timed_line : Bool → TimedEvent → List ℕ
+timed_line json e = event_line json e.event ++ (fault_time json (fault_of e.event e.at) ++ last_text json)
+
+abbrev pub lines_of : Bool → List TimedEvent → List ℕ
+lines_of json events = flat_map (timed_line json) events

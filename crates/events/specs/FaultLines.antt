@@ -1,12 +1,10 @@
--- The lines of faults of packets and sections, and of the checks of ETSI TR 101 290 (docs/VIEW.md).
+-- The lines of faults of packets and sections (docs/VIEW.md).
 use Rattle.std.specs.Prelude.{ℕ, Bool, List, [], ◌∷◌, codes}
-use Rattle.events.specs.declared.check_counts.CheckTotals.{CheckTotals}
 use Rattle.events.specs.declared.packet_fault.CheckWordFault.{CheckWordFault}
 use Rattle.events.specs.declared.packet_fault.CounterFault.{CounterFault}
 use Rattle.events.specs.declared.packet_fault.RefusalCause.{RefusalCause}
 use Rattle.events.specs.declared.packet_fault.RefusalCause.TheVariants as causes
 use Rattle.events.specs.declared.packet_fault.RefusedPacket.{RefusedPacket}
-use Rattle.events.specs.Checks.{name_of, number_of}
 use Rattle.events.specs.ReportLines.{line_of, number_field, word_field}
 
 unfoldable pub cause_word : RefusalCause → List ℕ
@@ -25,8 +23,3 @@ continuity_line json e = line_of json (codes "continuity")
 
 abbrev pub check_word_line : Bool → CheckWordFault → List ℕ
 check_word_line json e = line_of json (codes "check_word") (number_field (codes "pid") e.pid ∷ number_field (codes "packet") e.packet ∷ [])
-
-abbrev pub check_line : Bool → CheckTotals → List ℕ
-check_line json e = line_of json (codes "check")
-    (word_field (codes "number") (number_of e.check) ∷ word_field (codes "name") (name_of e.check) ∷ number_field (codes "faults") e.count.faults
-    ∷ number_field (codes "first") e.count.first ∷ number_field (codes "last") e.count.last ∷ [])

@@ -19,9 +19,11 @@ unfoldable pub of_coding : Coding → PidName
 of_coding (codings.Mpeg level) = Mpeg2
 of_coding (codings.Avc level) = Avc
 of_coding (codings.Hevc level) = Hevc
+of_coding (codings.Jpeg2000 limits) = Other
 of_coding codings.Audio = Audio
 of_coding (codings.Aac channels) = Aac
 of_coding codings.Ac3 = Ac3
+of_coding (codings.Pcm pairs) = Other
 of_coding codings.Subtitles = Subtitles
 of_coding codings.Teletext = Teletext
 of_coding codings.Other = Other

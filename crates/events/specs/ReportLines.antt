@@ -1,8 +1,8 @@
 -- A line: a word and fields, each a name and a number or a word.
-use Rattle.std.specs.Prelude.{ℕ, ◌==◌, ◌||◌, Bool, if◌then◌else◌, List, [], ◌∷◌, ◌++◌, codes, decimal, flat_map}
+use Rattle.std.specs.Prelude.{ℕ, ◌/◌, ◌%◌, ◌==◌, ◌||◌, Bool, if◌then◌else◌, List, [], ◌∷◌, ◌++◌, codes, decimal, flat_map}
 use Rattle.std.specs.Char.{encode_utf8}
 use Rattle.std.specs.Str.{chars}
-use Rattle.events.specs.FieldViews.{FieldView, ValueView, IsNumber, IsWord}
+use Rattle.events.specs.FieldViews.{FieldView, ValueView, IsNumber, IsWord, IsSeconds}
 
 abbrev pub number_field : List ℕ → ℕ → FieldView
 number_field name n = record { name = name; value = IsNumber n }
@@ -10,13 +10,25 @@ number_field name n = record { name = name; value = IsNumber n }
 abbrev pub word_field : List ℕ → List ℕ → FieldView
 word_field name word = record { name = name; value = IsWord word }
 
+abbrev pub seconds_field : List ℕ → ℕ → FieldView
+seconds_field name ticks = record { name = name; value = IsSeconds ticks }
+
+-- ticks of 27 MHz in seconds, rounded down to milliseconds
+abbrev pub millis_of : ℕ → ℕ
+millis_of ticks = ticks / 27000
+
+abbrev pub seconds_text : ℕ → List ℕ
+seconds_text ticks = decimal (millis_of ticks / 1000) ++ (codes "." ++ (decimal (millis_of ticks / 100 % 10)
+    ++ (decimal (millis_of ticks / 10 % 10) ++ decimal (millis_of ticks % 10))))
+
 abbrev pub quote : List ℕ
 quote = 34 ∷ []
 
--- a number in decimal digits; a word as it is, between quotation marks in an object
+-- a number in decimal digits; a word as it is, between quotation marks in an object; a moment in seconds
 unfoldable pub value_text : Bool → ValueView → List ℕ
 value_text json (IsNumber n) = decimal n
 value_text json (IsWord word) = if json then quote ++ (word ++ quote) else word
+value_text json (IsSeconds ticks) = seconds_text ticks
 
 -- ` NAME ` or `,"NAME":`
 abbrev pub name_text : Bool → List ℕ → List ℕ
@@ -42,6 +54,6 @@ escaped c = escape c ++ encode_utf8 c
 abbrev pub quoted : List ℕ → List ℕ
 quoted text = quote ++ (flat_map escaped (chars text) ++ quote)
 
--- a line
+-- a line without its end
 abbrev pub line_of : Bool → List ℕ → List FieldView → List ℕ
-line_of json word fields = first_text json word ++ (flat_map (field_text json) fields ++ last_text json)
+line_of json word fields = first_text json word ++ flat_map (field_text json) fields

@@ -1,14 +1,14 @@
-//! How often each check of ETSI TR 101 290 fails, by the events of a stream.
-ghost use Rattle.std.specs.Prelude.{◌≡◌, ◌++◌, OnOk};
+//! How often each check of ETSI TR 101 290 fails, by the faults of a stream.
+ghost use Rattle.std.specs.Prelude.{◌≡◌, ◌++◌, OnOk, map};
 ghost use Rattle.events.specs.CheckCounts as spec;
 
 use crate::check::Check;
 use crate::event::Event;
-use crate::input_event::InputEvent;
-use crate::packet_fault::RefusalCause;
+use crate::fault::Fault;
+use crate::fault_kind::{check_of, is_si_repetition};
 use std::alloc::AllocError;
 
-/// How often a check failed, and the packets where it did first and last.
+/// How often something failed, and where it did first and last.
 #[derive(Clone, Copy)]
 pub struct FaultCount {
     /// The faults, up to 2^64 - 1.
@@ -17,262 +17,294 @@ pub struct FaultCount {
     pub first: u64,
     /// The packet of the last fault; 0 if there is none.
     pub last: u64,
+    /// The moment at which the first fault begins, and the moment at which the last fault ends, in ticks, if they are known.
+    pub from: Option<u128>,
+    pub to: Option<u128>,
 }
 
-/// What a check came to: the row of a report.
+/// Why a check can't be made of a stream.
+#[derive(Clone, Copy)]
+pub enum Untold {
+    /// No packet has a moment.
+    NoClock,
+    /// The rate of the stream varies.
+    VariableRate,
+}
+
+/// What a check came to: the row of a report. If the check can't be made, the count says nothing.
 #[derive(Clone, Copy)]
 pub struct CheckTotals {
     pub check: Check,
     pub count: FaultCount,
+    pub untold: Option<Untold>,
 }
 
-/// The counts of all checks.
+/// A check and its faults.
+#[derive(Clone, Copy)]
+pub struct CheckCount {
+    pub check: Check,
+    pub count: FaultCount,
+}
+
+/// The faults of each check, in the order of their numbers.
 #[derive(Clone, Copy)]
 pub struct CheckCounts {
-    pub sync_loss: FaultCount,
-    pub sync_byte: FaultCount,
-    pub pat: FaultCount,
-    pub continuity: FaultCount,
-    pub pmt: FaultCount,
-    pub pid: FaultCount,
-    pub transport: FaultCount,
-    pub crc: FaultCount,
-    pub pcr_repetition: FaultCount,
-    pub pcr_discontinuity: FaultCount,
-    pub pcr_accuracy: FaultCount,
-    pub nit_actual: FaultCount,
-    pub nit_other: FaultCount,
-    pub buffer: FaultCount,
-    pub unreferenced: FaultCount,
-    pub sdt_actual: FaultCount,
-    pub sdt_other: FaultCount,
-    pub eit_actual: FaultCount,
-    pub eit_other: FaultCount,
-    pub tdt: FaultCount,
+    pub rows: [CheckCount; 26],
 }
 
-const NO_FAULT: FaultCount = FaultCount {
+/// What is known of a stream's time: whether a packet has a moment, and whether the rate varies.
+#[derive(Clone, Copy)]
+pub struct StreamTime {
+    pub clocked: bool,
+    pub varies: bool,
+}
+
+/// The count of no fault.
+pub const NO_FAULT: FaultCount = FaultCount {
     faults: 0,
     first: 0,
     last: 0,
+    from: None,
+    to: None,
 };
 
-#[tactic(auto, unfolding(crate::specs::CheckCounts::with_fault))]
-fn with_fault(count: FaultCount, packet: u64) -> FaultCount
-    ensures { result ≡ spec.with_fault count packet }
-{
-    FaultCount {
-        faults: count.faults.saturating_add(1),
-        first: if count.faults == 0 {
-            packet
-        } else {
-            count.first
-        },
-        last: packet,
+const NO_FAULTS: [CheckCount; 26] = [
+    CheckCount {
+        check: Check::SyncLoss,
+        count: NO_FAULT,
+    },
+    CheckCount {
+        check: Check::SyncByte,
+        count: NO_FAULT,
+    },
+    CheckCount {
+        check: Check::Pat,
+        count: NO_FAULT,
+    },
+    CheckCount {
+        check: Check::Continuity,
+        count: NO_FAULT,
+    },
+    CheckCount {
+        check: Check::Pmt,
+        count: NO_FAULT,
+    },
+    CheckCount {
+        check: Check::Pid,
+        count: NO_FAULT,
+    },
+    CheckCount {
+        check: Check::Transport,
+        count: NO_FAULT,
+    },
+    CheckCount {
+        check: Check::Crc,
+        count: NO_FAULT,
+    },
+    CheckCount {
+        check: Check::PcrRepetition,
+        count: NO_FAULT,
+    },
+    CheckCount {
+        check: Check::PcrDiscontinuity,
+        count: NO_FAULT,
+    },
+    CheckCount {
+        check: Check::PcrAccuracy,
+        count: NO_FAULT,
+    },
+    CheckCount {
+        check: Check::Pts,
+        count: NO_FAULT,
+    },
+    CheckCount {
+        check: Check::Cat,
+        count: NO_FAULT,
+    },
+    CheckCount {
+        check: Check::NitActual,
+        count: NO_FAULT,
+    },
+    CheckCount {
+        check: Check::NitOther,
+        count: NO_FAULT,
+    },
+    CheckCount {
+        check: Check::SiRepetition,
+        count: NO_FAULT,
+    },
+    CheckCount {
+        check: Check::Buffer,
+        count: NO_FAULT,
+    },
+    CheckCount {
+        check: Check::Unreferenced,
+        count: NO_FAULT,
+    },
+    CheckCount {
+        check: Check::SdtActual,
+        count: NO_FAULT,
+    },
+    CheckCount {
+        check: Check::SdtOther,
+        count: NO_FAULT,
+    },
+    CheckCount {
+        check: Check::EitActual,
+        count: NO_FAULT,
+    },
+    CheckCount {
+        check: Check::EitOther,
+        count: NO_FAULT,
+    },
+    CheckCount {
+        check: Check::Rst,
+        count: NO_FAULT,
+    },
+    CheckCount {
+        check: Check::Tdt,
+        count: NO_FAULT,
+    },
+    CheckCount {
+        check: Check::EmptyBuffer,
+        count: NO_FAULT,
+    },
+    CheckCount {
+        check: Check::DataDelay,
+        count: NO_FAULT,
+    },
+];
+
+impl FaultCount {
+    /// Returns the count with one fault more.
+    pub fn with(self, fault: &Fault) -> FaultCount
+        ensures { result ≡ spec.with_fault self fault.now }
+    {
+        let none = self.faults == 0;
+        FaultCount {
+            faults: self.faults.saturating_add(1),
+            first: if none { fault.packet } else { self.first },
+            last: fault.packet,
+            from: if none { fault.from } else { self.from },
+            to: fault.to,
+        }
     }
 }
 
-#[tactic(auto, unfolding(crate::specs::CheckCounts::check_of_refusal))]
-fn check_of_refusal(cause: RefusalCause) -> Option<Check>
-    ensures { result ≡ spec.check_of_refusal cause }
+#[tactic(auto, unfolding(crate::specs::CheckCounts::is_check))]
+fn is_check(found: Option<Check>, check: Check) -> bool
+    ensures { result ≡ spec.is_check found check }
 {
-    match cause {
-        RefusalCause::SyncByte => Some(Check::SyncByte),
-        RefusalCause::Header => None,
-        RefusalCause::TransportError => Some(Check::Transport),
+    match found {
+        None => false,
+        Some(found) => found.place() == check.place(),
     }
 }
 
-#[tactic(auto, unfolding(crate::specs::CheckCounts::check_of_input))]
-fn check_of_input(event: InputEvent) -> Option<Check>
-    ensures { result ≡ spec.check_of_input event }
+/// Returns whether a fault fails a check.
+pub fn fails(check: Check, fault: &Fault) -> bool
+    ensures { result ≡ spec.fails check fault.now }
 {
-    match event {
-        InputEvent::Slip(_) => Some(Check::SyncLoss),
-        _ => None,
+    is_check(check_of(fault.kind, fault.source), check)
+        || (is_si_repetition(fault.kind, fault.source)
+            && check.place() == Check::SiRepetition.place())
+}
+
+fn row_with(row: CheckCount, fault: &Fault) -> CheckCount
+    ensures { result ≡ spec.row_with fault.now row }
+{
+    if fails(row.check, fault) {
+        CheckCount {
+            check: row.check,
+            count: row.count.with(fault),
+        }
+    } else {
+        row
     }
 }
 
-#[tactic(auto, unfolding(crate::specs::CheckCounts::packet_of_input))]
-fn packet_of_input(event: InputEvent) -> u64
-    ensures { result ≡ spec.packet_of_input event }
+fn add_to(rows: &mut [CheckCount], fault: &Fault)
+    ensures { rows.new ≡ map (spec.row_with fault.now) rows.old }
 {
-    match event {
-        InputEvent::Slip(slip) => slip.packet,
-        _ => 0,
+    for row in rows.iter_mut() {
+        *row = row_with(*row, fault);
     }
 }
 
-/// Returns the check that an event says has failed, if there is one.
-#[tactic(auto, unfolding(crate::specs::CheckCounts::check_of))]
-pub fn check_of(event: &Event) -> Option<Check>
-    ensures { result ≡ spec.check_of event.now }
+// Returns whether a check is about times.
+#[tactic(auto, unfolding(crate::specs::CheckCounts::is_timed))]
+fn is_timed(check: Check) -> bool
+    ensures { result ≡ spec.is_timed check }
 {
-    match event {
-        Event::Input(e) => check_of_input(*e),
-        Event::Refused(e) => check_of_refusal(e.cause),
-        Event::Continuity(_) => Some(Check::Continuity),
-        Event::CheckWord(_) => Some(Check::Crc),
-        Event::PcrRepetition(_) => Some(Check::PcrRepetition),
-        Event::PcrDiscontinuity(_) => Some(Check::PcrDiscontinuity),
-        Event::PcrAccuracy(_) => Some(Check::PcrAccuracy),
-        Event::TableRepetition(e) => Check::of_table(e.table),
-        Event::Excess(_)
-        | Event::MainExcess(_)
-        | Event::MultiplexingExcess(_)
-        | Event::ElementaryExcess(_)
-        | Event::SystemExcess(_)
-        | Event::SystemMainExcess(_) => Some(Check::Buffer),
-        Event::Unreferenced(_) => Some(Check::Unreferenced),
-        Event::Missing(_) => Some(Check::Pid),
-        _ => None,
+    match check {
+        Check::SyncLoss
+        | Check::SyncByte
+        | Check::Continuity
+        | Check::Pid
+        | Check::Transport
+        | Check::Crc
+        | Check::PcrDiscontinuity
+        | Check::Cat
+        | Check::Unreferenced => false,
+        _ => true,
     }
 }
 
-/// Returns the packet of an event; 0 for an event of the whole stream.
-#[tactic(auto, unfolding(crate::specs::CheckCounts::packet_of))]
-pub fn packet_of(event: &Event) -> u64
-    ensures { result ≡ spec.packet_of event.now }
+// Returns why a check can't be made, if it can't be.
+fn untold_of(check: Check, time: StreamTime) -> Option<Untold>
+    ensures { result ≡ spec.untold_of check time }
 {
-    match event {
-        Event::Input(e) => packet_of_input(*e),
-        Event::Refused(e) => e.packet,
-        Event::Continuity(e) => e.packet,
-        Event::CheckWord(e) => e.packet,
-        Event::PcrRepetition(e) | Event::PcrDiscontinuity(e) | Event::PcrAccuracy(e) => e.packet,
-        Event::TableRepetition(e) => e.packet,
-        Event::Excess(e)
-        | Event::MainExcess(e)
-        | Event::MultiplexingExcess(e)
-        | Event::ElementaryExcess(e) => e.packet,
-        Event::SystemExcess(e) | Event::SystemMainExcess(e) => e.packet,
-        _ => 0,
+    if !time.clocked && is_timed(check) {
+        Some(Untold::NoClock)
+    } else if time.varies && check.place() == Check::PcrAccuracy.place() {
+        Some(Untold::VariableRate)
+    } else {
+        None
     }
 }
 
-fn row(check: Check, count: FaultCount) -> CheckTotals
-    ensures { result ≡ record { check = check; count = count } }
+fn totals_of(row: CheckCount, time: StreamTime) -> CheckTotals
+    ensures { result ≡ spec.totals_of time row }
 {
-    CheckTotals { check, count }
+    CheckTotals {
+        check: row.check,
+        count: row.count,
+        untold: untold_of(row.check, time),
+    }
 }
 
-fn push_all(rows: &[CheckTotals], events: &mut Vec<Event>) -> Result<(), AllocError>
-    ensures { OnOk result (events.new.items ≡ events.old.items ++ spec.events_of rows.now) }
+fn push_all(
+    rows: &[CheckCount],
+    time: StreamTime,
+    events: &mut Vec<Event>,
+) -> Result<(), AllocError>
+    ensures { OnOk result (events.new.items ≡ events.old.items ++ spec.events_of time rows.now) }
 {
     for row in rows {
-        events.push(Event::Check(*row))?;
+        events.push(Event::Check(totals_of(*row, time)))?;
     }
     Ok(())
 }
 
 impl CheckCounts {
-    /// Returns the counts before the first event.
+    /// Returns the counts before the first fault.
     pub fn new() -> CheckCounts
         ensures { result ≡ spec.no_faults }
     {
-        CheckCounts {
-            sync_loss: NO_FAULT,
-            sync_byte: NO_FAULT,
-            pat: NO_FAULT,
-            continuity: NO_FAULT,
-            pmt: NO_FAULT,
-            pid: NO_FAULT,
-            transport: NO_FAULT,
-            crc: NO_FAULT,
-            pcr_repetition: NO_FAULT,
-            pcr_discontinuity: NO_FAULT,
-            pcr_accuracy: NO_FAULT,
-            nit_actual: NO_FAULT,
-            nit_other: NO_FAULT,
-            buffer: NO_FAULT,
-            unreferenced: NO_FAULT,
-            sdt_actual: NO_FAULT,
-            sdt_other: NO_FAULT,
-            eit_actual: NO_FAULT,
-            eit_other: NO_FAULT,
-            tdt: NO_FAULT,
-        }
+        CheckCounts { rows: NO_FAULTS }
     }
 
-    // Counts a fault of a check at a packet.
-    #[tactic(auto, unfolding(crate::specs::CheckCounts::with_check))]
-    fn add(&mut self, check: Check, packet: u64)
-        ensures { self.new ≡ spec.with_check self.old check packet }
+    /// Counts a fault in each check that it fails.
+    pub fn take(&mut self, fault: &Fault)
+        ensures { self.new ≡ spec.with_counted self.old fault.now }
     {
-        match check {
-            Check::SyncLoss => self.sync_loss = with_fault(self.sync_loss, packet),
-            Check::SyncByte => self.sync_byte = with_fault(self.sync_byte, packet),
-            Check::Pat => self.pat = with_fault(self.pat, packet),
-            Check::Continuity => self.continuity = with_fault(self.continuity, packet),
-            Check::Pmt => self.pmt = with_fault(self.pmt, packet),
-            Check::Pid => self.pid = with_fault(self.pid, packet),
-            Check::Transport => self.transport = with_fault(self.transport, packet),
-            Check::Crc => self.crc = with_fault(self.crc, packet),
-            Check::PcrRepetition => self.pcr_repetition = with_fault(self.pcr_repetition, packet),
-            Check::PcrDiscontinuity => self.pcr_discontinuity = with_fault(
-                self.pcr_discontinuity,
-                packet,
-            ),
-            Check::PcrAccuracy => self.pcr_accuracy = with_fault(self.pcr_accuracy, packet),
-            Check::NitActual => self.nit_actual = with_fault(self.nit_actual, packet),
-            Check::NitOther => self.nit_other = with_fault(self.nit_other, packet),
-            Check::Buffer => self.buffer = with_fault(self.buffer, packet),
-            Check::Unreferenced => self.unreferenced = with_fault(self.unreferenced, packet),
-            Check::SdtActual => self.sdt_actual = with_fault(self.sdt_actual, packet),
-            Check::SdtOther => self.sdt_other = with_fault(self.sdt_other, packet),
-            Check::EitActual => self.eit_actual = with_fault(self.eit_actual, packet),
-            Check::EitOther => self.eit_other = with_fault(self.eit_other, packet),
-            Check::Tdt => self.tdt = with_fault(self.tdt, packet),
-        }
-    }
-
-    /// Counts an event, if it says that a check has failed.
-    #[tactic(auto, unfolding(crate::specs::CheckCounts::with_check_if))]
-    pub fn take(&mut self, event: &Event)
-        ensures { self.new ≡ spec.with_event self.old event.now }
-    {
-        if let Some(check) = check_of(event) {
-            self.add(check, packet_of(event));
-        }
-    }
-
-    /// Counts events.
-    #[tactic(auto, unfolding(crate::specs::CheckCounts::with_events))]
-    pub fn take_all(&mut self, events: &[Event])
-        ensures { self.new ≡ spec.with_events self.old events.now }
-    {
-        for event in events {
-            self.take(event);
-        }
+        add_to(&mut self.rows, fault);
     }
 
     /// Appends the row of each check, in the order of their numbers.
-    #[tactic(auto, unfolding(crate::specs::CheckCounts::totals))]
-    pub fn push_rows(&self, events: &mut Vec<Event>) -> Result<(), AllocError>
-        ensures { OnOk result (events.new.items ≡ events.old.items ++ spec.rows self.now) }
+    pub fn push_rows(&self, time: StreamTime, events: &mut Vec<Event>) -> Result<(), AllocError>
+        ensures { OnOk result (events.new.items ≡ events.old.items ++ spec.rows time self.now) }
     {
-        let rows = [
-            row(Check::SyncLoss, self.sync_loss),
-            row(Check::SyncByte, self.sync_byte),
-            row(Check::Pat, self.pat),
-            row(Check::Continuity, self.continuity),
-            row(Check::Pmt, self.pmt),
-            row(Check::Pid, self.pid),
-            row(Check::Transport, self.transport),
-            row(Check::Crc, self.crc),
-            row(Check::PcrRepetition, self.pcr_repetition),
-            row(Check::PcrDiscontinuity, self.pcr_discontinuity),
-            row(Check::PcrAccuracy, self.pcr_accuracy),
-            row(Check::NitActual, self.nit_actual),
-            row(Check::NitOther, self.nit_other),
-            row(Check::Buffer, self.buffer),
-            row(Check::Unreferenced, self.unreferenced),
-            row(Check::SdtActual, self.sdt_actual),
-            row(Check::SdtOther, self.sdt_other),
-            row(Check::EitActual, self.eit_actual),
-            row(Check::EitOther, self.eit_other),
-            row(Check::Tdt, self.tdt),
-        ];
-        push_all(&rows, events)
+        push_all(&self.rows, time, events)
     }
 }

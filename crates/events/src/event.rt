@@ -4,8 +4,11 @@
 //! fullness are in bytes, rates in bits a second.
 use crate::check_counts::CheckTotals;
 use crate::input_event::InputEvent;
+use crate::mark_event::MarkTotals;
 use crate::packet_fault::{CheckWordFault, CounterFault, RefusedPacket};
 use crate::pid_name::PidName;
+use crate::rule_event::RuleEvent;
+use crate::summary::SummaryEvent;
 use crate::video_event::{ElementaryLate, ElementaryTotals, MultiplexingTotals};
 use std::marker::Model;
 
@@ -263,6 +266,7 @@ pub enum Event {
     Main(MainTotals),
     Multiplexing(MultiplexingTotals),
     Elementary(ElementaryTotals),
+    Marks(MarkTotals),
     System(SystemTotals),
     Clock(ClockTotals),
     Table(TableTotals),
@@ -273,4 +277,6 @@ pub enum Event {
     Missing(u16),
     Check(CheckTotals),
     End(ReportEnd),
+    Rule(RuleEvent),
+    Summary(SummaryEvent),
 }

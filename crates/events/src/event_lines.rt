@@ -3,17 +3,22 @@ ghost use Rattle.std.specs.Prelude.{◌≡◌, ◌++◌, OnOk, string_bytes};
 ghost use Rattle.events.specs.EventLines as spec;
 
 use crate::event::Event;
-use crate::fault_lines::{write_check, write_check_word, write_continuity, write_refused};
+use crate::fault::fault_of;
+use crate::fault_lines::{write_check_word, write_continuity, write_refused};
 use crate::figure_lines::{
     write_clock, write_end, write_held, write_main, write_pid, write_system, write_table,
     write_transport, write_units,
 };
 use crate::input_lines::write_input;
-use crate::lines::{number, write_line};
+use crate::lines::{number, write_last, write_line};
+use crate::mark_lines::write_marks;
 use crate::packet_lines::{
     write_ahead, write_clock_fault, write_excess, write_late, write_program_excess, write_stream,
     write_table_fault, write_unclocked,
 };
+use crate::rule_lines::write_rule;
+use crate::summary_lines::{write_check, write_fault_time, write_summary};
+use crate::timed_event::TimedEvent;
 use crate::video_lines::{write_elementary, write_elementary_late, write_multiplexing};
 use crate::window_line::write_window;
 use std::alloc::{AllocError, Global};
@@ -61,6 +66,7 @@ fn write_event(
         Event::Main(e) => write_main(text, json, e),
         Event::Multiplexing(e) => write_multiplexing(text, json, e),
         Event::Elementary(e) => write_elementary(text, json, e),
+        Event::Marks(e) => write_marks(text, json, e),
         Event::System(e) => write_system(text, json, e),
         Event::Clock(e) => write_clock(text, json, e),
         Event::Table(e) => write_table(text, json, e),
@@ -69,7 +75,23 @@ fn write_event(
         Event::Missing(pid) => write_reference(text, json, "missing", *pid),
         Event::Check(e) => write_check(text, json, e),
         Event::End(e) => write_end(text, json, e),
+        Event::Rule(e) => write_rule(text, json, e),
+        Event::Summary(e) => write_summary(text, json, e),
     }
+}
+
+// Appends the line of an event: when a fault is comes last.
+fn write_timed(
+    alloc: Global,
+    text: &mut String,
+    json: bool,
+    e: &TimedEvent,
+) -> Result<(), AllocError>
+    ensures { OnOk result (string_bytes text.new ≡ string_bytes text.old ++ spec.timed_line json e.now) }
+{
+    write_event(alloc, text, json, &e.event)?;
+    write_fault_time(text, json, &fault_of(&e.event, e.at))?;
+    write_last(text, json)
 }
 
 /// Appends the lines of events, each a JSON object if `json`, else plain.
@@ -77,12 +99,12 @@ pub fn write_events(
     alloc: Global,
     text: &mut String,
     json: bool,
-    events: &[Event],
+    events: &[TimedEvent],
 ) -> Result<(), AllocError>
     ensures { OnOk result (string_bytes text.new ≡ string_bytes text.old ++ spec.lines_of json events.now) }
 {
     for event in events {
-        write_event(alloc, text, json, event)?;
+        write_timed(alloc, text, json, event)?;
     }
     Ok(())
 }

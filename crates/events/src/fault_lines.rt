@@ -1,8 +1,7 @@
-//! The lines of faults of packets and sections, and of the checks of ETSI TR 101 290.
+//! The lines of faults of packets and sections.
 ghost use Rattle.std.specs.Prelude.{◌≡◌, ◌++◌, OnOk, string_bytes};
 ghost use Rattle.events.specs.FaultLines as spec;
 
-use crate::check_counts::CheckTotals;
 use crate::lines::{number, word, write_line};
 use crate::packet_fault::{CheckWordFault, CounterFault, RefusalCause, RefusedPacket};
 use std::alloc::AllocError;
@@ -63,18 +62,4 @@ pub(crate) fn write_check_word(
         number("packet", u128::from(e.packet)),
     ];
     write_line(text, json, "check_word", &fields)
-}
-
-/// Appends `check`.
-pub(crate) fn write_check(text: &mut String, json: bool, e: &CheckTotals) -> Result<(), AllocError>
-    ensures { OnOk result (string_bytes text.new ≡ string_bytes text.old ++ spec.check_line json e.now) }
-{
-    let fields = [
-        word("number", e.check.number()),
-        word("name", e.check.name()),
-        number("faults", u128::from(e.count.faults)),
-        number("first", u128::from(e.count.first)),
-        number("last", u128::from(e.count.last)),
-    ];
-    write_line(text, json, "check", &fields)
 }

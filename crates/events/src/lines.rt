@@ -13,6 +13,8 @@ use std::marker::Model;
 pub enum FieldValue {
     Number(u128),
     Word(&'static str),
+    /// A moment in ticks, which is written in seconds.
+    Seconds(u128),
 }
 
 /// A field of a line.
@@ -52,6 +54,27 @@ pub(crate) fn word(name: &'static str, value: &'static str) -> Field
     }
 }
 
+/// Returns a field with a moment in seconds.
+#[tactic(auto, unfolding(crate::specs::FieldViews::value_view))]
+pub(crate) fn seconds(name: &'static str, ticks: u128) -> Field
+    ensures { result ≡ spec.seconds_field name.now ticks }
+{
+    Field {
+        name,
+        value: FieldValue::Seconds(ticks),
+    }
+}
+
+/// Appends a moment in seconds, rounded down to milliseconds.
+pub(crate) fn write_seconds(text: &mut String, ticks: u128) -> Result<(), AllocError>
+    ensures { OnOk result (string_bytes text.new ≡ string_bytes text.old ++ spec.seconds_text ticks) }
+{
+    let millis = ticks / 27_000;
+    let (whole, tenths) = (millis / 1_000, millis / 100 % 10);
+    let (hundredths, thousandths) = (millis / 10 % 10, millis % 10);
+    write!(text, "{whole}.{tenths}{hundredths}{thousandths}")
+}
+
 #[tactic(auto, unfolding(crate::specs::ReportLines::value_text, crate::specs::FieldViews::value_view))]
 fn write_value(text: &mut String, json: bool, value: FieldValue) -> Result<(), AllocError>
     ensures { OnOk result (string_bytes text.new ≡ string_bytes text.old ++ spec.value_text json (value_view value)) }
@@ -65,6 +88,7 @@ fn write_value(text: &mut String, json: bool, value: FieldValue) -> Result<(), A
                 text.push_str(word)
             }
         }
+        FieldValue::Seconds(ticks) => write_seconds(text, ticks),
     }
 }
 
@@ -159,7 +183,7 @@ pub(crate) fn write_quoted(alloc: Global, text: &mut String, quoted: &str) -> Re
     text.push_str("\"")
 }
 
-/// Appends a line.
+/// Appends a line without its end.
 pub(crate) fn write_line(
     text: &mut String,
     json: bool,
@@ -170,6 +194,5 @@ pub(crate) fn write_line(
         ≡ string_bytes text.old ++ spec.line_of json word.now (fields.now)) }
 {
     write_first(text, json, word)?;
-    write_fields(text, json, fields)?;
-    write_last(text, json)
+    write_fields(text, json, fields)
 }

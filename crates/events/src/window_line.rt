@@ -5,7 +5,7 @@ ghost use Rattle.events.specs.ReportLines.{field_text};
 
 use crate::event::WindowFigures;
 use crate::lines::{
-    number, word, write_field, write_fields, write_first, write_last, write_name, write_quoted,
+    number, word, write_field, write_fields, write_first, write_name, write_quoted,
 };
 use std::alloc::{AllocError, Global};
 
@@ -66,7 +66,7 @@ fn write_label(
     write_service(alloc, text, json, &window.service)
 }
 
-/// Appends `window`.
+/// Appends `window`, without its end.
 pub(crate) fn write_window(
     alloc: Global,
     text: &mut String,
@@ -77,6 +77,5 @@ pub(crate) fn write_window(
 {
     write_first(text, json, "window")?;
     write_counts(text, json, window)?;
-    write_label(alloc, text, json, window)?;
-    write_last(text, json)
+    write_label(alloc, text, json, window)
 }

@@ -33,7 +33,7 @@ use Rattle.stream_jobs.specs.declared.refusal.JobError.TheVariants.{Memory, Refu
 use Rattle.stream_jobs.specs.declared.refusal.JobRefusal.{JobRefusal}
 use Rattle.stream_jobs.proofs.JoinedStreams.{joined_found}
 use Rattle.job_run.specs.JobArguments.{JobArgumentsView}
-use Rattle.job_run.specs.Outcomes.{ReportsWhy, Withholds, is_told_less, status_of, told_lines}
+use Rattle.job_run.specs.Outcomes.{ReportsWhy, Withholds, is_told_less, status_of, told_lines, unless_quiet}
 use Rattle.job_run.specs.SeveralInputs.{GivesIn, InputsLead, JoinedLead, NamedStream, all_findings, all_joined, are_streams_less, input_or_line, names_of, packets_input, stream_input, stream_inputs, streams_lines, under, with_first}
 use Rattle.job_run.specs.StreamFiles.{AreNamedInputs, AreTaken, EndsAt, FilesLead, HasRead, IsInput, IsInputIn, IsInputOf, IsLedTo, IsNamedInput, IsRefusalOf, IsTakenFrom, IsTakenOf, JoinedLeads, TakenLead, TakenView, read_line, stopped_by, taken_lines, told_under}
 use Rattle.job_run.specs.Streams.{IsOfStream, IsRead, PacketNotesView, ReadingView, findings_of, notes_of}
@@ -45,13 +45,13 @@ unfolding Answers
 answered r m is = is
 
 pub is_taken_of : (a : JobArgumentsView) (notes : PacketNotesView) (count : ℕ) (findings : List FindingView) (m : JobInputView) (t : TakenView) →
-    Answers (job_input a.options count findings) (Ok m) → AreStreams a.options.make_dts findings m → t.input ≡ m → t.lines ≡ told_lines a.whole notes findings m →
-    t.less ≡ is_told_less a.whole notes findings m → IsTakenOf a notes count findings t
+    Answers (job_input a.options count findings) (Ok m) → AreStreams a.options.make_dts findings m → t.input ≡ m → t.lines ≡ told_lines a.reporting notes findings m →
+    t.less ≡ is_told_less a.reporting notes findings m → IsTakenOf a notes count findings t
 is_taken_of a notes count findings m t is streams same lines less = record {
   input_is = answered (job_input a.options count findings) m is ∙ ap (λ (x : JobInputView). Ok x) (sym same);
   streams = subst (λ (x : JobInputView). AreStreams a.options.make_dts findings x) (sym same) streams;
-  lines_are = lines ∙ ap (λ (x : JobInputView). told_lines a.whole notes findings x) (sym same);
-  less_is = less ∙ ap (λ (x : JobInputView). is_told_less a.whole notes findings x) (sym same);
+  lines_are = lines ∙ ap (λ (x : JobInputView). told_lines a.reporting notes findings x) (sym same);
+  less_is = less ∙ ap (λ (x : JobInputView). is_told_less a.reporting notes findings x) (sym same);
 }
 
 pub is_refusal_of : (a : JobArgumentsView) (count : ℕ) (findings : List FindingView) (error : JobError) (o : Outcome) → Answers (job_input a.options count findings) (Err error) → ReportsWhy error o →
@@ -182,7 +182,7 @@ named_at [] s after = refl
 named_at (b ∷ bs) s after = named_at bs s after
 
 lines_are : (a : JobArgumentsView) (before : List NamedStream) (number : ℕ) (streams : List NamedStream) (taken : List TakenView) → length before ≡ number → AllZip (IsTakenFrom a) streams taken →
-    taken_lines (names_of (before ++ streams)) number taken ≡ streams_lines a.whole number streams (map (λ t. t.input) taken)
+    taken_lines (names_of (before ++ streams)) number taken ≡ streams_lines a.reporting number streams (map (λ t. t.input) taken)
 unfolding taken_lines streams_lines
 lines_are a before number [] [] at all = refl
 lines_are a before number [] (t ∷ ts) at all = absurd all
@@ -192,12 +192,12 @@ lines_are a before number (s ∷ ss) (t ∷ ts) at all =
     let ms = map (λ t. t.input) ts in
     let here : name_of names number ≡ s.name = ap (λ (n : ℕ). name_of names n) (sym at) ∙ named_at before s ss in
     let size : length (before ++ s ∷ []) ≡ number + 1 = length-append before (s ∷ []) ∙ ap (λ (n : ℕ). n + 1) at in
-    let later : taken_lines names (number + 1) ts ≡ streams_lines a.whole (number + 1) ss ms =
-    subst (λ (l : List NamedStream). taken_lines (names_of l) (number + 1) ts ≡ streams_lines a.whole (number + 1) ss ms) (append_assoc before (s ∷ []) ss)
+    let later : taken_lines names (number + 1) ts ≡ streams_lines a.reporting (number + 1) ss ms =
+    subst (λ (l : List NamedStream). taken_lines (names_of l) (number + 1) ts ≡ streams_lines a.reporting (number + 1) ss ms) (append_assoc before (s ∷ []) ss)
     (lines_are a (before ++ s ∷ []) (number + 1) ss ts size all.1) in
     ap (λ (l : List ℕ). under number (name_of names number) t.lines ++ l) later
-    ∙ ap (λ (n : List ℕ). under number n t.lines ++ streams_lines a.whole (number + 1) ss ms) here
-    ∙ ap (λ (l : List ℕ). under number s.name l ++ streams_lines a.whole (number + 1) ss ms) all.0.lines_are
+    ∙ ap (λ (n : List ℕ). under number n t.lines ++ streams_lines a.reporting (number + 1) ss ms) here
+    ∙ ap (λ (l : List ℕ). under number s.name l ++ streams_lines a.reporting (number + 1) ss ms) all.0.lines_are
 
 -- the lines one after another
 taken_step : (names : List (List ℕ)) (taken : List TakenView) (k : ℕ) (t : TakenView) → k < length taken → t ≡ get_or taken k t →
@@ -222,7 +222,7 @@ taken_whole names taken k text whole over so =
     sym (append-nil text) ∙ ap (λ (x : List ℕ). text ++ x) (sym (ap (λ (ts : List TakenView). taken_lines names k ts) (drop_all k taken over) ∙ no_lines names k)) ∙ so
 
 less_is : (a : JobArgumentsView) (streams : List NamedStream) (taken : List TakenView) → AllZip (IsTakenFrom a) streams taken →
-    list_any (λ t. t.less) taken ≡ are_streams_less a.whole streams (map (λ t. t.input) taken)
+    list_any (λ t. t.less) taken ≡ are_streams_less a.reporting streams (map (λ t. t.input) taken)
 unfolding are_streams_less
 less_is a [] [] all = refl
 less_is a [] (t ∷ ts) all = absurd all
@@ -271,10 +271,10 @@ few_taken a files names taken are = few_of a are.streams taken are.are
 
 pub given_of : (a : JobArgumentsView) (names : List (List ℕ)) (taken : List TakenView) (j : JoinedInputsView) (lines : List ℕ) (less : Bool) (o : Outcome) → lines ≡ taken_lines names 0 taken →
     less ≡ list_any (λ t. t.less) taken → ((inputs : List (List FindingView)) → AreStreamsIn a.options.make_dts inputs j → GivesIn a.subcommand a.options inputs j o.output) →
-    o.report ≡ lines ++ note_lines names j.notes → o.status ≡ status_of a.subcommand o.output (less || are_lost j.notes) → JoinedLeads a names taken (Ok j) o
+    o.report ≡ lines ++ unless_quiet a.reporting.quiet (note_lines names j.notes) → o.status ≡ status_of a.subcommand o.output (less || are_lost j.notes) → JoinedLeads a names taken (Ok j) o
 given_of a names taken j lines less o said lost gives report status = inl (record {
   gives = gives;
-  report_is = report ∙ ap (λ (l : List ℕ). l ++ note_lines names j.notes) said;
+  report_is = report ∙ ap (λ (l : List ℕ). l ++ unless_quiet a.reporting.quiet (note_lines names j.notes)) said;
   status_is = status ∙ ap (λ (b : Bool). status_of a.subcommand o.output (b || are_lost j.notes)) lost;
 })
 
@@ -296,8 +296,8 @@ joined_lead a files names taken o are (Ok j) is (inl given) =
     let ms = map (λ t. t.input) taken in
     inl (record {
       gives = given.gives (all_findings are.streams) (are_in a.options.make_dts (all_findings are.streams) ms j (are_made a [] 0 are.streams taken refl are.are) is);
-      report_is = given.report_is ∙ ap (λ (l : List (List ℕ)). taken_lines l 0 taken ++ note_lines l j.notes) (names_are files names are.streams are.read)
-          ∙ ap (λ (l : List ℕ). l ++ note_lines (names_of are.streams) j.notes) (lines_are a [] 0 are.streams taken refl are.are);
+      report_is = given.report_is ∙ ap (λ (l : List (List ℕ)). taken_lines l 0 taken ++ unless_quiet a.reporting.quiet (note_lines l j.notes)) (names_are files names are.streams are.read)
+          ∙ ap (λ (l : List ℕ). l ++ unless_quiet a.reporting.quiet (note_lines (names_of are.streams) j.notes)) (lines_are a [] 0 are.streams taken refl are.are);
       status_is = given.status_is ∙ ap (λ (b : Bool). status_of a.subcommand o.output (b || are_lost j.notes)) (less_is a are.streams taken are.are);
     })
 

@@ -1,6 +1,6 @@
 -- The lines for fields of packets and of PES headers that are not written again.
 use Rattle.std.specs.Prelude.{ℕ, Bool, ◌||◌, ◌&&◌, List, ◌++◌, flat_map, filter, codes, decimal}
-use Rattle.packet_sync.specs.Fields.{is_of_packet}
+use Rattle.packet_sync.specs.Fields.{is_loss, is_of_packet}
 use Rattle.packet_sync.specs.declared.field.Field.{Field}
 use Rattle.packet_sync.specs.declared.field.Field.TheVariants.{TransportPriority, Discontinuity, RandomAccess, StreamPriority, OriginalClock, SpliceCountdown, AdaptationPrivateData, AdaptationExtension, Alignment, Flags, Scrambling, LongHeader, PrivateData, OtherHeaderData, UnreadHeader}
 use Rattle.packet_sync.specs.declared.left_out.FieldLeftOut.{FieldLeftOut}
@@ -31,8 +31,12 @@ abbrev pub field_lines : List FieldLeftOut → List ℕ
 field_lines fields = flat_map field_line fields
 
 -- a PID of a stream that is carried; for a field of packets also one of a table that is carried, or of a program's clock
-abbrev pub is_told : JobInputView → FieldLeftOut → Bool
-is_told m f = has_stream m f.pid || (is_of_packet f.field && (carries_table m f.pid || has_clock m f.pid))
+abbrev pub is_carried : JobInputView → FieldLeftOut → Bool
+is_carried m f = has_stream m f.pid || (is_of_packet f.field && (carries_table m f.pid || has_clock m f.pid))
 
-abbrev pub told_fields : JobInputView → List FieldLeftOut → List FieldLeftOut
-told_fields m fields = filter (is_told m) fields
+-- a field by which a viewer loses nothing is reported where all are
+abbrev pub is_told : Bool → JobInputView → FieldLeftOut → Bool
+is_told all m f = is_carried m f && (all || is_loss f.field)
+
+abbrev pub told_fields : Bool → JobInputView → List FieldLeftOut → List FieldLeftOut
+told_fields all m fields = filter (is_told all m) fields

@@ -1,11 +1,12 @@
 -- What is asked for of a stream.
-use Rattle.std.specs.Prelude.{ℕ, Bool, List, Option}
+use Rattle.std.specs.Prelude.{ℕ, List, Option}
 use Rattle.stream_jobs.specs.JobOptions.{JobOptionsView}
+use Rattle.job_run.specs.declared.job_arguments.Reporting.{Reporting}
 use Rattle.job_run.specs.declared.job_arguments.Subcommand.{Subcommand}
 
--- what is written, the file of a description for a stream that comes, whether the input is said to be whole, and the options of the job
+-- what is written, the file of a description for a stream that comes, which lines are reported, and the options of the job
 pub record JobArgumentsView : Type 0 where
   pub subcommand : Subcommand
   pub stream : Option (List ℕ)
-  pub whole : Bool
+  pub reporting : Reporting
   pub options : JobOptionsView

@@ -10,3 +10,4 @@ pub mod Streams
 pub mod Outcomes
 pub mod SeveralInputs
 pub mod StreamFiles
+pub mod Laws

@@ -1,5 +1,5 @@
 -- The outcome for a transport stream.
-use Rattle.std.specs.Prelude.{◌≡◌, ◌⊎◌, ℕ, ◌/◌, ◌==◌, ◌||◌, not, Bool, true, false, List, ◌++◌, length, map, codes, decimal, if◌then◌else◌, Option, Some, None, Result, Ok, Err}
+use Rattle.std.specs.Prelude.{◌≡◌, ◌⊎◌, ℕ, ◌/◌, ◌==◌, ◌||◌, not, Bool, true, false, List, [], ◌++◌, length, map, codes, decimal, if◌then◌else◌, Option, Some, None, Result, Ok, Err}
 use Rattle.std.specs.List.{list_any}
 use Rattle.std.specs.Str.{IsUtf8}
 use Rattle.pes_packet.specs.AccessUnits.{AccessUnit}
@@ -33,6 +33,7 @@ use Rattle.devices.specs.Devices.{Device, HasFailed, IsClean, Takes}
 use Rattle.devices.specs.Outcomes.{halt_line, Outcome, reported}
 use Rattle.devices.specs.Lines.{Reports, Stopped}
 use Rattle.devices.specs.declared.halt.Halt.TheVariants.{Write}
+use Rattle.job_run.specs.declared.job_arguments.Reporting.{Reporting}
 use Rattle.job_run.specs.declared.job_arguments.Subcommand.{Subcommand}
 use Rattle.job_run.specs.declared.job_arguments.Subcommand.TheVariants.{Whole, Describe, Units, Why}
 use Rattle.job_run.specs.JobArguments.{JobArgumentsView}
@@ -126,12 +127,17 @@ is_less slips fields tables warnings =
 abbrev pub loss_lines : List Slip → List FieldLeftOut → List OtherTable → List Warning → List ℕ
 loss_lines slips fields tables warnings = slip_lines slips ++ field_lines fields ++ other_table_lines tables ++ warning_lines warnings
 
--- the same of a stream of which a job takes this
-abbrev pub told_lines : Bool → PacketNotesView → List FindingView → JobInputView → List ℕ
-told_lines whole notes findings m = loss_lines notes.slips (told_fields m notes.fields) (told_tables m (other_tables findings)) (told_warnings whole m.warnings)
+-- no lines where only refusals are reported
+abbrev pub unless_quiet : Bool → List ℕ → List ℕ
+unless_quiet quiet lines = if quiet then [] else lines
 
-abbrev pub is_told_less : Bool → PacketNotesView → List FindingView → JobInputView → Bool
-is_told_less whole notes findings m = is_less notes.slips (told_fields m notes.fields) (told_tables m (other_tables findings)) (told_warnings whole m.warnings)
+-- the same of a stream of which a job takes this
+abbrev pub told_lines : Reporting → PacketNotesView → List FindingView → JobInputView → List ℕ
+told_lines r notes findings m =
+    unless_quiet r.quiet (loss_lines notes.slips (told_fields r.all m notes.fields) (told_tables r.all m (other_tables findings)) (told_warnings r m.warnings))
+
+abbrev pub is_told_less : Reporting → PacketNotesView → List FindingView → JobInputView → Bool
+is_told_less r notes findings m = is_less notes.slips (told_fields r.all m notes.fields) (told_tables r.all m (other_tables findings)) (told_warnings r m.warnings)
 
 -- the status 1: of reasons where there is one, else where something is lost
 abbrev pub status_of : Subcommand → List ℕ → Bool → ℕ
@@ -143,8 +149,8 @@ status_of Why output less = if length output == 0 then 0 else 1
 -- the output, the lines of what is left out, and the status
 pub record IsGiven (arguments : JobArgumentsView) (notes : PacketNotesView) (findings : List FindingView) (m : JobInputView) (o : Outcome) : Type 0 where
   pub gives : Gives arguments.subcommand arguments.options findings m o.output
-  pub report_is : o.report ≡ told_lines arguments.whole notes findings m
-  pub status_is : o.status ≡ status_of arguments.subcommand o.output (is_told_less arguments.whole notes findings m)
+  pub report_is : o.report ≡ told_lines arguments.reporting notes findings m
+  pub status_is : o.status ≡ status_of arguments.subcommand o.output (is_told_less arguments.reporting notes findings m)
 
 -- nothing is written but the line of the refusal, and the status is 1
 pub record IsRefused (arguments : JobArgumentsView) (m : JobInputView) (o : Outcome) : Type 0 where

@@ -1,13 +1,13 @@
 -- The line for the refusal of a stream.
-use Rattle.std.specs.Prelude.{ℕ, Bool, if◌then◌else◌, List, ◌++◌, Option, Some, None, codes, decimal}
-use Rattle.description.specs.Codes.{fault_code, fault_item}
+use Rattle.std.specs.Prelude.{ℕ, Bool, if◌then◌else◌, List, [], ◌++◌, Option, Some, None, codes, decimal}
+use Rattle.diagnosis.specs.FaultLines.{fault_line}
 use Rattle.es_units.specs.declared.stamps.StampFault.{StampFault}
 use Rattle.es_units.specs.declared.stamps.StampFault.TheVariants.{DtsNotIncreasing, PtsOutOfRange, DtsTooFar}
 use Rattle.es_units.specs.declared.dts_from_pts.DtsFault.{DtsFault}
 use Rattle.es_units.specs.declared.dts_from_pts.DtsFault.TheVariants.{SamePts, PtsTooLate}
 use Rattle.stream_jobs.specs.declared.refusal.GreaterBuffers.{GreaterBuffers}
 use Rattle.stream_jobs.specs.declared.refusal.JobRefusal.{JobRefusal}
-use Rattle.stream_jobs.specs.declared.refusal.JobRefusal.TheVariants.{NoPackets, NoAssociation, NoProgram, NoStream, Scrambled, Programs, Streams, StreamId, OtherStreamId, Stamps, Dts, Units, Size, Buffers, Pids, Description, Plan, Declaration}
+use Rattle.stream_jobs.specs.declared.refusal.JobRefusal.TheVariants.{NoPackets, NoAssociation, NoProgram, NoStream, Scrambled, Programs, Streams, StreamId, NoStamps, OtherStreamId, Stamps, Dts, Units, Size, Buffers, Pids, Description, Plan, Declaration}
 
 -- time stamps that can't be moments of a run, after the packet and the PID of their unit
 unfoldable pub stamps_text : StampFault → List ℕ
@@ -37,13 +37,14 @@ way_text pid (Some b) = greater_text pid b.rx b.main
 
 unfoldable pub refusal_line : JobRefusal → List ℕ
 refusal_line NoPackets = codes "not a stream of 188-byte packets\n"
-refusal_line NoAssociation = codes "no PAT\n"
-refusal_line NoProgram = codes "no PMT\n"
+refusal_line NoAssociation = codes "no PAT: the stream is empty, or names no programs\n"
+refusal_line NoProgram = codes "no PMT: none of the programs that are asked for is there; tsview lists the programs that are\n"
 refusal_line NoStream = codes "no stream\n"
 refusal_line Scrambled = codes "no stream that is not scrambled\n"
 refusal_line (Programs count) = decimal count ++ codes " programs: more than 16\n"
 refusal_line (Streams count) = decimal count ++ codes " streams: more than 32\n"
 refusal_line (StreamId packet pid id) = codes "packet " ++ decimal packet ++ codes " pid " ++ decimal pid ++ codes " stream_id " ++ decimal id ++ codes " cannot be written\n"
+refusal_line (NoStamps pid) = codes "pid " ++ decimal pid ++ codes " has no PTS in its PES packets\n"
 refusal_line (OtherStreamId packet pid id first) = codes "packet " ++ decimal packet ++ codes " pid " ++ decimal pid ++ codes " stream_id " ++ decimal id ++ codes " after " ++ decimal first ++ codes "\n"
 refusal_line (Stamps packet pid fault mended) = codes "packet " ++ decimal packet ++ codes " pid " ++ decimal pid ++ stamps_text fault ++ remedy_text mended
 refusal_line (Dts pid fault) = codes "pid " ++ decimal pid ++ making_text fault
@@ -51,6 +52,6 @@ refusal_line (Units pid count) = codes "pid " ++ decimal pid ++ codes " has " ++
 refusal_line (Size pid size) = codes "pid " ++ decimal pid ++ codes " unit of " ++ decimal size ++ codes " bytes is too large\n"
 refusal_line (Buffers pid size rx main way) = unfit_text pid size rx main ++ way_text pid way
 refusal_line Pids = codes "no PID is left for a PMT or a PCR\n"
-refusal_line (Description fault) = codes "description " ++ decimal (fault_code fault) ++ codes " " ++ decimal (fault_item fault) ++ codes "\n"
-refusal_line (Plan rate) = codes "no plan at rate " ++ decimal rate ++ codes "\n"
+refusal_line (Description fault) = codes "the description is refused: " ++ fault_line [] fault
+refusal_line (Plan rate) = codes "no plan at rate " ++ decimal rate ++ codes ": tsjob why names what prevents one\n"
 refusal_line (Declaration pid) = codes "pid " ++ decimal pid ++ codes " breaks its own declaration\n"

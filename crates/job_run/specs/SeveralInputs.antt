@@ -22,10 +22,11 @@ use Rattle.job_run.specs.InputLines.{are_lost, input_line, note_lines}
 use Rattle.job_run.specs.RefusalLine.{refusal_line}
 use Rattle.job_run.specs.SlipLines.{packets_line}
 use Rattle.es_feed.specs.Records.{written}
+use Rattle.job_run.specs.declared.job_arguments.Reporting.{Reporting}
 use Rattle.job_run.specs.declared.job_arguments.Subcommand.{Subcommand}
 use Rattle.job_run.specs.declared.job_arguments.Subcommand.TheVariants.{Whole, Describe, Units, Why}
 use Rattle.job_run.specs.JobArguments.{JobArgumentsView}
-use Rattle.job_run.specs.Outcomes.{GivesReasons, GivesUnits, Withholds, is_told_less, status_of, told_lines}
+use Rattle.job_run.specs.Outcomes.{GivesReasons, GivesUnits, Withholds, is_told_less, status_of, told_lines, unless_quiet}
 use Rattle.job_run.specs.Streams.{findings_of, notes_of}
 
 -- a stream: the name of its file, and its bytes
@@ -67,32 +68,32 @@ stream_inputs options number (s ∷ streams) = with_first number s.name (stream_
 -- 2. What is told
 
 -- of a stream of which a job takes this
-abbrev pub stream_lines : Bool → JobInputView → List ℕ → List ℕ
-stream_lines whole m bytes = told_lines whole (notes_of bytes) (findings_of (carried bytes)) m
+abbrev pub stream_lines : Reporting → JobInputView → List ℕ → List ℕ
+stream_lines r m bytes = told_lines r (notes_of bytes) (findings_of (carried bytes)) m
 
 -- under the number and the name of its input, if there is anything
 unfoldable pub under : ℕ → List ℕ → List ℕ → List ℕ
 under number name lines = if length lines == 0 then [] else input_line number name ++ lines
 
 -- of all, one after another, numbered from `number` on
-unfoldable pub streams_lines : Bool → ℕ → List NamedStream → List JobInputView → List ℕ
-streams_lines whole number (s ∷ streams) (m ∷ ms) = under number s.name (stream_lines whole m s.bytes) ++ streams_lines whole (number + 1) streams ms
-streams_lines whole number streams ms = []
+unfoldable pub streams_lines : Reporting → ℕ → List NamedStream → List JobInputView → List ℕ
+streams_lines r number (s ∷ streams) (m ∷ ms) = under number s.name (stream_lines r m s.bytes) ++ streams_lines r (number + 1) streams ms
+streams_lines r number streams ms = []
 
 -- and then what becomes of those after the first
-abbrev pub all_lines : Bool → List NamedStream → List JobInputView → JoinedInputsView → List ℕ
-all_lines whole streams ms j = streams_lines whole 0 streams ms ++ note_lines (names_of streams) j.notes
+abbrev pub all_lines : Reporting → List NamedStream → List JobInputView → JoinedInputsView → List ℕ
+all_lines r streams ms j = streams_lines r 0 streams ms ++ unless_quiet r.quiet (note_lines (names_of streams) j.notes)
 
 -- something of a stream is lost
-abbrev pub is_stream_less : Bool → JobInputView → List ℕ → Bool
-is_stream_less whole m bytes = is_told_less whole (notes_of bytes) (findings_of (carried bytes)) m
+abbrev pub is_stream_less : Reporting → JobInputView → List ℕ → Bool
+is_stream_less r m bytes = is_told_less r (notes_of bytes) (findings_of (carried bytes)) m
 
-unfoldable pub are_streams_less : Bool → List NamedStream → List JobInputView → Bool
-are_streams_less whole (s ∷ streams) (m ∷ ms) = is_stream_less whole m s.bytes || are_streams_less whole streams ms
-are_streams_less whole streams ms = false
+unfoldable pub are_streams_less : Reporting → List NamedStream → List JobInputView → Bool
+are_streams_less r (s ∷ streams) (m ∷ ms) = is_stream_less r m s.bytes || are_streams_less r streams ms
+are_streams_less r streams ms = false
 
-abbrev pub is_any_less : Bool → List NamedStream → List JobInputView → JoinedInputsView → Bool
-is_any_less whole streams ms j = are_streams_less whole streams ms || are_lost j.notes
+abbrev pub is_any_less : Reporting → List NamedStream → List JobInputView → JoinedInputsView → Bool
+is_any_less r streams ms j = are_streams_less r streams ms || are_lost j.notes
 
 -- 3. What is written
 
@@ -120,8 +121,8 @@ GivesIn Why w inputs j output = GivesReasons w j.input output
 
 pub record IsGivenIn (arguments : JobArgumentsView) (streams : List NamedStream) (ms : List JobInputView) (j : JoinedInputsView) (o : Outcome) : Type 0 where
   pub gives : GivesIn arguments.subcommand arguments.options (all_findings streams) j o.output
-  pub report_is : o.report ≡ all_lines arguments.whole streams ms j
-  pub status_is : o.status ≡ status_of arguments.subcommand o.output (is_any_less arguments.whole streams ms j)
+  pub report_is : o.report ≡ all_lines arguments.reporting streams ms j
+  pub status_is : o.status ≡ status_of arguments.subcommand o.output (is_any_less arguments.reporting streams ms j)
 
 -- nothing is written but the line of the refusal, and the status is 1
 pub record IsRefusedIn (arguments : JobArgumentsView) (j : JoinedInputsView) (o : Outcome) : Type 0 where

@@ -16,7 +16,7 @@ use Rattle.stream_jobs.specs.declared.refusal.JobRefusal.{JobRefusal}
 use Rattle.job_run.specs.InputLines.{are_lost, input_line, name_of, note_lines}
 use Rattle.job_run.specs.RefusalLine.{refusal_line}
 use Rattle.job_run.specs.JobArguments.{JobArgumentsView}
-use Rattle.job_run.specs.Outcomes.{IsWritten, is_told_less, status_of, told_lines}
+use Rattle.job_run.specs.Outcomes.{IsWritten, is_told_less, status_of, told_lines, unless_quiet}
 use Rattle.job_run.specs.SeveralInputs.{GivesIn, IsRefusedIn, NamedStream, StreamsLead, all_joined, is_stream_less, stream_input, stream_inputs, stream_lines, under}
 use Rattle.job_run.specs.Streams.{PacketNotesView, findings_of}
 
@@ -32,8 +32,8 @@ pub record TakenView : Type 0 where
 pub record IsTakenOf (a : JobArgumentsView) (notes : PacketNotesView) (count : ℕ) (findings : List FindingView) (t : TakenView) : Type 0 where
   pub input_is : job_input a.options count findings ≡ Ok t.input
   pub streams : AreStreams a.options.make_dts findings t.input
-  pub lines_are : t.lines ≡ told_lines a.whole notes findings t.input
-  pub less_is : t.less ≡ is_told_less a.whole notes findings t.input
+  pub lines_are : t.lines ≡ told_lines a.reporting notes findings t.input
+  pub less_is : t.less ≡ is_told_less a.reporting notes findings t.input
 
 -- or they are refused
 pub record IsRefusalOf (a : JobArgumentsView) (count : ℕ) (findings : List FindingView) (o : Outcome) : Type 0 where
@@ -49,8 +49,8 @@ IsInputOf a notes count findings (Err o) = IsRefusalOf a count findings o
 pub record IsTaken (a : JobArgumentsView) (bytes : List ℕ) (t : TakenView) : Type 0 where
   pub input_is : stream_input a.options bytes ≡ Ok t.input
   pub streams : AreStreams a.options.make_dts (findings_of (carried bytes)) t.input
-  pub lines_are : t.lines ≡ stream_lines a.whole t.input bytes
-  pub less_is : t.less ≡ is_stream_less a.whole t.input bytes
+  pub lines_are : t.lines ≡ stream_lines a.reporting t.input bytes
+  pub less_is : t.less ≡ is_stream_less a.reporting t.input bytes
 
 -- or the line that says why a job takes nothing of it
 pub record IsUntaken (a : JobArgumentsView) (bytes : List ℕ) (o : Outcome) : Type 0 where
@@ -69,10 +69,10 @@ abbrev pub stopped_by : List ℕ → Outcome
 stopped_by why = record { output = []; report = why; status = 3 }
 
 abbrev pub open_line : List ℕ
-open_line = codes "open\n"
+open_line = codes "can't be opened\n"
 
 abbrev pub read_line : List ℕ
-read_line = codes "read\n"
+read_line = codes "can't be read to its end\n"
 
 abbrev pub IsStop : Files → List ℕ → Outcome → Type 0
 IsStop files name o = ((o ≡ stopped_by open_line) × IsUnopened files name) ⊎ ((o ≡ stopped_by read_line) × IsUnread files name)
@@ -130,7 +130,7 @@ taken_lines names number (t ∷ ts) = under number (name_of names number) t.line
 -- what is joined of streams leads to it, whatever was found in them
 pub record IsGivenOf (a : JobArgumentsView) (names : List (List ℕ)) (taken : List TakenView) (j : JoinedInputsView) (o : Outcome) : Type 0 where
   pub gives : (inputs : List (List FindingView)) → AreStreamsIn a.options.make_dts inputs j → GivesIn a.subcommand a.options inputs j o.output
-  pub report_is : o.report ≡ taken_lines names 0 taken ++ note_lines names j.notes
+  pub report_is : o.report ≡ taken_lines names 0 taken ++ unless_quiet a.reporting.quiet (note_lines names j.notes)
   pub status_is : o.status ≡ status_of a.subcommand o.output (list_any (λ t. t.less) taken || are_lost j.notes)
 
 abbrev pub JoinedLeads : JobArgumentsView → List (List ℕ) → List TakenView → Result JoinedInputsView JobRefusal → Outcome → Type 0

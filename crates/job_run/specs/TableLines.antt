@@ -1,5 +1,6 @@
 -- The lines for tables that no job is made of.
-use Rattle.std.specs.Prelude.{ℕ, not, List, ◌++◌, flat_map, filter, codes, decimal}
+use Rattle.std.specs.Prelude.{ℕ, ◌&&◌, ◌||◌, Bool, not, List, ◌++◌, flat_map, filter, codes, decimal}
+use Rattle.other_tables.specs.TableKinds.{is_loss}
 use Rattle.other_tables.specs.declared.kinds.TableKind.{TableKind}
 use Rattle.other_tables.specs.declared.kinds.TableKind.TheVariants.{ConditionalAccess, Objects, Network, Services, Events, Time, Running, Applications, Splices, Private}
 use Rattle.other_tables.specs.declared.tables.OtherTable.{OtherTable}
@@ -24,6 +25,9 @@ other_table_line t = codes "pid " ++ decimal t.pid ++ codes " has " ++ decimal t
 abbrev pub other_table_lines : List OtherTable → List ℕ
 other_table_lines tables = flat_map other_table_line tables
 
--- those that are not carried
-abbrev pub told_tables : JobInputView → List OtherTable → List OtherTable
-told_tables m tables = filter (λ t. not (carries_table m t.pid)) tables
+-- those that are not carried; one without which a viewer loses nothing is reported where all are
+abbrev pub is_told : Bool → JobInputView → OtherTable → Bool
+is_told all m t = not (carries_table m t.pid) && (all || is_loss t.kind)
+
+abbrev pub told_tables : Bool → JobInputView → List OtherTable → List OtherTable
+told_tables all m tables = filter (is_told all m) tables

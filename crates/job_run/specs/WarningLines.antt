@@ -1,5 +1,5 @@
 -- The lines of warnings: what of a stream is left out or changed.
-use Rattle.std.specs.Prelude.{ℕ, ◌==◌, ◌&&◌, not, Bool, true, false, List, filter, [], ◌∷◌, ◌++◌, Option, Some, None, if◌then◌else◌, codes, decimal}
+use Rattle.std.specs.Prelude.{ℕ, ◌==◌, ◌&&◌, ◌||◌, not, Bool, true, false, List, filter, [], ◌∷◌, ◌++◌, Option, Some, None, if◌then◌else◌, codes, decimal}
 use Rattle.stream_programs.specs.declared.omission.TableOmission.{TableOmission}
 use Rattle.stream_programs.specs.declared.omission.TableOmission.TheVariants as table
 use Rattle.es_units.specs.declared.unit_warning.UnitWarning.{UnitWarning}
@@ -7,6 +7,7 @@ use Rattle.es_units.specs.declared.unit_warning.UnitWarningCause.{UnitWarningCau
 use Rattle.es_units.specs.declared.unit_warning.UnitWarningCause.TheVariants as unit
 use Rattle.stream_programs.specs.declared.program_map.MapPart.{MapPart}
 use Rattle.stream_programs.specs.declared.program_map.MapPart.TheVariants.{NamedStreams, Descriptors}
+use Rattle.stream_jobs.specs.Warnings.{is_damage}
 use Rattle.stream_jobs.specs.declared.warning.PacketWarning.{PacketWarning}
 use Rattle.stream_jobs.specs.declared.warning.PacketWarning.TheVariants.{Bad, Errored, AssociationChanges, NetworkSurplus}
 use Rattle.stream_jobs.specs.declared.warning.ProgramWarning.{ProgramWarning}
@@ -14,6 +15,7 @@ use Rattle.stream_jobs.specs.declared.warning.ProgramWarning.TheVariants.{Missin
 use Rattle.stream_jobs.specs.declared.warning.Warning.{Warning}
 use Rattle.stream_jobs.specs.declared.warning.Warning.TheVariants as warning
 use Rattle.stream_jobs.specs.declared.refusal.JobRefusal.{JobRefusal}
+use Rattle.job_run.specs.declared.job_arguments.Reporting.{Reporting}
 use Rattle.job_run.specs.InformationLines.{information_line}
 use Rattle.job_run.specs.RefusalLine.{refusal_line}
 
@@ -123,12 +125,12 @@ abbrev pub is_open_ended : Warning → Bool
 is_open_ended (warning.Units pid left_out) = is_unknown_end left_out.cause
 is_open_ended _ = false
 
--- that is told unless the input is said to be whole
-unfoldable pub is_told : Bool → Warning → Bool
-is_told whole w = not (whole && is_open_ended w)
+-- that is reported unless the input is said to be whole; a warning that says of no loss is reported where all are
+unfoldable pub is_told : Reporting → Warning → Bool
+is_told r w = not (r.whole && is_open_ended w) && (r.all || is_damage w)
 
-abbrev pub told_warnings : Bool → List Warning → List Warning
-told_warnings whole warnings = filter (is_told whole) warnings
+abbrev pub told_warnings : Reporting → List Warning → List Warning
+told_warnings r warnings = filter (is_told r) warnings
 
 abbrev pub is_scrambled : UnitWarningCause → Bool
 is_scrambled unit.Scrambled = true

@@ -54,26 +54,35 @@ pub fn write_fields(fields: &[FieldLeftOut], text: &mut String) -> Result<(), Al
     Ok(())
 }
 
-// Returns whether a field is reported: of a stream that is carried, and in packets also of a table or a clock.
-fn is_told(input: &JobInput, left_out: &FieldLeftOut) -> bool
-    ensures { result ≡ spec.is_told input.now left_out.now }
+// Returns whether a field is of a stream that is carried, or in packets also of a table or a clock.
+fn is_carried(input: &JobInput, left_out: &FieldLeftOut) -> bool
+    ensures { result ≡ spec.is_carried input.now left_out.now }
 {
     let FieldLeftOut { pid, field } = *left_out;
     input.has_stream(pid)
         || (field.is_of_packet() && (input.carries_table(pid) || input.has_clock(pid)))
 }
 
-/// Returns the fields of streams that are carried, and in packets also of tables and clocks.
+// Returns whether a field is reported: all that are carried, or those by which a viewer loses something.
+fn is_told(all: bool, input: &JobInput, left_out: &FieldLeftOut) -> bool
+    ensures { result ≡ spec.is_told all input.now left_out.now }
+{
+    is_carried(input, left_out) && (all || left_out.field.is_loss())
+}
+
+/// Returns the fields that are reported: of streams that are carried, and in packets also of tables and clocks; all, or those by
+/// which a viewer loses something.
 pub fn told_fields(
     alloc: Global,
+    all: bool,
     input: &JobInput,
     fields: &[FieldLeftOut],
 ) -> Result<Vec<FieldLeftOut>, AllocError>
-    ensures { IfOk result (λ told. told.items ≡ spec.told_fields input.now fields.now) }
+    ensures { IfOk result (λ told. told.items ≡ spec.told_fields all input.now fields.now) }
 {
     fields
         .iter()
-        .filter(|field| is_told(input, field))
+        .filter(|field| is_told(all, input, field))
         .copied()
         .collect(alloc)
 }

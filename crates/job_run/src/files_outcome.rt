@@ -8,7 +8,7 @@ ghost use Rattle.devices.specs.Files.{files_of};
 ghost use Rattle.job_run.specs.InputLines.{are_lost, name_of, note_lines};
 ghost use Rattle.stream_jobs.specs.Answers.{Answers};
 ghost use Rattle.stream_jobs.specs.JoinedInputs.{AreStreamsIn};
-ghost use Rattle.job_run.specs.Outcomes.{Withholds, status_of};
+ghost use Rattle.job_run.specs.Outcomes.{Withholds, status_of, unless_quiet};
 ghost use Rattle.job_run.specs.SeveralInputs.{GivesIn, all_joined, under};
 ghost use Rattle.job_run.specs.StreamFiles as spec;
 ghost use Rattle.job_run.specs.StreamFiles.{TakenView};
@@ -21,7 +21,7 @@ use crate::written::write_outcome;
 use counted_io::Sink;
 use devices::{Halt, NamedFiles, report_halt};
 use std::alloc::{AllocError, Global};
-use stream_jobs::{JobError, JobInput, JobRefusal, JoinedInputs, join_inputs};
+use stream_jobs::{InputNote, JobError, JobInput, JobRefusal, JoinedInputs, join_inputs};
 
 // Lines under the number and the name of an input, if there are any.
 #[tactic(auto, unfolding(crate::specs::SeveralInputs::under))]
@@ -98,6 +98,22 @@ fn join_all(alloc: Global, inputs: Vec<JobInput>) -> Result<JoinedInputs, JobErr
     join_inputs(alloc, first, more)
 }
 
+// Appends a line for each note, unless nothing is to be reported.
+fn write_told_notes(
+    quiet: bool,
+    names: &[&str],
+    notes: &[InputNote],
+    text: &mut String,
+) -> Result<(), AllocError>
+    ensures { OnOk result (string_bytes text.new ≡ string_bytes text.old
+        ++ unless_quiet quiet (note_lines (map (λ s. s.now) names.now) notes.now)) }
+{
+    if quiet {
+        return Ok(());
+    }
+    write_notes(names, notes, text)
+}
+
 // The outcome for what is joined of streams in files of these names, of which these lines are told.
 fn joined_outcome(
     alloc: Global,
@@ -111,13 +127,14 @@ fn joined_outcome(
     ensures gives { (inputs : List (List FindingView)) → AreStreamsIn arguments.now.options.make_dts inputs joined →
         IfOk result (λ o. GivesIn arguments.now.subcommand arguments.now.options inputs joined o.output) }
     ensures report { IfOk result (λ o. o.report
-        ≡ string_bytes lines ++ note_lines (map (λ s. s.now) names.now) joined.notes) }
+        ≡ string_bytes lines
+        ++ unless_quiet arguments.now.reporting.quiet (note_lines (map (λ s. s.now) names.now) joined.notes)) }
     ensures status { IfOk result (λ o. o.status
         ≡ status_of arguments.now.subcommand o.output (less || are_lost joined.notes)) }
     ensures withheld { IfErr result (Withholds arguments.now.subcommand arguments.now.options joined.input) }
 {
     let mut report = lines;
-    write_notes(names, &joined.notes, &mut report)?;
+    write_told_notes(arguments.reporting.quiet, names, &joined.notes, &mut report)?;
     let less = less || are_lost(&joined.notes);
     let output = output_for(alloc, arguments, joined.input)?;
     let status = status_of(arguments.subcommand, &output, less);

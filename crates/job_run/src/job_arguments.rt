@@ -20,14 +20,25 @@ pub enum Subcommand {
     Why,
 }
 
+/// Which lines are reported.
+#[derive(Clone, Copy, Debug, PartialEq, Eq)]
+pub struct Reporting {
+    /// Whether the input is declared to end with its last PES packets: then an unknown end is no warning.
+    pub whole: bool,
+    /// Whether only refusals are reported, and devices that fail.
+    pub quiet: bool,
+    /// Whether lines are reported too that say of no loss.
+    pub all: bool,
+}
+
 /// The subcommand and the options of a command line.
 #[derive(Drop)]
 pub struct JobArguments<'a> {
     pub subcommand: Subcommand,
     /// The file of a description whose units are written while the stream comes.
     pub stream: Option<&'a str>,
-    /// Whether the input is declared to end with its last PES packets: then an unknown end is no warning.
-    pub whole: bool,
+    /// Which lines are reported.
+    pub reporting: Reporting,
     /// The rate in bits a second, 100,000 to 100,000,000; none: the least rate at which a plan is found.
     pub rate: Option<u64>,
     /// The moment of the first slot, if it is given.
@@ -40,6 +51,8 @@ pub struct JobArguments<'a> {
     pub declare_by: DeclareBy,
     /// Whether DTS are made from PTS.
     pub make_dts: bool,
+    /// Whether a stream that can't be carried refuses the input.
+    pub strict: bool,
     /// What the system clock shows as the run begins.
     pub base: ClockBase,
     /// The network, in place of the stream's network.
@@ -65,7 +78,7 @@ impl<'a> Model for JobArguments<'a> {
     ghost view = { λ a. record {
       subcommand = a.subcommand;
       stream = option_map (λ s. s.now) a.stream;
-      whole = a.whole;
+      reporting = a.reporting;
       options = record {
         rate = a.rate;
         start = option_map (λ s. s.now) a.start;
@@ -73,6 +86,7 @@ impl<'a> Model for JobArguments<'a> {
         lead = a.lead;
         declare_by = a.declare_by;
         make_dts = a.make_dts;
+        strict = a.strict;
         base = a.base;
         network = option_map network_name_view a.network;
         names = a.names.items;
@@ -102,6 +116,7 @@ impl JobArguments<'_> {
             lead: self.lead,
             declare_by: self.declare_by,
             make_dts: self.make_dts,
+            strict: self.strict,
             base: self.base,
             network: self.network,
             names: &self.names,

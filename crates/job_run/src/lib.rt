@@ -6,7 +6,8 @@
 //! program, and all of it from the reader on. `stream_files` has what a job takes of streams in files by their names
 //! (`specs/StreamFiles`), and `files_outcome` the outcome for all of them as one job (`specs/SeveralInputs`).
 //!
-//! There is a line for each thing that is left out or changed, and a line for a refusal; `specs/` has the text of each:
+//! Which lines are reported is part of the request (`Reporting`): all, those that say of a loss, or refusals alone; the status is
+//! the same in each case (`status_stays`). There is a line for each thing that is left out or changed, and a line for a refusal; `specs/` has the text of each:
 //!
 //! - `slip_lines`: packets that are not in step or have another size.
 //! - `field_lines`: fields that are not written again.
@@ -22,6 +23,7 @@ mod files_outcome;
 mod information_lines;
 mod input_lines;
 mod job_arguments;
+mod laws;
 mod outcome;
 mod reading;
 mod reason_output;
@@ -35,7 +37,8 @@ mod written;
 pub use field_lines::{are_needed, told_fields, write_fields};
 pub use files_outcome::perform_files;
 pub use input_lines::{are_lost, write_input, write_notes};
-pub use job_arguments::{JobArguments, Subcommand};
+pub use job_arguments::{JobArguments, Reporting, Subcommand};
+pub use laws::status_stays;
 pub use outcome::{JobOutcome, JobText, only_text};
 pub use refusal_line::write_refusal;
 pub use slip_lines::{write_packets, write_slips};

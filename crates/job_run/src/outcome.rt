@@ -19,7 +19,7 @@ ghost use Rattle.job_run.specs.SlipLines.{packets_line};
 
 use crate::carried_stream::{PacketNotes, ReadStream};
 use crate::field_lines::{are_needed, told_fields, write_fields};
-use crate::job_arguments::{JobArguments, Subcommand};
+use crate::job_arguments::{JobArguments, Reporting, Subcommand};
 use crate::reading::StreamReading;
 use crate::reason_output::reason_output;
 use crate::refusal_line::write_refusal;
@@ -178,6 +178,24 @@ fn loss_report(
     Ok(lines)
 }
 
+// The same, unless nothing is to be reported.
+fn told_report(
+    alloc: Global,
+    quiet: bool,
+    slips: &[Slip],
+    fields: &[FieldLeftOut],
+    tables: &[OtherTable],
+    told: &[Warning],
+) -> Result<String, AllocError>
+    ensures { IfOk result (λ lines. string_bytes lines
+        ≡ spec.unless_quiet quiet (spec.loss_lines slips.now fields.now tables.now told.now)) }
+{
+    if quiet {
+        return Ok(String::new(alloc));
+    }
+    loss_report(alloc, slips, fields, tables, told)
+}
+
 // Whether one of these says that something is lost.
 fn is_less(slips: &[Slip], fields: &[FieldLeftOut], tables: &[OtherTable], told: &[Warning]) -> bool
     ensures { result ≡ spec.is_less slips.now fields.now tables.now told.now }
@@ -217,20 +235,27 @@ pub(crate) fn status_of(subcommand: Subcommand, output: &JobText, less: bool) ->
 // What is told of a stream of which a job takes this, with these tables beside it, and whether something of it is lost.
 pub(crate) fn told_of(
     alloc: Global,
-    whole: bool,
+    reporting: Reporting,
     notes: &PacketNotes,
     others: &[OtherTable],
     input: &JobInput,
 ) -> Result<(String, bool), AllocError>
     ensures lines { (findings : List FindingView) → others.now ≡ found.other_tables findings →
-        IfOk result (λ t. string_bytes t.0 ≡ spec.told_lines whole notes.now findings input.now) }
+        IfOk result (λ t. string_bytes t.0 ≡ spec.told_lines reporting notes.now findings input.now) }
     ensures less { (findings : List FindingView) → others.now ≡ found.other_tables findings →
-        IfOk result (λ t. t.1 ≡ spec.is_told_less whole notes.now findings input.now) }
+        IfOk result (λ t. t.1 ≡ spec.is_told_less reporting notes.now findings input.now) }
 {
-    let told = told_warnings(alloc, whole, &input.warnings)?;
-    let fields = told_fields(alloc, input, &notes.fields)?;
-    let tables = told_tables(alloc, input, others)?;
-    let lines = loss_report(alloc, &notes.slips, &fields, &tables, &told)?;
+    let told = told_warnings(alloc, reporting, &input.warnings)?;
+    let fields = told_fields(alloc, reporting.all, input, &notes.fields)?;
+    let tables = told_tables(alloc, reporting.all, input, others)?;
+    let lines = told_report(
+        alloc,
+        reporting.quiet,
+        &notes.slips,
+        &fields,
+        &tables,
+        &told,
+    )?;
     let less = is_less(&notes.slips, &fields, &tables, &told);
     Ok((lines, less))
 }
@@ -249,7 +274,7 @@ fn job_outcome(
         others.now ≡ found.other_tables findings → IfOk result (λ a. spec.IsGiven arguments.now notes.now findings input a) }
     ensures withheld { IfErr result (spec.Withholds arguments.now.subcommand arguments.now.options input) }
 {
-    let (report, less) = told_of(alloc, arguments.whole, notes, others, &input)?;
+    let (report, less) = told_of(alloc, arguments.reporting, notes, others, &input)?;
     let output = output_for(alloc, arguments, input)?;
     let status = status_of(arguments.subcommand, &output, less);
     Ok(JobOutcome {

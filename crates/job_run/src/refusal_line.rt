@@ -5,6 +5,7 @@ ghost use Rattle.job_run.specs.RefusalLine as spec;
 ghost use Rattle.stream_jobs.specs.declared.refusal.JobRefusal.TheVariants as refusals;
 
 use description::DescFault;
+use diagnosis::write_fault;
 use es_units::{DtsFault, StampFault};
 use std::alloc::AllocError;
 use std::fmt::Write;
@@ -172,8 +173,8 @@ fn write_description(fault: DescFault, text: &mut String) -> Result<(), AllocErr
     ensures { OnOk result
         (string_bytes text.new ≡ string_bytes text.old ++ spec.refusal_line (refusals.Description fault)) }
 {
-    let (code, item) = (fault.code(), fault.item());
-    write!(text, "description {code} {item}\n")
+    text.push_str("the description is refused: ")?;
+    write_fault(&[], fault, text)
 }
 
 /// Appends the line of a refusal.
@@ -183,13 +184,18 @@ pub fn write_refusal(refusal: JobRefusal, text: &mut String) -> Result<(), Alloc
 {
     match refusal {
         JobRefusal::NoPackets => text.push_str("not a stream of 188-byte packets\n"),
-        JobRefusal::NoAssociation => text.push_str("no PAT\n"),
-        JobRefusal::NoProgram => text.push_str("no PMT\n"),
+        JobRefusal::NoAssociation => {
+            text.push_str("no PAT: the stream is empty, or names no programs\n")
+        },
+        JobRefusal::NoProgram => text.push_str(
+            "no PMT: none of the programs that are asked for is there; tsview lists the programs that are\n",
+        ),
         JobRefusal::NoStream => text.push_str("no stream\n"),
         JobRefusal::Scrambled => text.push_str("no stream that is not scrambled\n"),
         JobRefusal::Programs(count) => write!(text, "{count} programs: more than 16\n"),
         JobRefusal::Streams(count) => write!(text, "{count} streams: more than 32\n"),
         JobRefusal::StreamId { packet, pid, id } => write_id(packet, pid, id, text),
+        JobRefusal::NoStamps(pid) => { write!(text, "pid {pid} has no PTS in its PES packets\n") }
         JobRefusal::OtherStreamId {
             packet,
             pid,
@@ -214,7 +220,10 @@ pub fn write_refusal(refusal: JobRefusal, text: &mut String) -> Result<(), Alloc
         } => write_buffers(pid, size, rx, main, way_out, text),
         JobRefusal::Pids => text.push_str("no PID is left for a PMT or a PCR\n"),
         JobRefusal::Description(fault) => write_description(fault, text),
-        JobRefusal::Plan(rate) => write!(text, "no plan at rate {rate}\n"),
+        JobRefusal::Plan(rate) => write!(
+            text,
+            "no plan at rate {rate}: tsjob why names what prevents one\n"
+        ),
         JobRefusal::Declaration(pid) => { write!(text, "pid {pid} breaks its own declaration\n") }
     }
 }

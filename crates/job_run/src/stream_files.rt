@@ -50,11 +50,11 @@ fn taken(
 ) -> Result<TakenStream, AllocError>
     ensures input { IfOk result (λ t. t.input ≡ input) }
     ensures lines { (findings : List FindingView) → others.now ≡ tables.other_tables findings →
-        IfOk result (λ t. t.lines ≡ told_lines arguments.now.whole notes.now findings input) }
+        IfOk result (λ t. t.lines ≡ told_lines arguments.now.reporting notes.now findings input) }
     ensures less { (findings : List FindingView) → others.now ≡ tables.other_tables findings →
-        IfOk result (λ t. t.less ≡ is_told_less arguments.now.whole notes.now findings input) }
+        IfOk result (λ t. t.less ≡ is_told_less arguments.now.reporting notes.now findings input) }
 {
-    let (lines, less) = told_of(alloc, arguments.whole, notes, others, &input)?;
+    let (lines, less) = told_of(alloc, arguments.reporting, notes, others, &input)?;
     Ok(TakenStream { input, lines, less })
 }
 
@@ -116,7 +116,7 @@ fn unopened(alloc: Global) -> Result<JobOutcome, AllocError>
     ensures { IfOk result (λ o. o ≡ spec.stopped_by spec.open_line) }
 {
     let mut report = String::new(alloc);
-    report.push_str("open\n")?;
+    report.push_str("can't be opened\n")?;
     Ok(stopped(alloc, report))
 }
 
@@ -125,7 +125,7 @@ fn unread(alloc: Global) -> Result<JobOutcome, AllocError>
     ensures { IfOk result (λ o. o ≡ spec.stopped_by spec.read_line) }
 {
     let mut report = String::new(alloc);
-    report.push_str("read\n")?;
+    report.push_str("can't be read to its end\n")?;
     Ok(stopped(alloc, report))
 }
 

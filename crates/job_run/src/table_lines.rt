@@ -50,17 +50,25 @@ pub fn write_other_tables(tables: &[OtherTable], text: &mut String) -> Result<()
     Ok(())
 }
 
-/// Returns the tables that are not carried.
+// Returns whether a table is reported: it is not carried, and all are reported or a viewer loses something without it.
+fn is_told(all: bool, input: &JobInput, table: &OtherTable) -> bool
+    ensures { result ≡ spec.is_told all input.now table.now }
+{
+    !input.carries_table(table.pid) && (all || table.kind.is_loss())
+}
+
+/// Returns the tables that are reported.
 pub fn told_tables(
     alloc: Global,
+    all: bool,
     input: &JobInput,
     tables: &[OtherTable],
 ) -> Result<Vec<OtherTable>, AllocError>
-    ensures { IfOk result (λ told. told.items ≡ spec.told_tables input.now tables.now) }
+    ensures { IfOk result (λ told. told.items ≡ spec.told_tables all input.now tables.now) }
 {
     tables
         .iter()
-        .filter(|table| !input.carries_table(table.pid))
+        .filter(|table| is_told(all, input, table))
         .copied()
         .collect(alloc)
 }

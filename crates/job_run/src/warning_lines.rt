@@ -5,6 +5,7 @@ ghost use Rattle.stream_jobs.specs.Warnings.{are_damaged};
 ghost use Rattle.job_run.specs.WarningLines as spec;
 
 use crate::information_lines::write_information;
+use crate::job_arguments::Reporting;
 use crate::refusal_line::write_refusal;
 use es_units::{UnitWarning, UnitWarningCause};
 use std::alloc::{AllocError, Global};
@@ -301,25 +302,25 @@ fn is_open_ended(warning: &Warning) -> bool
     }
 }
 
-// Whether a warning is told of an input that is said to be whole, or is not.
+// Returns whether a warning is reported.
 #[tactic(auto, unfolding(crate::specs::WarningLines::is_told))]
-fn is_told(whole: bool, warning: &Warning) -> bool
-    ensures { result ≡ spec.is_told whole warning.now }
+fn is_told(reporting: Reporting, warning: &Warning) -> bool
+    ensures { result ≡ spec.is_told reporting warning.now }
 {
-    !(whole && is_open_ended(warning))
+    !(reporting.whole && is_open_ended(warning)) && (reporting.all || warning.is_damage())
 }
 
-/// Returns the warnings that are reported for an input, which `--whole` declares to be whole or not.
+/// Returns the warnings that are reported.
 pub fn told_warnings(
     alloc: Global,
-    whole: bool,
+    reporting: Reporting,
     warnings: &[Warning],
 ) -> Result<Vec<Warning>, AllocError>
-    ensures { IfOk result (λ told. told.items ≡ spec.told_warnings whole warnings.now) }
+    ensures { IfOk result (λ told. told.items ≡ spec.told_warnings reporting warnings.now) }
 {
     let mut told = Vec::new(alloc);
     for warning in warnings {
-        if is_told(whole, warning) {
+        if is_told(reporting, warning) {
             told.push(*warning)?;
         }
     }

@@ -225,13 +225,11 @@ airs_what_mux_writes m o bytes j input output faults same takes known (inr (inr 
 
 -- ---- records in order
 
-has_room : (o : AirOptions) (job : JobView) (j : MuxJobView) → j ≡ served job j.units → needed_room (lead_of (run_of o job)) j.description.streams ≤ 1048576 →
+has_room : (o : AirOptions) (job : JobView) (j : MuxJobView) → j ≡ served job j.units → needed_room (lead_of (run_of o job)) j.description.streams ≤ (run_of o job).capacity →
     needed_room (lead_of (run_of o job)) (run_of o job).scheduled.description.streams ≤ (run_of o job).capacity
 has_room o job j is le =
     let same : j.description ≡ (run_of o job).scheduled.description = ap (λ (x : MuxJobView). x.description) is ∙ sym (described_same o job) in
-    let within : needed_room (lead_of (run_of o job)) (run_of o job).scheduled.description.streams ≤ 1048576 =
-    subst (λ d. needed_room (lead_of (run_of o job)) d.streams ≤ 1048576) same le in
-    omega (arith, within)
+    subst (λ d. needed_room (lead_of (run_of o job)) d.streams ≤ (run_of o job).capacity) same le
 
 first_in_order : (run : Run) (units more : List (ℕ × AccessUnit)) → ComeInOrder run (units ++ more) → ComeInOrder run units
 first_in_order run units more order before after entry is =

@@ -36,10 +36,10 @@ pub record TakesUnits (m : MuxOptions) (bytes : List ℕ) (j : MuxJobView) : Typ
   pub taken : cause_of m (units_alone j) ≡ None
 
 -- the records of a job come in order: each unit is due no earlier than the run waits before each unit and each tick that came before it, and
--- no record is further ahead than it allows. And there may be room for all that wait: 1,048,576 of each stream
+-- no record is further ahead than it allows. And there is room for all that wait
 pub record AreInOrder (run : Run) (j : MuxJobView) : Type 0 where
   pub in_order : ComeInOrder run j.units
-  pub room : needed_room (lead_of run) j.description.streams ≤ 1048576
+  pub room : needed_room (lead_of run) j.description.streams ≤ run.capacity
 
 -- a run over such a job that came to its end refused no record, neither a unit nor a tick
 abbrev pub RefusesNone : Type 0

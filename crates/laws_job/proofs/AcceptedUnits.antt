@@ -97,11 +97,11 @@ stream_there (s ∷ streams) zero lt = (s, refl)
 stream_there (s ∷ streams) (suc k) lt = stream_there streams k (omega (arith, lt))
 
 -- so do those of several inputs
-record FoundSomewhere (made : Bool) (inputs : List (List FindingView)) (d : Described) (s : DescribedStream) (us : List AccessUnit) : Type 0 where
-  origin : Origin
-  is : IsStreamIn made inputs origin d s us
+pub record FoundSomewhere (made : Bool) (inputs : List (List FindingView)) (d : Described) (s : DescribedStream) (us : List AccessUnit) : Type 0 where
+  pub origin : Origin
+  pub is : IsStreamIn made inputs origin d s us
 
-somewhere : (made : Bool) (inputs : List (List FindingView)) (origins : List Origin) (d : Described) (units : List (ℕ × AccessUnit)) →
+pub somewhere : (made : Bool) (inputs : List (List FindingView)) (origins : List Origin) (d : Described) (units : List (ℕ × AccessUnit)) →
     AreUnitsIn made inputs origins d units → (k : ℕ) (s : DescribedStream) → slice_get d.streams k ≡ Some s → FoundSomewhere made inputs d s (units_of k units)
 somewhere made inputs origins d units are k s is =
     let o = stream_there origins k (omega (arith, slice_get_within d.streams k s is, are.same)) in

@@ -19,6 +19,7 @@ use Rattle.es_units.specs.CarriedUnits.{wire_units}
 use Rattle.es_units.proofs.CarriedUnits.{same_units}
 use Rattle.stream_jobs.specs.FoundUnits.{AreMoved}
 use Rattle.laws_job.specs.Laws.{AllDue, later_by, IsOnWire}
+use Rattle.laws_job.proofs.PrivateData.{Sixteen}
 use Rattle.laws_job.proofs.SentWhole.{IsWhole, sent_whole}
 use Rattle.laws_job.proofs.WholeUnits.{found_again, moved_later}
 
@@ -36,13 +37,13 @@ whole line k n s us promised is kept due =
 
 -- on their PID they are found
 units_again : (line : Scheduled) (units : ℕ → List AccessUnit) (n k : ℕ) (s : DescribedStream) (bytes : List ℕ) → Promised line.description line.schedule →
-    slice_get line.description.streams k ≡ Some s → Kept (owned_stream line k s) (units k) → AllDue line.description.rate n (units k) → GivenBack line units n bytes →
-    wire_units s.pid (all_found bytes) ≡ map (later_by line.description.base0) (units k)
-units_again line units n k s bytes promised is kept due back =
+    slice_get line.description.streams k ≡ Some s → Kept (owned_stream line k s) (units k) → All Sixteen (units k) → AllDue line.description.rate n (units k) →
+    GivenBack line units n bytes → wire_units s.pid (all_found bytes) ≡ map (later_by line.description.base0) (units k)
+units_again line units n k s bytes promised is kept sixteen due back =
     let l = owned_stream line k s in
     let us = units k in
     ap (map (λ u. u.unit)) (sym (same_units s.pid (all_found bytes))) ∙ ap (wire_units s.pid) (back.streams k s is)
-    ∙ found_again s.pid n l us (own_slots l.own 0 n) (whole line k n s us promised is kept due) (some_bytes l.parameters us kept.units)
+    ∙ found_again s.pid n l us (own_slots l.own 0 n) (whole line k n s us promised is kept due) (some_bytes l.parameters us kept.units) sixteen
 
 -- and they are those of the wire
 wire_again : (base base0 : ℕ) (wire us found : List AccessUnit) → AreMoved wire base us → found ≡ map (later_by base0) us →
@@ -60,8 +61,8 @@ same_stamps time (u ∷ us) all =
 
 pub again : (base : ℕ) (line : Scheduled) (wire : List AccessUnit) (units : List (ℕ × AccessUnit)) (n k : ℕ) (s : DescribedStream) (bytes : List ℕ) →
     Promised line.description line.schedule → slice_get line.description.streams k ≡ Some s → Kept (owned_stream line k s) (units_of k units) →
-    AreMoved wire base (units_of k units) → AllDue line.description.rate n (units_of k units) → GivenBack line (λ j. units_of j units) n bytes →
+    All Sixteen (units_of k units) → AreMoved wire base (units_of k units) → AllDue line.description.rate n (units_of k units) → GivenBack line (λ j. units_of j units) n bytes →
     wire_units s.pid (all_found bytes) ≡ map (later_by (line.description.base0 + 2 ^ 33 - base)) wire
-again base line wire units n k s bytes promised is kept moved due back =
+again base line wire units n k s bytes promised is kept sixteen moved due back =
     wire_again base line.description.base0 wire (units_of k units) (wire_units s.pid (all_found bytes)) moved
-    (units_again line (λ j. units_of j units) n k s bytes promised is kept due back)
+    (units_again line (λ j. units_of j units) n k s bytes promised is kept sixteen due back)

@@ -1,5 +1,6 @@
 pub mod AcceptedUnits
 pub mod JobUnits
+pub mod PrivateData
 pub mod SentWhole
 pub mod WholeUnits
 pub mod FoundUnits

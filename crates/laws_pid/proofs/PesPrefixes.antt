@@ -1,5 +1,5 @@
 -- The PES packet of a unit: what each beginning of it decides.
-use Rattle.std.proofs.Common.{◌≡◌, ℕ, ◌+◌, ◌-◌, ◌<◌, ◌≤◌, ◌==◌, nat_le, Bool, true, false, cond, IsTrue, List, ◌++◌, length, take, drop, Some, None, Ok, refl, sym, ap, subst, ◌∙◌, inl, inr, arith, take_all, length-append, length-take, lt-ltb, le-ltb}
+use Rattle.std.proofs.Common.{◌≡◌, ℕ, ◌+◌, ◌-◌, ◌<◌, ◌≤◌, ◌==◌, nat_le, Bool, true, false, cond, IsTrue, List, ◌++◌, length, take, drop, Some, None, is_some, option_map, Ok, refl, sym, ap, subst, ◌∙◌, inl, inr, arith, take_all, length-append, length-take, lt-ltb, le-ltb}
 use Rattle.std.proofs.Math.Seq.{take-append-add, drop-append_seam}
 use Rattle.std.proofs.lemmas.Bool.{cases_Bool}
 use Rattle.pes_packet.specs.AccessUnits.{AccessUnit}
@@ -7,7 +7,7 @@ use Rattle.pes_packet.specs.StreamIds.{fits_packet}
 use Rattle.pes_packet.specs.Encoding.{pes_header_bytes, header_size, pes_packet_bytes, packet_length, on_wire, header_with, pts_header, pts_dts_header, pes_start_bytes}
 use Rattle.pes_packet.specs.Reading.{header_at}
 use Rattle.pes_packet.specs.Laws.{written_header}
-use Rattle.pes_packet.specs.Marks.{data_length}
+use Rattle.pes_packet.specs.Marks.{data_length, extension_size, sixteen}
 use Rattle.pes_packet.specs.declared.marks.Marks.{Marks}
 use Rattle.pes_packet.specs.declared.reading.PesHeader.{PesHeader}
 use Rattle.pes_packet.specs.declared.time_stamps.Stamps.TheVariants.{Pts, PtsDts}
@@ -54,13 +54,13 @@ counts c e = elim (cases_Bool (nat_le c 65_535)) [ inl y ↦ rw y refl | inr k �
     by true k f = cc
     by false k f = cc
 
-count_of : (long same : Bool) (size : ℕ) →
-    let len : ℕ = cond same (packet_length (3 + cond long 36 5 + size)) (packet_length (3 + cond long 36 10 + size)) in
-    (len == 0) ≡ false → 6 + len ≡ cond long 45 (cond same 14 19) + size
-count_of true true size e = let c : packet_length (3 + 36 + size) ≡ 3 + 36 + size = counts (3 + 36 + size) e in omega (arith, c)
-count_of true false size e = let c : packet_length (3 + 36 + size) ≡ 3 + 36 + size = counts (3 + 36 + size) e in omega (arith, c)
-count_of false true size e = let c : packet_length (3 + 5 + size) ≡ 3 + 5 + size = counts (3 + 5 + size) e in omega (arith, c)
-count_of false false size e = let c : packet_length (3 + 10 + size) ≡ 3 + 10 + size = counts (3 + 10 + size) e in omega (arith, c)
+count_of : (long same : Bool) (more size : ℕ) →
+    let len : ℕ = cond same (packet_length (3 + cond long 36 (5 + more) + size)) (packet_length (3 + cond long 36 (10 + more) + size)) in
+    (len == 0) ≡ false → 6 + len ≡ cond long 45 (cond same 14 19 + more) + size
+count_of true true more size e = let c : packet_length (3 + 36 + size) ≡ 3 + 36 + size = counts (3 + 36 + size) e in omega (arith, c)
+count_of true false more size e = let c : packet_length (3 + 36 + size) ≡ 3 + 36 + size = counts (3 + 36 + size) e in omega (arith, c)
+count_of false true more size e = let c : packet_length (3 + (5 + more) + size) ≡ 3 + (5 + more) + size = counts (3 + (5 + more) + size) e in omega (arith, c)
+count_of false false more size e = let c : packet_length (3 + (10 + more) + size) ≡ 3 + (10 + more) + size = counts (3 + (10 + more) + size) e in omega (arith, c)
 
 len_of : (b : Bool) (x y : PesHeader) → (cond b x y).len ≡ cond b x.len y.len
 len_of true x y = refl
@@ -76,6 +76,7 @@ header_counts id size marks pts dts e =
       stamps = Pts (on_wire pts);
       flags = marks.flags;
       data_length = data_length marks 5;
+      private_data = option_map sixteen marks.private_data;
     } in
     let with_dts : PesHeader = record {
       id = id;
@@ -83,25 +84,28 @@ header_counts id size marks pts dts e =
       stamps = PtsDts (on_wire pts) (on_wire dts);
       flags = marks.flags;
       data_length = data_length marks 10;
+      private_data = option_map sixteen marks.private_data;
     } in
     let is = len_of (on_wire pts == on_wire dts) pts_alone with_dts in
-    ap (λ (n : ℕ). 6 + n) is ∙ count_of marks.long (on_wire pts == on_wire dts) size (subst (λ (n : ℕ). (n == 0) ≡ false) is e)
+    ap (λ (n : ℕ). 6 + n) is ∙ count_of marks.long (on_wire pts == on_wire dts) (extension_size marks) size (subst (λ (n : ℕ). (n == 0) ≡ false) is e)
 
-short_by : (long same : Bool) → cond long 45 (cond same 14 19) ≤ 45
-short_by true same = omega arith
-short_by false true = omega arith
-short_by false false = omega arith
+short_by : (long same private : Bool) → cond long 45 (cond same 14 19 + cond private 17 0) ≤ 45
+short_by true same private = omega arith
+short_by false true true = omega arith
+short_by false true false = omega arith
+short_by false false true = omega arith
+short_by false false false = omega arith
 
 size_short : (marks : Marks) (pts dts : ℕ) → header_size marks pts dts ≤ 45
-size_short marks pts dts = short_by marks.long (on_wire pts == on_wire dts)
+size_short marks pts dts = short_by marks.long (on_wire pts == on_wire dts) (is_some marks.private_data)
 
-some_by : (long same : Bool) → 0 < cond long 45 (cond same 14 19)
-some_by true same = omega arith
-some_by false true = omega arith
-some_by false false = omega arith
+some_by : (long same : Bool) (more : ℕ) → 0 < cond long 45 (cond same 14 19 + more)
+some_by true same more = omega arith
+some_by false true more = omega arith
+some_by false false more = omega arith
 
 size_some : (marks : Marks) (pts dts : ℕ) → 0 < header_size marks pts dts
-size_some marks pts dts = some_by marks.long (on_wire pts == on_wire dts)
+size_some marks pts dts = some_by marks.long (on_wire pts == on_wire dts) (extension_size marks)
 
 -- a beginning with at least the header, and what of the data is in it
 front_of : (m n : ℕ) (head body : List ℕ) → length head ≡ n → n ≤ m → take m (head ++ body) ≡ head ++ take (m - n) body

@@ -42,6 +42,7 @@ use Rattle.laws_pipe.proofs.PlainLines.{Passes}
 use Rattle.laws_pipe.proofs.PlainNames.{else_some, options_plain}
 use Rattle.laws_pipe.proofs.ReadJobs.{job_again, text_in_range}
 use Rattle.laws_pipe.proofs.TakenJobs.{no_cause}
+use Rattle.laws_job.proofs.PrivateData.{units_sixteen_in}
 use Rattle.laws_pipe.proofs.WrittenRecords.{Fits, records_read, units_fit}
 
 -- 1. What is written is read
@@ -62,7 +63,8 @@ fits : (w : JobOptionsView) (inputs : List (List FindingView)) (j : JoinedInputs
 fits w inputs j output job =
     let ranges = text_in_range job.description job.text job.job.read in
     units_fit (schedule_for job.description job.plan) job.units ranges
-    (all_kept_in units_kept w.make_dts (schedule_for job.description job.plan) inputs j.origins job.units ranges job.found) job.found.numbered
+    (all_kept_in units_kept w.make_dts (schedule_for job.description job.plan) inputs j.origins job.units ranges job.found)
+    (units_sixteen_in w.make_dts inputs j.origins job.description job.units job.found) job.found.numbered
 
 read_with : (w : JobOptionsView) (inputs : List (List FindingView)) (j : JoinedInputsView) (output : List ℕ) → PlainInformation j.input.information →
     (job : GivesJobIn w inputs j output) →

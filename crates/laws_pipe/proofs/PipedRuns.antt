@@ -37,6 +37,7 @@ use Rattle.laws_pipe.proofs.PlainNames.{PlainOptions, options_plain}
 use Rattle.laws_pipe.proofs.ReadJobs.{job_again, text_in_range}
 use Rattle.laws_pipe.proofs.TakenJobs.{none_refused}
 use Rattle.laws_pipe.proofs.UnitsAgain.{moved_units, units_again}
+use Rattle.laws_job.proofs.PrivateData.{units_sixteen}
 use Rattle.laws_pipe.proofs.WrittenRecords.{Fits, records_read, units_fit}
 
 -- 1. What is written is read
@@ -53,7 +54,8 @@ fits : (w : JobOptionsView) (findings : List FindingView) (m : JobInputView) (ou
 fits w findings m output job =
     let ranges = text_in_range job.description job.text job.job.read in
     units_fit (schedule_for job.description job.plan) job.units ranges
-    (all_kept units_kept w.make_dts (schedule_for job.description job.plan) findings job.units ranges job.found) job.found.numbered
+    (all_kept units_kept w.make_dts (schedule_for job.description job.plan) findings job.units ranges job.found)
+    (units_sixteen w.make_dts findings job.description job.units job.found) job.found.numbered
 
 read_with : (w : JobOptionsView) (findings : List FindingView) (m : JobInputView) (output : List ℕ) → PlainInformation m.information → (job : GivesJob w findings m output) →
     mux_job_of false output ≡ Ok (as_mux_job job)

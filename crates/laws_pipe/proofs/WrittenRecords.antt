@@ -1,5 +1,5 @@
 -- The records of a job's units, read one after another.
-use Rattle.std.proofs.Common.{◌≡◌, ◌≤◌, ◌<◌, ℕ, zero, suc, ◌+◌, List, [], ◌∷◌, ◌++◌, length, length-append, None, Ok, All, refl, sym, ap, ◌∙◌, subst, arith, append_assoc}
+use Rattle.std.proofs.Common.{◌≡◌, ◌≤◌, ◌<◌, ℕ, zero, suc, ◌+◌, Bool, true, false, cond, is_some, List, [], ◌∷◌, ◌++◌, length, length-append, slice_get, Some, None, Ok, All, refl, sym, ap, ◌∙◌, subst, arith, append_assoc}
 use Rattle.std.proofs.lemmas.List.Elements.{All-nil, All-cons, All-head, All-tail, All-weaker}
 use Rattle.byteorder.specs.Endian.{big_bytes}
 use Rattle.pes_packet.specs.AccessUnits.{AccessUnit}
@@ -8,7 +8,7 @@ use Rattle.description.specs.Described.{DescribedStream}
 use Rattle.description.specs.Ranges.{IsInRange, IsStream}
 use Rattle.description.proofs.Pids.{stream_range}
 use Rattle.unit_records.specs.Laws.{FitsRecord, RecordsAreRead}
-use Rattle.unit_records.specs.Records.{after_record, record_at, record_bytes, record_head, word_of}
+use Rattle.unit_records.specs.Records.{after_record, private_bytes, private_size, record_at, record_bytes, record_head, word_of}
 use Rattle.es_feed.specs.Records.{records_of}
 use Rattle.unit_queue.specs.Queues.{IsUnit}
 use Rattle.mux_core.specs.Histories.{owned_stream}
@@ -16,6 +16,7 @@ use Rattle.mux_core.specs.Headline.{UnitsKept}
 use Rattle.mux_core.specs.Scheduled.{Scheduled}
 use Rattle.mux_core.proofs.UnitCounts.{own_units, units_append}
 use Rattle.laws_job.proofs.AcceptedUnits.{stream_there}
+use Rattle.laws_job.proofs.PrivateData.{Sixteen}
 use Rattle.tsmux_cli.specs.UnitList.{units_from, units_in, units_step, with_first}
 
 abbrev pub Fits : ℕ × AccessUnit → Type 0
@@ -43,7 +44,9 @@ some_bytes x xs = omega arith
 
 record_some : (k : ℕ) (u : AccessUnit) → 1 ≤ length (record_bytes k u)
 unfolding record_head
-record_some k u = some_bytes k ((big_bytes 4 (word_of u.marks (length u.bytes)) ++ (big_bytes 8 u.dts ++ big_bytes 8 u.pts)) ++ u.bytes)
+record_some k u =
+    some_bytes k
+    ((big_bytes 4 (word_of u.marks (private_size u.marks + length u.bytes)) ++ (big_bytes 8 u.dts ++ (big_bytes 8 u.pts ++ private_bytes u.marks.private_data))) ++ u.bytes)
 
 -- a record has bytes
 no_fewer : (units : List (ℕ × AccessUnit)) → length units ≤ length (records_of units)
@@ -55,12 +58,18 @@ records_read law units fits = read_from law units (1 + length (records_of units)
 
 -- 2. Units within a declaration fit
 
-unit_fits : (line : Scheduled) (k : ℕ) (s : DescribedStream) (u : AccessUnit) → IsStream s → IsUnit (owned_stream line k s).parameters u → FitsRecord u
+private_most : (private long access : Bool) → cond private 16 0 ≤ cond long 26 (cond private 17 0) + cond access 2 0
+private_most true true access = omega arith
+private_most true false access = omega arith
+private_most false long access = omega arith
+
+unit_fits : (line : Scheduled) (k : ℕ) (s : DescribedStream) (u : AccessUnit) → IsStream s → IsUnit (owned_stream line k s).parameters u × Sixteen u → FitsRecord u
 unit_fits line k s u range is = record {
-  size = omega (arith, is.most, range.most_size);
-  dts = omega (arith, is.last);
-  pts = omega (arith, is.last, is.soon);
-  marked = λ none. absurd (omega (arith, none, is.some));
+  size = omega (arith, is.0.most, range.most_size, private_most (is_some u.marks.private_data) u.marks.long u.marks.random_access);
+  dts = omega (arith, is.0.last);
+  pts = omega (arith, is.0.last, is.0.soon);
+  marked = λ none. absurd (omega (arith, none, is.0.some));
+  sixteen = is.1;
 }
 
 -- what holds of each stream's units holds of all
@@ -83,12 +92,19 @@ after_them P count fed (entry ∷ units) each below =
 pub of_all : (P : AccessUnit → Type 0) (count : ℕ) (units : List (ℕ × AccessUnit)) → ((k : ℕ) → k < count → All P (units_of k units)) → All (λ e. e.0 < count) units → All (λ e. P e.1) units
 of_all P count units each below = after_them P count [] units each below
 
+both_of : (P Q : AccessUnit → Type 0) (us : List AccessUnit) → All P us → All Q us → All (λ u. P u × Q u) us
+both_of P Q [] all each = All-nil (λ (u : AccessUnit). P u × Q u)
+both_of P Q (u ∷ us) all each =
+    All-cons (λ v. P v × Q v) u us (All-head P u us all, All-head Q u us each) (both_of P Q us (All-tail P u us all) (All-tail Q u us each))
+
 pub units_fit : (line : Scheduled) (units : List (ℕ × AccessUnit)) → IsInRange line.description → UnitsKept line (λ k. units_of k units) →
+    ((k : ℕ) (s : DescribedStream) → slice_get line.description.streams k ≡ Some s → All Sixteen (units_of k units)) →
     All (λ e. e.0 < length line.description.streams) units → All Fits units
-units_fit line units ranges kept below = of_all FitsRecord (length line.description.streams) units of_stream below
+units_fit line units ranges kept sixteen below = of_all FitsRecord (length line.description.streams) units of_stream below
   where
     of_stream : (k : ℕ) → k < length line.description.streams → All FitsRecord (units_of k units)
     of_stream k lt =
         let s = stream_there line.description.streams k lt in
-        All-weaker (IsUnit (owned_stream line k s.0).parameters) FitsRecord (λ u is. unit_fits line k s.0 u (stream_range line.description k s.0 ranges s.1) is) (units_of k units)
-        (kept.kept k s.0 s.1).units
+        All-weaker (λ u. IsUnit (owned_stream line k s.0).parameters u × Sixteen u) FitsRecord
+        (λ u is. unit_fits line k s.0 u (stream_range line.description k s.0 ranges s.1) is) (units_of k units)
+        (both_of (IsUnit (owned_stream line k s.0).parameters) Sixteen (units_of k units) (kept.kept k s.0 s.1).units (sixteen k s.0 s.1))

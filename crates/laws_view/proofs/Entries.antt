@@ -11,7 +11,7 @@ use Rattle.ts_report.specs.declared.view_options.ViewOptions.{ViewOptions}
 use Rattle.ts_report.specs.Choices.{chosen}
 use Rattle.ts_report.specs.Clocks.{ClockEntries}
 use Rattle.ts_report.specs.Entries.{EntryState}
-use Rattle.ts_report.specs.StreamTables.{TableState, beginning, begun, begun_if, entry_taken, new_entry, stream_buffers, stream_rates, taken, taken_at, taken_if, with_entry}
+use Rattle.ts_report.specs.StreamTables.{TableState, beginning, begun, begun_if, entry_taken, new_entry, stream_buffers, stream_frames, stream_limit, stream_rates, taken, taken_at, taken_if, with_entry}
 use Rattle.laws_view.proofs.Lists.{get_either, get_first, get_last, lookup_other, lookup_same, set_other, set_same, some_is}
 
 -- the place of a PID is that of its entry, and the entry of a place is of the PID that has it
@@ -63,6 +63,7 @@ new_place named t packet stream h =
 -- the entry of a stream that begins
 abbrev pub entry_begun : ViewOptions → NamedView → TableState → PacketView → FoundStreamView → EntryState
 entry_begun options named t packet stream = new_entry options packet.header.pid (program_clock named stream.program) (stream_buffers t stream packet) (stream_rates t stream packet)
+    (stream_frames t stream packet) (stream_limit stream)
 
 pub begun_agrees : (options : ViewOptions) (named : NamedView) (t : TableState) (packet : PacketView) → Agree t → Agree (begun options named t packet)
 unfolding begun_if

@@ -20,7 +20,8 @@ use Rattle.ts_report.specs.declared.tally.Tally.{Tally}
 use Rattle.ts_report.specs.declared.view_options.ViewOptions.{ViewOptions}
 use Rattle.ts_report.specs.Choices.{RequestView}
 use Rattle.ts_report.specs.Clocks.{ClockEntries, clock_of}
-use Rattle.ts_report.specs.Entries.{EntryState, arriving, beginning_in, is_unread, tally_after}
+use Rattle.ts_report.specs.Entries.{EntryState, arriving, beginning_in, is_unread}
+use Rattle.ts_report.specs.Tallies.{tally_after}
 use Rattle.ts_report.specs.Seen.{next_window}
 use Rattle.ts_report.specs.StreamTables.{TableState}
 use Rattle.ts_report.specs.Tallies.{in_window, none_counted}

@@ -13,7 +13,8 @@ use Rattle.ts_report.specs.declared.tally.Tally.{Tally}
 use Rattle.ts_report.specs.declared.view_options.ViewOptions.{ViewOptions}
 use Rattle.ts_report.specs.Choices.{RequestView}
 use Rattle.ts_report.specs.Clocks.{clock_of}
-use Rattle.ts_report.specs.Entries.{EntryState, arriving, beginning_in, is_unread, tally_after}
+use Rattle.ts_report.specs.Entries.{EntryState, arriving, beginning_in, is_unread}
+use Rattle.ts_report.specs.Tallies.{tally_after}
 use Rattle.ts_report.specs.Seen.{next_window}
 use Rattle.ts_report.specs.Tallies.{in_window}
 use Rattle.ts_report.specs.Views.{ViewState, clocked, start, with_begun}

@@ -16,7 +16,8 @@ use Rattle.ts_report.specs.declared.tally.Tally.{Tally}
 use Rattle.ts_report.specs.declared.view_options.ViewOptions.{ViewOptions}
 use Rattle.ts_report.specs.Clocks.{ClockEntries, clock_of, clocks_after, with_sample}
 use Rattle.pid_windows.specs.Windows.{one_more}
-use Rattle.ts_report.specs.Entries.{EntryState, arriving, beginning_in, is_unread, tally_after}
+use Rattle.ts_report.specs.Entries.{EntryState, arriving, beginning_in, is_unread}
+use Rattle.ts_report.specs.Tallies.{tally_after}
 use Rattle.ts_report.specs.Seen.{SeenState, next_window, with_counter_read}
 use Rattle.ts_report.specs.StreamTables.{entry_taken}
 use Rattle.ts_report.specs.Tallies.{in_window, is_late, more, with_excesses, with_packet as with_tallied, with_unit_if}

@@ -25,8 +25,9 @@ use Rattle.ts_report.specs.declared.view_options.ViewOptions.{ViewOptions}
 use Rattle.ts_report.specs.Choices.{RequestView}
 use Rattle.events.specs.declared.event.Event.{Event}
 use Rattle.ts_report.specs.EntryEvents.{main_event, main_figures, transport_event, with_one}
-use Rattle.ts_report.specs.Entries.{EntryState, closed, end_events, place_at}
+use Rattle.ts_report.specs.Entries.{EntryState, closed, closed_seen, end_events, place_at, seen_held, stays_closing}
 use Rattle.ts_report.specs.Tallies.{is_late}
+use Rattle.ts_report.specs.MarkTallies.{mark_events}
 use Rattle.ts_report.specs.VideoEvents.{video_closing_events}
 use Rattle.ts_report.specs.VideoFigures.{figures_of}
 use Rattle.ts_report.specs.StreamTables.{beginning, stream_buffers}
@@ -99,13 +100,16 @@ WholeStreamLaw = (request : RequestView) (rate : ℕ) (packets : List (List ℕ)
     length packets ≤ most_packets → slice_get (after_all (start request) packets).table.entries place ≡ Some e → 0 < e.held.rx → IsWhole request rate packets e
 
 -- the last events of a stream: before them are those of the last window and of what is under way, after them those of the two buffers of
--- video, if they are viewed
+-- video, if they are viewed, of buffers that are not empty for more than a second, and of the marks of its units
 pub record LastEvents (options : ViewOptions) (count window : ℕ) (e : EntryState) : Type 0 where
   pub before : List Event
   pub events : end_events options count window e
-      ≡ before ++ (transport_event e.pid (transport_most e.held) (with_one (closed window e).excesses (transport_under_way e.held))
-      ∷ main_event (place_at count e) (main_figures e.held (closed window e)) (closed window e)
-      ∷ video_closing_events options (place_at count e) (figures_of e.video e.held) (closed window e).units e.video_tally)
+      ≡ before ++ (transport_event e.pid (transport_most (seen_held e)) (with_one (closed_seen window e).excesses (transport_under_way (seen_held e)))
+      ∷ main_event (place_at count e) (main_figures (seen_held e) (closed_seen window e)) (closed_seen window e)
+      ∷ (video_closing_events options (place_at count e) (figures_of e.video (seen_held e)) (closed_seen window e).units e.video_tally
+      ++ (stays_closing options (place_at count e) e ++ mark_events e.pid e.mark_tally)))
+  -- what is viewed of a stream that is not viewed by access units is what all laws here speak of
+  pub by_packets : e.framed ≡ None → (seen_held e ≡ e.held) × (closed_seen window e ≡ closed window e)
 
 abbrev pub LastEventsLaw : Type 0
 LastEventsLaw = (options : ViewOptions) (count window : ℕ) (e : EntryState) → LastEvents options count window e

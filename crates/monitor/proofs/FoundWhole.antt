@@ -250,7 +250,7 @@ rising_all s (packet ∷ packets) count tail e n h =
     (rising_front s.packets s.packets (found_in s packet) (found_in_all (taken s packet) packets ++ tail) (omega arith) (at_findings s.packets packet s.states (packet_at packet))
     (rising_less s.packets (next_packet s.packets) (found_in_all (taken s packet) packets ++ tail) (omega arith) rest))
 
-ended_whole : (bytes : List ℕ) → (finished (taken_all start (cut_packets bytes))).found ≡ ended_found (taken_all start (cut_packets bytes)).packets (taken_all start (cut_packets bytes)).states
+pub ended_whole : (bytes : List ℕ) → (finished (taken_all start (cut_packets bytes))).found ≡ ended_found (taken_all start (cut_packets bytes)).packets (taken_all start (cut_packets bytes)).states
 ended_whole bytes =
     let packets = cut_packets bytes in
     let s = taken_all start packets in

@@ -24,3 +24,4 @@ pub mod FirstSeen
 pub mod GroupedFaults
 pub mod StreamReport
 pub mod TakenPackets
+pub mod HeaderFindings

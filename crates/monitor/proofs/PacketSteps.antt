@@ -9,6 +9,9 @@ use Rattle.ts_packet.specs.Reading.{packet_at}
 use Rattle.ts_packet.specs.PcrBytes.{has_pcr}
 use Rattle.ts_packet.specs.PidList.{Entry, entry_of, is_of_pid}
 use Rattle.demux.specs.Stream as stream
+use Rattle.demux.specs.Stream.{StreamState}
+use Rattle.demux.specs.Bodies.{headers_taken, without_bodies}
+use Rattle.demux.proofs.StreamBodies.{found_in_same, taken_same}
 use Rattle.demux.specs.Views.{FindingView}
 use Rattle.demux.specs.FoundSoFar.{found_in_all, taken_all}
 use Rattle.monitor.specs.declared.fault.StreamFault.{StreamFault}
@@ -22,6 +25,7 @@ use Rattle.monitor.specs.MonitorStates.{MonitorState, packet_taken, packets_take
 use Rattle.monitor.specs.Rules.{packet_rule, failing}
 use Rattle.monitor.specs.Faults.{packet_faults}
 use Rattle.monitor.specs.Begins.{pcr_places}
+use Rattle.monitor.proofs.HeaderFindings.{all_alike}
 
 -- 1. The parts of what is kept
 
@@ -30,16 +34,30 @@ unfolding all_noted
 noted_append s [] ys = refl
 noted_append s (x ∷ xs) ys = noted_append (finding_noted s x) xs ys
 
-pub taken_found : (s : MonitorState) (packets : List (List ℕ)) → (packets_taken s packets).found ≡ all_noted s.found (found_in_all s.demux packets)
-unfolding packets_taken found_in_all all_noted
-taken_found s [] = refl
-taken_found s (bytes ∷ packets) =
-    taken_found (packet_taken s bytes) packets ∙ sym (noted_append s.found (stream.found_in s.demux bytes) (found_in_all (stream.taken s.demux bytes) packets))
+-- of a stream that is this one besides bodies
+next_besides : (s t : StreamState) (bytes : List ℕ) → s ≡ without_bodies t → headers_taken s bytes ≡ without_bodies (stream.taken t bytes)
+next_besides s t bytes e = ap (λ (x : StreamState). headers_taken x bytes) e ∙ taken_same t bytes
 
-pub taken_demux : (s : MonitorState) (packets : List (List ℕ)) → (packets_taken s packets).demux ≡ taken_all s.demux packets
+found_besides : (found : FindingState) (s t : StreamState) (bytes : List ℕ) → s ≡ without_bodies t →
+    all_noted found (stream.found_in s bytes) ≡ all_noted found (stream.found_in t bytes)
+found_besides found s t bytes e =
+    ap (λ (x : StreamState). all_noted found (stream.found_in x bytes)) e
+    ∙ all_alike found (stream.found_in (without_bodies t) bytes) (stream.found_in t bytes) (found_in_same t bytes)
+
+pub taken_found : (s : MonitorState) (t : StreamState) (packets : List (List ℕ)) → s.demux ≡ without_bodies t →
+    (packets_taken s packets).found ≡ all_noted s.found (found_in_all t packets)
+unfolding packets_taken found_in_all all_noted
+taken_found s t [] e = refl
+taken_found s t (bytes ∷ packets) e =
+    taken_found (packet_taken s bytes) (stream.taken t bytes) packets (next_besides s.demux t bytes e)
+    ∙ ap (λ (found : FindingState). all_noted found (found_in_all (stream.taken t bytes) packets)) (found_besides s.found s.demux t bytes e)
+    ∙ sym (noted_append s.found (stream.found_in t bytes) (found_in_all (stream.taken t bytes) packets))
+
+pub taken_demux : (s : MonitorState) (t : StreamState) (packets : List (List ℕ)) → s.demux ≡ without_bodies t →
+    (packets_taken s packets).demux ≡ without_bodies (taken_all t packets)
 unfolding packets_taken taken_all
-taken_demux s [] = refl
-taken_demux s (bytes ∷ packets) = taken_demux (packet_taken s bytes) packets
+taken_demux s t [] e = e
+taken_demux s t (bytes ∷ packets) e = taken_demux (packet_taken s bytes) (stream.taken t bytes) packets (next_besides s.demux t bytes e)
 
 pub taken_count : (s : MonitorState) (packets : List (List ℕ)) → s.packets + length packets < 2 ^ 64 → (packets_taken s packets).packets ≡ s.packets + length packets
 unfolding packets_taken

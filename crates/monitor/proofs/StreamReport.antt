@@ -5,7 +5,9 @@ use Rattle.std.specs.List.{enumerate_from, flat_map}
 use Rattle.std.specs.Map.{lookup}
 use Rattle.std.proofs.lemmas.List.{append-nil}
 use Rattle.ts_packet.specs.PidList.{cut_packets}
-use Rattle.demux.specs.Stream.{StreamState, finished, start}
+use Rattle.demux.specs.Stream.{StreamState, ended_found, finished, start}
+use Rattle.demux.specs.Bodies.{states_without_bodies}
+use Rattle.demux.proofs.StreamBodies.{flat_same}
 use Rattle.demux.specs.FoundSoFar.{found_in_all, taken_all}
 use Rattle.monitor.specs.declared.fault.StreamFault.{StreamFault}
 use Rattle.monitor.specs.declared.fault.Rule.TheVariants as rules
@@ -18,7 +20,7 @@ use Rattle.monitor.specs.ProgramMaps.{no_maps}
 use Rattle.monitor.specs.TableStates.{new_watch, table_marked}
 use Rattle.monitor.specs.PacketStates.{PacketState, no_packets, packet_failed}
 use Rattle.monitor.specs.FindingStates.{FindingState, all_noted, none_noted}
-use Rattle.monitor.specs.MonitorStates.{MonitorState, demux_ended, found_to_end, none_taken, packet_taken, packets_taken, pat_marked, seen_to_end, stream_ended}
+use Rattle.monitor.specs.MonitorStates.{MonitorState, found_to_end, none_taken, packet_taken, packets_taken, pat_marked, seen_to_end, stream_ended}
 use Rattle.monitor.specs.Reports.{ended_after, ReportView, all_counts, all_faults, ended_map, grouped_faults, is_cut, late_fault, found_faults, pid_counts, report_of, watched}
 use Rattle.monitor.specs.Rules.{fault}
 use Rattle.monitor.specs.InOrder.{in_order}
@@ -33,7 +35,8 @@ use Rattle.monitor.proofs.PacketSteps.{carried_all, noted_append, seen_all, seen
 use Rattle.monitor.proofs.FindingSteps.{all_is, counts_of_found, faults_of_all, maps_of_all, table_of_all}
 use Rattle.monitor.proofs.Tallies.{carried_is, noted_is}
 use Rattle.monitor.proofs.FirstSeen.{by_keys, carried_unique, keys_first_seen, pids_are}
-use Rattle.monitor.proofs.FoundWhole.{begun_whole, found_whole, of_each, packet_count, rises}
+use Rattle.monitor.proofs.HeaderFindings.{all_alike}
+use Rattle.monitor.proofs.FoundWhole.{begun_whole, ended_whole, found_whole, of_each, packet_count, rises}
 use Rattle.monitor.proofs.LateMapsToEnd.{maps_alike}
 use Rattle.monitor.proofs.GroupedFaults.{findings_alike, pat_group, pcr_alike, pts_alike, table_group}
 
@@ -51,7 +54,7 @@ record Parts (rate limit : ℕ) (bytes : List ℕ) (s : MonitorState) : Type 0 w
   found : s.found ≡ whole_found rate bytes
 
 parts : (rate limit : ℕ) (bytes : List ℕ) → length bytes / 188 < 2 ^ 64 - 1 → Parts rate limit bytes (watched rate limit bytes)
-unfolding watched ended_after stream_ended found_to_end demux_ended whole_seen whole_found
+unfolding watched ended_after stream_ended found_to_end whole_seen whole_found
 parts rate limit bytes n =
     let packets = cut_packets bytes in
     let none = none_taken rate limit in
@@ -59,9 +62,13 @@ parts rate limit bytes n =
     let size : length packets ≡ length bytes / 188 = packet_count (length bytes / 188) bytes in
     let fits : 0 + length packets < 2 ^ 64 = omega arith in
     let count : s.packets ≡ length bytes / 188 = taken_count none packets fits ∙ zero-add (length packets) ∙ size in
-    let all : all_noted s.found (finished s.demux).found ≡ all_noted (none_noted rate) (found_whole bytes) =
-    ap₂ (λ (m : FindingState) (d : StreamState). all_noted m (finished d).found) (taken_found none packets) (taken_demux none packets)
-    ∙ sym (noted_append (none_noted rate) (found_in_all start packets) (finished (taken_all start packets)).found) in record {
+    let t = taken_all start packets in
+    let found : s.found ≡ all_noted (none_noted rate) (found_in_all start packets) = taken_found none start packets refl in
+    let all : all_noted s.found (ended_found s.demux.packets s.demux.states) ≡ all_noted (none_noted rate) (found_whole bytes) =
+    ap₂ (λ (m : FindingState) (d : StreamState). all_noted m (ended_found d.packets d.states)) found (taken_demux none start packets refl)
+    ∙ all_alike (all_noted (none_noted rate) (found_in_all start packets)) (ended_found t.packets (states_without_bodies t.states)) (ended_found t.packets t.states) (flat_same t.packets t.states)
+    ∙ ap (all_noted (all_noted (none_noted rate) (found_in_all start packets))) (sym (ended_whole bytes))
+    ∙ sym (noted_append (none_noted rate) (found_in_all start packets) (finished t).found) in record {
       packets = count;
       seen = ap₂ (λ (m : PacketState) (c : ℕ). seen_to_end m c (is_cut bytes)) (taken_seen none packets fits) count;
       found = ap₂ pat_marked all count;

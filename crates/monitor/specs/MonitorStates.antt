@@ -1,7 +1,8 @@
--- A stream of whole packets, packet by packet.
+-- A stream of whole packets, packet by packet. Bodies of PES packets are no part of it.
 use Rattle.std.specs.Prelude.{ℕ, ◌*◌, Bool, if◌then◌else◌, List, [], ◌∷◌}
 use Rattle.demux.specs.Stream as stream
 use Rattle.demux.specs.Stream.{StreamState}
+use Rattle.demux.specs.Bodies.{headers_taken}
 use Rattle.monitor.specs.PacketStates.{PacketState, no_packets, packet_failed, packet_watched}
 use Rattle.monitor.specs.TableStates.{table_marked}
 use Rattle.monitor.specs.declared.fault.Rule.TheVariants as rules
@@ -18,7 +19,7 @@ none_taken rate pcr_limit = record { demux = stream.start; packets = 0; seen = n
 
 abbrev pub packet_taken : MonitorState → List ℕ → MonitorState
 packet_taken s bytes = record {
-  demux = stream.taken s.demux bytes;
+  demux = headers_taken s.demux bytes;
   packets = stream.next_packet s.packets;
   seen = packet_watched s.seen s.packets bytes;
   found = all_noted s.found (stream.found_in s.demux bytes);
@@ -32,19 +33,17 @@ packets_taken s (bytes ∷ packets) = packets_taken (packet_taken s bytes) packe
 unfoldable pub seen_to_end : PacketState → ℕ → Bool → PacketState
 seen_to_end seen packets cut = if cut then packet_failed seen packets rules.Cut else seen
 
-unfoldable pub demux_ended : StreamState → StreamState
-demux_ended demux = stream.finished demux
-
 -- the last gap of the program association table ends with the stream
 unfoldable pub pat_marked : FindingState → ℕ → FindingState
 pat_marked found packets = record found { pat = table_marked found.pat packets }
 
+-- with what the end decides of each PID
 unfoldable pub found_to_end : FindingState → ℕ → StreamState → FindingState
-found_to_end found packets demux = pat_marked (all_noted found (demux_ended demux).found) packets
+found_to_end found packets demux = pat_marked (all_noted found (stream.ended_found demux.packets demux.states)) packets
 
 unfoldable pub stream_ended : MonitorState → Bool → MonitorState
 stream_ended s cut = record {
-  demux = demux_ended s.demux;
+  demux = s.demux;
   packets = s.packets;
   seen = seen_to_end s.seen s.packets cut;
   found = found_to_end s.found s.packets s.demux;

@@ -1,7 +1,7 @@
 //! A monitor of transport streams: fifteen rules of the kind of ETSI TR 101 290 over any stream, packet by packet.
 //!
 //! `report` gives the counts of each PID and the faults of a whole stream; `Monitor` takes a stream as it comes and
-//! keeps a state for each PID, and no packet.
+//! keeps a state for each PID, and no body of a PES packet.
 #![tactic(auto)]
 
 // What is reported.

@@ -1,8 +1,9 @@
 //! A stream packet by packet.
 ghost use Rattle.std.specs.Prelude.{◌≡◌, ◌<◌, ◌^◌, ◌∷◌, [], false, true, IfOk, OnOk, length, map};
-ghost use Rattle.demux.specs.Stream.{is_aligned};
+ghost use Rattle.demux.specs.Stream.{ended_found, is_aligned};
 ghost use Rattle.monitor.specs.Taken.{HasTaken, ReportsTaken, Takes};
-ghost use Rattle.monitor.specs.MonitorStates.{demux_ended, found_to_end, packet_taken, stream_ended};
+ghost use Rattle.monitor.specs.FindingStates.{all_noted};
+ghost use Rattle.monitor.specs.MonitorStates.{found_to_end, packet_taken, stream_ended};
 ghost use Rattle.monitor.specs.InOrder.{in_order};
 ghost use Rattle.monitor.specs.ReportOf.{stream_report};
 ghost use Rattle.monitor.specs.Reports.{grouped_faults, pid_counts, report_of};
@@ -13,18 +14,19 @@ use crate::finding_watch::FindingWatch;
 use crate::packet_watch::PacketWatch;
 use crate::reports::{PidCounts, Report, ReportError, append_late, in_order};
 use clock27::Rate;
-use demux::{Demux, Finding};
+use demux::{Finding, HeaderDemux};
 use std::alloc::{AllocError, Allocator, Global};
 use std::marker::Model;
 use ts_packet::read_packet;
 
-/// A monitor that takes a stream packet by packet: a state for each PID, and the faults so far. No packet is kept.
+/// A monitor that takes a stream packet by packet: a state for each PID, and the faults so far. Of a PID its last packet is
+/// kept, of its open section at most 4,098 bytes, and of its open PES packet the header.
 ///
 /// After an `AllocError` its state describes no stream: drop it.
 #[derive(Drop)]
 pub struct Monitor<A: Allocator = Global> {
     alloc: A,
-    demux: Demux<A>,
+    demux: HeaderDemux<A>,
     packets: u64,
     seen: PacketWatch<A>,
     found: FindingWatch<A>,
@@ -72,17 +74,20 @@ fn ordered_faults<A: Allocator + Copy>(
     Ok(in_order(faults))
 }
 
-// The stream ends for its demultiplexer.
-#[tactic(auto, unfolding(crate::specs::MonitorStates::demux_ended))]
-fn end_demux<A: Allocator + Copy>(demux: &mut Demux<A>) -> Result<(), AllocError>
-    requires { is_aligned demux.old ≡ true }
-    ensures ended { OnOk result (demux.new ≡ demux_ended demux.old) }
-    ensures aligned { is_aligned demux.new ≡ true }
+// Notes what the end of the stream decides, PID by PID.
+fn note_ends<A: Allocator + Copy>(
+    alloc: A,
+    demux: &HeaderDemux<A>,
+    found: &mut FindingWatch<A>,
+) -> Result<(), AllocError>
+    ensures { OnOk result (found.new ≡ all_noted found.old (ended_found demux.now.packets demux.now.states)) }
 {
-    match demux.finish() {
-        Ok(()) => Ok(()),
-        Err(_) => Err(AllocError),
+    for i in 0..demux.pids() {
+        let mut ends: Vec<Finding<'static, A>, A> = Vec::new(alloc);
+        demux.end_of_pid(i, &mut ends)?;
+        found.note_all(ends.as_slice())?;
     }
+    Ok(())
 }
 
 // The counts of the PIDs.
@@ -119,7 +124,7 @@ impl<A: Allocator + Copy> Monitor<A> {
         let found = FindingWatch::new(alloc, bits)?;
         Ok(Monitor {
             alloc,
-            demux: Demux::new(alloc),
+            demux: HeaderDemux::new(alloc),
             packets: 0,
             seen: PacketWatch::new(alloc, pcr_limit as u64 * bits),
             found,
@@ -143,6 +148,7 @@ impl<A: Allocator + Copy> Monitor<A> {
     // The next packet, which is read. What is found in it goes to the room of what was found in others. It stays a call of
     // its own: few packets come to it, and what is read would else be made ready for each.
     #[inline(never)]
+    #[tactic(auto, using(crate::proofs::HeaderFindings::noted_in))]
     fn read_next<'a>(
         &mut self,
         bytes: &'a [u8; 188],
@@ -152,9 +158,7 @@ impl<A: Allocator + Copy> Monitor<A> {
     {
         let read = read_packet(bytes);
         found.clear();
-        let Ok(()) = self.demux.take_read(bytes, &read, found) else {
-            return Err(AllocError);
-        };
+        self.demux.take_read(bytes, &read, found)?;
         self.found.note_all(found.as_slice())?;
         self.seen.take(self.packets, &read)?;
         self.packets = self.packets.saturating_add(1);
@@ -199,12 +203,10 @@ impl<A: Allocator + Copy> Monitor<A> {
     #[tactic(auto, unfolding(crate::specs::MonitorStates::found_to_end))]
     fn end_findings(&mut self) -> Result<(), AllocError>
         ensures { OnOk result (self.new ≡ record self.old {
-          demux = demux_ended self.old.demux;
           found = found_to_end self.old.found self.old.packets self.old.demux;
         }) }
     {
-        end_demux(&mut self.demux)?;
-        self.found.note_all(self.demux.findings())?;
+        note_ends(self.alloc, &self.demux, &mut self.found)?;
         self.found.end_pat(self.packets)
     }
 

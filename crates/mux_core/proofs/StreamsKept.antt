@@ -8,6 +8,8 @@ use Rattle.unit_timing.specs.PesPacket.{PesPacket}
 use Rattle.unit_timing.specs.Schedule.{Packet}
 use Rattle.unit_timing.specs.Transport.{slots_of, tb_fullness, pes_left, NoneLeavesEarly}
 use Rattle.unit_timing.specs.Arrived.{AllLeft}
+use Rattle.unit_timing.specs.EmptyBuffers.{IsEmptyEachSecond}
+use Rattle.unit_timing.specs.LongestStay.{WaitsAtMost}
 use Rattle.unit_timing.specs.MainBuffer.{mb_fullness}
 use Rattle.unit_timing.specs.VideoBuffers.{multiplexing_left, multiplexing_fullness, elementary_fullness}
 use Rattle.unit_timing.specs.Plans.{KeepsDeclaration, run_packets}
@@ -18,6 +20,7 @@ use Rattle.description.specs.Described.{DescribedStream}
 use Rattle.slot_plan.specs.declared.slot.Item.TheVariants.{Stream as StreamItem}
 use Rattle.slot_plan.specs.Schedule.{owned}
 use Rattle.plan_timing.specs.Promised.{declaration, Promised}
+use Rattle.plan_timing.specs.Waits.{pes_entered, longest_wait}
 use Rattle.tstd.specs.Carried.{timed_pes_packets, packets_on}
 use Rattle.tstd.specs.Measured.{late_of}
 use Rattle.unit_queue.specs.Queues.{Kept}
@@ -76,6 +79,7 @@ stream_kept d k s units content n is alone kept promised =
       pieces = carried.pieces;
       counters = carried.counters;
       not_early = carried.released;
+      waits = subst (λ (ps : List Packet). WaitsAtMost longest_wait rate s.rx pes (pes_entered s.rx ps)) packets (promised.waits k s pes n is);
       transport = λ x. subst (λ (ps : List Packet). tb_fullness rate s.rx x (slots_of ps) ≤ 512) packets (served.transport n x);
       arrived = subst (λ (ps : List Packet). late_of rate d.description.base0 n s units ps ≡ None) packets
           (late_law.none_late rate s.rx n 0 pes (pes_left rate s.rx 0 (run_packets (owned d.schedule (StreamItem k)) rate (declaration s) pes n)) (served.arrived n));
@@ -85,6 +89,10 @@ stream_kept d k s units content n is alone kept promised =
         multiplexing = λ x. subst (λ (ps : List Packet). multiplexing_fullness rate s.rx b.rbx x ps ≤ b.size) packets (video.multiplexing n x);
         elementary = λ x. subst (λ (ps : List Packet). elementary_fullness rate s.rx b.rbx x pes ps ≤ s.main) packets (video.elementary n x);
         whole = subst (λ (ps : List Packet). AllLeft rate (s.rx * b.rbx) n pes (multiplexing_left rate s.rx b.rbx ps)) packets (video.whole n);
+        transport_empties = subst (λ (ps : List Packet). IsEmptyEachSecond rate s.rx (λ x. tb_fullness rate s.rx x (slots_of ps))) packets
+            ((promised.emptied k s b pes is some).0 n);
+        multiplexing_empties = subst (λ (ps : List Packet). IsEmptyEachSecond rate (s.rx * b.rbx) (λ x. multiplexing_fullness rate s.rx b.rbx x ps)) packets
+            ((promised.emptied k s b pes is some).1 n);
       };
       frames = frames_kept d k s units content n is alone kept promised;
     }

@@ -19,6 +19,8 @@ use Rattle.own_slots.specs.Slots.{own_slots}
 use Rattle.unit_timing.specs.declared.framing.Framing.{Framing}
 use Rattle.unit_timing.specs.declared.multiplexing_buffer.MultiplexingBuffer.{MultiplexingBuffer}
 use Rattle.unit_timing.specs.Arrived.{AllLeft}
+use Rattle.unit_timing.specs.EmptyBuffers.{IsEmptyEachSecond}
+use Rattle.unit_timing.specs.LongestStay.{WaitsAtMost}
 use Rattle.unit_timing.specs.MainBuffer.{mb_fullness}
 use Rattle.unit_timing.specs.VideoBuffers.{multiplexing_left, multiplexing_fullness, elementary_fullness}
 use Rattle.unit_timing.specs.SystemBuffer.{system_tb_fullness, bsys_fullness}
@@ -33,6 +35,7 @@ use Rattle.mux_core.specs.Histories.{History, parameters_of, owned_stream, table
 use Rattle.mux_core.specs.MuxStates.{MuxState, Stands}
 use Rattle.description.specs.Ranges.{IsInRange}
 use Rattle.plan_timing.specs.Promised.{Promised}
+use Rattle.plan_timing.specs.Waits.{pes_entered, longest_wait}
 use Rattle.unit_queue.specs.Queues.{ParametersInRange, Kept}
 
 -- of a stream with a multiplexing buffer (ISO/IEC 13818-1, 2.4.2.3, the leak method)
@@ -45,6 +48,11 @@ pub record VideoKept (d : Scheduled) (s : DescribedStream) (b : MultiplexingBuff
   -- each unit that is due is whole in the elementary stream buffer by its decoding time
   pub whole : AllLeft d.description.rate (s.rx * b.rbx) slots (timed_pes_packets s.stream_id d.description.base0 units)
       (multiplexing_left d.description.rate s.rx b.rbx (packets_on s.pid bytes))
+  -- the transport buffer is empty at least once in each second (2.4.2.6)
+  pub transport_empties : IsEmptyEachSecond d.description.rate s.rx (λ x. tb_fullness d.description.rate s.rx x (slots_of (packets_on s.pid bytes)))
+  -- and so is the multiplexing buffer
+  pub multiplexing_empties : IsEmptyEachSecond d.description.rate (s.rx * b.rbx)
+      (λ x. multiplexing_fullness d.description.rate s.rx b.rbx x (packets_on s.pid bytes))
 
 -- of a stream, of which these units were accepted
 pub record StreamKept (d : Scheduled) (k : ℕ) (s : DescribedStream) (units : List AccessUnit) (slots : ℕ) (bytes : List ℕ) : Type 0 where
@@ -58,6 +66,9 @@ pub record StreamKept (d : Scheduled) (k : ℕ) (s : DescribedStream) (units : L
   -- no byte of a unit is in a slot that begins earlier than the lead before its decoding time
   pub not_early : (j : ℕ) (e : Entry) (u : AccessUnit) → slice_get (pid_list s.pid bytes) j ≡ Some e → slice_get (all_senders (owned_stream d k s) units) j ≡ Some u →
       IsReleased (owned_stream d k s) u e.index
+  -- nor does a byte of a unit come into the decoder earlier than a second before that (ISO/IEC 13818-1, 2.4.2.6)
+  pub waits : WaitsAtMost longest_wait d.description.rate s.rx (timed_pes_packets s.stream_id d.description.base0 units)
+      (pes_entered s.rx (packets_on s.pid bytes))
   -- the transport buffer never holds more than 512 bytes
   pub transport : (x : ℕ) → tb_fullness d.description.rate s.rx x (slots_of (packets_on s.pid bytes)) ≤ 512
   -- no unit that is due is late: each has left the transport buffer whole by its decoding time

@@ -1,5 +1,8 @@
 -- What a record, and the end, leave of a run.
-use Rattle.std.proofs.Common.{◌≡◌, ℕ, ◌+◌, ◌&&◌, nat_lt, max, Bool, List, [], Option, Some, None, sym, ap, ◌∙◌, subst}
+use Rattle.std.proofs.Common.{◌≡◌, ℕ, ◌+◌, max, Bool, true, false, List, [], Option, Some, None, Result, refl, sym, ap, ◌∙◌, subst}
+use Rattle.std.specs.Prelude.{IfErr, OnOk}
+use Rattle.packet_output.specs.declared.output.OutputFault.{OutputFault}
+use Rattle.unit_queue.specs.declared.refusal.FeedError.{FeedError}
 use Rattle.description.specs.Ranges.{IsInRange}
 use Rattle.plan_timing.specs.Promised.{Promised}
 use Rattle.pes_packet.specs.AccessUnits.{AccessUnit}
@@ -16,8 +19,9 @@ use Rattle.mux_core.proofs.Accepted.{standing}
 use Rattle.on_air.specs.declared.leap.Leap.{Leap}
 use Rattle.on_air.specs.declared.options.Terms.{Terms}
 use Rattle.on_air.specs.declared.refusals.AirRefusal.{AirRefusal}
-use Rattle.on_air.specs.Airing.{Run, Air, silence, job_of, air_output, lead_of, limit_of, settled, settled_at, last_of, last_at, on_to, air_cause, accepted_by, aired_by, aired, ended, is_far_from, leap_by, is_ahead}
-use Rattle.on_air.specs.Leaps.{is_far, leap_after, leap_records, no_leap}
+use Rattle.on_air.specs.declared.refusals.AirRefusal.TheVariants.{Feed, Ahead, Followed}
+use Rattle.on_air.specs.Airing.{Run, Air, silence, job_of, air_output, lead_of, limit_of, settled, settled_at, last_of, last_at, on_to, air_cause, accepted_by, greatest_by, is_far_from, caught_up, judged, judged_by, leap_by, leap_left, slots_followed, with_count}
+use Rattle.on_air.specs.Leaps.{is_far, is_followed, leap_with, no_leap}
 use Rattle.on_air.specs.AirStates.{AirState, Carries, with_slots, WroteOn, Promises, Admits, IsOnAir, run_with}
 use Rattle.on_air.specs.Hearing.{Fails}
 
@@ -37,9 +41,9 @@ pub record Moves (old new : AirState) : Type 0 where
 
 -- a record was refused
 refused_by : (run : Run) (a : Air) (entry : ℕ × AccessUnit) (cause : AirRefusal) (start now : Option (List ℕ)) (old new : AirState) → IsOnAir run a start now old → Moves old new →
-    new.packets ≡ old.packets → new.greatest ≡ old.greatest → new.leap ≡ leap_by run a entry → new.records ≡ old.records + 1 → Carries run (job_of a) new.mux →
-    IsOnAir run (aired_by run a entry (Some cause)) start now new
-unfolding aired_by
+    new.packets ≡ old.packets → new.greatest ≡ greatest_by a cause → new.leap ≡ leap_left run a entry cause → new.records ≡ old.records + 1 → Carries run (job_of a) new.mux →
+    IsOnAir run (judged_by run a entry (Some cause)) start now new
+unfolding judged_by
 refused_by run a entry cause start now old new h moves packets greatest leap records mux = record {
   mux = mux;
   promises = h.promises;
@@ -47,86 +51,110 @@ refused_by run a entry cause start now old new h moves packets greatest leap rec
   hex = ap (λ (p : Buffered). p.hex) packets ∙ h.hex;
   rate = moves.rate ∙ h.rate;
   lead = moves.lead ∙ h.lead;
-  greatest = greatest ∙ h.greatest;
+  greatest = greatest;
   leap = leap;
   records = records ∙ ap (λ (n : ℕ). n + 1) h.records;
   output = subst (λ (p : Buffered). IsOutput start now p (air_output run a)) (sym packets) h.output;
   headline = h.headline;
 }
 
-pub refused_on : (run : Run) (a : Air) (entry : ℕ × AccessUnit) (cause : AirRefusal) (start now : Option (List ℕ)) (old new : AirState) → IsOnAir run a start now old → Moves old new →
-    new.packets ≡ old.packets → new.greatest ≡ old.greatest → new.leap ≡ leap_by run a entry → new.records ≡ old.records + 1 → Admits run a entry (Some cause) new.mux →
-    (air_cause run a entry ≡ Some cause) × IsOnAir run (aired run a entry) start now new
-unfolding accepted_by
+-- by the multiplexer
+pub refused_on : (run : Run) (a : Air) (entry : ℕ × AccessUnit) (cause : FeedError) (start now : Option (List ℕ)) (old new : AirState) → IsOnAir run a start now old → Moves old new →
+    new.packets ≡ old.packets → new.greatest ≡ old.greatest → new.leap ≡ old.leap → new.records ≡ old.records + 1 → Admits run a entry (Some (Feed cause)) new.mux →
+    (air_cause run a entry ≡ Some (Feed cause)) × IsOnAir run (judged run a entry) start now new
+unfolding accepted_by greatest_by leap_left
 refused_on run a entry cause start now old new h moves packets greatest leap records admits = (
   sym admits.cause,
-  subst (λ (o : Option AirRefusal). IsOnAir run (aired_by run a entry o) start now new) admits.cause
-      (refused_by run a entry cause start now old new h moves packets greatest leap records admits.mux),
+  subst (λ (o : Option AirRefusal). IsOnAir run (judged_by run a entry o) start now new) admits.cause
+      (refused_by run a entry (Feed cause) start now old new h moves packets (greatest ∙ h.greatest) (leap ∙ h.leap) records admits.mux),
 )
 
--- what is written before the slots that a record settles
-pub admitted_output : (run : Run) (a : Air) (entry : ℕ × AccessUnit) (refused : Option AirRefusal) (m : MuxState) (start now : Option (List ℕ)) (old : AirState) (hex : Bool) (packets : Buffered) →
-    IsOnAir run a start now old → packets ≡ old.packets → hex ≡ old.packets.hex → Admits run a entry refused m →
-    IsOutput start now packets (output_of hex run.scheduled (job_history (accepted_by a entry refused) a.slots))
-admitted_output run a entry refused m start now old hex packets h same like admits =
-    let before : air_output run a ≡ output_of hex run.scheduled (job_history (accepted_by a entry refused) a.slots) =
-    sym admits.before ∙ ap (λ (b : Bool). output_of b run.scheduled (job_history (accepted_by a entry refused) a.slots)) (sym (like ∙ h.hex)) in
-    subst (λ (l : List ℕ). IsOutput start now packets l) before (subst (λ (p : Buffered). IsOutput start now p (air_output run a)) (sym same) h.output)
+-- for being ahead; the multiplexer is as it was
+not_followed : (run : Run) (a : Air) (entry : ℕ × AccessUnit) → is_far_from run a entry ≡ true → is_followed (leap_by run a entry) ≡ false → air_cause run a entry ≡ Some Ahead
+not_followed run a entry far few = rw (far, few) refl
 
--- a record was taken, and the slots that it settles were written
-taken_by : (run : Run) (a : Air) (entry : ℕ × AccessUnit) (hex : Bool) (start now later : Option (List ℕ)) (m : MuxState) (old new : AirState) → IsOnAir run a start now old → Moves old new →
-    hex ≡ old.packets.hex → new.greatest ≡ max old.greatest entry.1.dts → new.leap ≡ leap_by run a entry → new.records ≡ old.records + 1 →
-    Carries run (job_history (accepted_by a entry None) a.slots) m →
-    WroteOn run (with_slots (job_history (accepted_by a entry None) a.slots) (on_to a.slots (settled_at run entry.1.dts))) hex start later new.mux new.packets →
-    IsOnAir run (aired_by run a entry None) start later new
-unfolding aired_by
-taken_by run a entry hex start now later m old new h moves like greatest leap records mux wrote =
-    let slots = on_to a.slots (settled_at run entry.1.dts) in
-    record {
-      mux = wrote.mux;
-      promises = h.promises;
-      terms = moves.terms ∙ h.terms;
-      hex = wrote.hex_is ∙ like ∙ h.hex;
-      rate = moves.rate ∙ h.rate;
-      lead = moves.lead ∙ h.lead;
-      greatest = greatest ∙ ap (λ (n : ℕ). max n entry.1.dts) h.greatest;
-      leap = leap;
-      records = records ∙ ap (λ (n : ℕ). n + 1) h.records;
-      output = subst (λ (b : Bool). IsOutput start later new.packets (output_of b run.scheduled (job_history (accepted_by a entry None) slots))) (like ∙ h.hex) wrote.output;
-      headline = keeps run (accepted_by a entry None) a.slots slots m h.promises mux;
-    }
-
-pub taken_on : (run : Run) (a : Air) (entry : ℕ × AccessUnit) (target : ℕ) (hex : Bool) (start now later : Option (List ℕ)) (m : MuxState) (old new : AirState) → IsOnAir run a start now old → Moves old new →
-    hex ≡ old.packets.hex → new.greatest ≡ max old.greatest entry.1.dts → new.leap ≡ leap_by run a entry → new.records ≡ old.records + 1 → Admits run a entry None m → target ≡ settled_at run entry.1.dts →
-    WroteOn run (with_slots (job_history (accepted_by a entry None) a.slots) (on_to a.slots target)) hex start later new.mux new.packets →
-    (air_cause run a entry ≡ None) × IsOnAir run (aired run a entry) start later new
-taken_on run a entry target hex start now later m old new h moves like greatest leap records admits is wrote = (
-  sym admits.cause,
-  subst (λ (o : Option AirRefusal). IsOnAir run (aired_by run a entry o) start later new) admits.cause
-      (taken_by run a entry hex start now later m old new h moves like greatest leap records admits.mux
-      (subst (λ (n : ℕ). WroteOn run (with_slots (job_history (accepted_by a entry None) a.slots) (on_to a.slots n)) hex start later new.mux new.packets) is wrote)),
-)
-
--- the writer failed
-fails_by : (run : Run) (a : Air) (entry : ℕ × AccessUnit) (start later : Option (List ℕ)) (sent : ℕ) (m : MuxState) → Promises run.scheduled →
-    Carries run (job_history (accepted_by a entry None) a.slots) m →
-    Took start later sent (output_of run.hex run.scheduled (with_slots (job_history (accepted_by a entry None) a.slots) (on_to a.slots (settled_at run entry.1.dts)))) →
-    Fails run (aired_by run a entry None) start later sent
-unfolding aired_by
-fails_by run a entry start later sent m promises mux took =
-    record { took = took; headline = keeps run (accepted_by a entry None) a.slots (on_to a.slots (settled_at run entry.1.dts)) m promises mux }
-
-pub fails_on : (run : Run) (a : Air) (entry : ℕ × AccessUnit) (target sent : ℕ) (hex : Bool) (start now later : Option (List ℕ)) (m : MuxState) (old : AirState) → IsOnAir run a start now old →
-    hex ≡ old.packets.hex → Admits run a entry None m → target ≡ settled_at run entry.1.dts →
-    Took start later sent (output_of hex run.scheduled (with_slots (job_history (accepted_by a entry None) a.slots) (on_to a.slots target))) →
-    (air_cause run a entry ≡ None) × Fails run (aired run a entry) start later sent
-fails_on run a entry target sent hex start now later m old h like admits is took =
-    let there : Took start later sent (output_of run.hex run.scheduled (with_slots (job_history (accepted_by a entry None) a.slots) (on_to a.slots (settled_at run entry.1.dts)))) =
-    subst (λ (b : Bool). Took start later sent (output_of b run.scheduled (with_slots (job_history (accepted_by a entry None) a.slots) (on_to a.slots (settled_at run entry.1.dts))))) (like ∙ h.hex)
-    (subst (λ (n : ℕ). Took start later sent (output_of hex run.scheduled (with_slots (job_history (accepted_by a entry None) a.slots) (on_to a.slots n)))) is took) in (
-      sym admits.cause,
-      subst (λ (o : Option AirRefusal). Fails run (aired_by run a entry o) start later sent) admits.cause (fails_by run a entry start later sent m h.promises admits.mux there),
+pub passed_over : (run : Run) (a : Air) (entry : ℕ × AccessUnit) (start now : Option (List ℕ)) (old new : AirState) → IsOnAir run a start now old → Moves old new →
+    is_far_from run a entry ≡ true → is_followed (leap_by run a entry) ≡ false → new.mux ≡ old.mux →
+    new.packets ≡ old.packets → new.greatest ≡ old.greatest → new.leap ≡ leap_by run a entry → new.records ≡ old.records + 1 →
+    (air_cause run a entry ≡ Some Ahead) × IsOnAir run (judged run a entry) start now new
+unfolding greatest_by leap_left
+passed_over run a entry start now old new h moves far few mux packets greatest leap records =
+    let cause = not_followed run a entry far few in (
+      cause,
+      subst (λ (o : Option AirRefusal). IsOnAir run (judged_by run a entry o) start now new) (sym cause)
+          (refused_by run a entry Ahead start now old new h moves packets (greatest ∙ h.greatest) leap records (subst (λ (m : MuxState). Carries run (job_of a) m) (sym mux) h.mux)),
     )
+
+-- or as the last of a leap
+followed_cause : (run : Run) (a : Air) (entry : ℕ × AccessUnit) → is_far_from run a entry ≡ true → is_followed (leap_by run a entry) ≡ true →
+    air_cause run a entry ≡ Some (Followed a.slots a.greatest entry.1.dts)
+followed_cause run a entry far many = rw (far, many) refl
+
+followed_same : (packet slots from greatest to due : ℕ) → packet ≡ slots → from ≡ greatest → to ≡ due → Followed packet from to ≡ Followed slots greatest due
+followed_same packet slots from greatest to due p f t = rw (p, f, t) refl
+
+pub passed_last : (run : Run) (a : Air) (entry : ℕ × AccessUnit) (packet from to : ℕ) (start now : Option (List ℕ)) (old new : AirState) → IsOnAir run a start now old → Moves old new →
+    is_far_from run a entry ≡ true → is_followed (leap_by run a entry) ≡ true → packet ≡ a.slots → from ≡ old.greatest → to ≡ entry.1.dts → new.mux ≡ old.mux →
+    new.packets ≡ old.packets → new.greatest ≡ to → new.leap ≡ no_leap → new.records ≡ old.records + 1 →
+    (air_cause run a entry ≡ Some (Followed packet from to)) × IsOnAir run (judged run a entry) start now new
+unfolding greatest_by leap_left
+passed_last run a entry packet from to start now old new h moves far many p f t mux packets greatest leap records =
+    let told : Followed packet from to ≡ Followed a.slots a.greatest entry.1.dts = followed_same packet a.slots from a.greatest to entry.1.dts p (f ∙ h.greatest) t in
+    let cause : air_cause run a entry ≡ Some (Followed packet from to) = followed_cause run a entry far many ∙ ap Some (sym told) in (
+      cause,
+      subst (λ (o : Option AirRefusal). IsOnAir run (judged_by run a entry o) start now new) (sym cause)
+          (refused_by run a entry (Followed packet from to) start now old new h moves packets greatest leap records
+          (subst (λ (m : MuxState). Carries run (job_of a) m) (sym mux) h.mux)),
+    )
+
+-- a record was taken, and no slot that it settles is written yet
+pub admitted : Air → ℕ × AccessUnit → Air
+admitted a entry = record {
+  accepted = accepted_by a entry None;
+  slots = a.slots;
+  greatest = max a.greatest entry.1.dts;
+  leap = no_leap;
+  records = a.records + 1;
+  refused = a.refused;
+}
+
+pub admitted_on : (run : Run) (a : Air) (entry : ℕ × AccessUnit) (start now : Option (List ℕ)) (old new : AirState) → IsOnAir run a start now old → Moves old new →
+    new.packets ≡ old.packets → new.greatest ≡ max old.greatest entry.1.dts → new.leap ≡ no_leap → new.records ≡ old.records + 1 → Admits run a entry None new.mux →
+    IsOnAir run (admitted a entry) start now new
+unfolding admitted
+admitted_on run a entry start now old new h moves packets greatest leap records admits = record {
+  mux = admits.mux;
+  promises = h.promises;
+  terms = moves.terms ∙ h.terms;
+  hex = ap (λ (p : Buffered). p.hex) packets ∙ h.hex;
+  rate = moves.rate ∙ h.rate;
+  lead = moves.lead ∙ h.lead;
+  greatest = greatest ∙ ap (λ (n : ℕ). max n entry.1.dts) h.greatest;
+  leap = leap;
+  records = records ∙ ap (λ (n : ℕ). n + 1) h.records;
+  output = subst (λ (l : List ℕ). IsOutput start now new.packets l) (sym admits.before) (subst (λ (p : Buffered). IsOutput start now p (air_output run a)) (sym packets) h.output);
+  headline = keeps run (accepted_by a entry None) a.slots a.slots new.mux h.promises admits.mux;
+}
+
+-- then these slots were written
+pub taken_on : (run : Run) (a : Air) (entry : ℕ × AccessUnit) (due : ℕ) (start later : Option (List ℕ)) (m : MuxState) (new : AirState) → Admits run a entry None m → due ≡ entry.1.dts →
+    IsOnAir run (with_count (admitted a entry) (on_to (admitted a entry).slots (settled_at run due))) start later new → (air_cause run a entry ≡ None) × IsOnAir run (judged run a entry) start later new
+unfolding admitted judged_by
+taken_on run a entry due start later m new admits is on = (
+  sym admits.cause,
+  subst (λ (o : Option AirRefusal). IsOnAir run (judged_by run a entry o) start later new) admits.cause
+      (subst (λ (n : ℕ). IsOnAir run (with_count (admitted a entry) (on_to (admitted a entry).slots (settled_at run n))) start later new) is on),
+)
+
+-- or the writer failed
+pub fails_on : (run : Run) (a : Air) (entry : ℕ × AccessUnit) (due sent : ℕ) (start later : Option (List ℕ)) (m : MuxState) → Admits run a entry None m → due ≡ entry.1.dts →
+    Fails run (with_count (admitted a entry) (on_to (admitted a entry).slots (settled_at run due))) start later sent → (air_cause run a entry ≡ None) × Fails run (judged run a entry) start later sent
+unfolding admitted judged_by
+fails_on run a entry due sent start later m admits is fails = (
+  sym admits.cause,
+  subst (λ (o : Option AirRefusal). Fails run (judged_by run a entry o) start later sent) admits.cause
+      (subst (λ (n : ℕ). Fails run (with_count (admitted a entry) (on_to (admitted a entry).slots (settled_at run n))) start later sent) is fails),
+)
 
 -- what waited was written
 pub flushed : (run : Run) (a : Air) (start now later : Option (List ℕ)) (old new : AirState) → IsOnAir run a start now old → Moves old new → new.mux ≡ old.mux →
@@ -157,34 +185,65 @@ end_output run a start now old packets h same =
     subst (λ (p : Buffered). IsOutput start now p (output_of p.hex run.scheduled (job_of a))) (sym same)
     (subst (λ (b : Bool). IsOutput start now old.packets (output_of b run.scheduled (job_of a))) (sym h.hex) h.output)
 
-pub ended_on : (run : Run) (a : Air) (target : ℕ) (hex : Bool) (start now later : Option (List ℕ)) (old new : AirState) → IsOnAir run a start now old → Moves old new →
-    hex ≡ old.packets.hex → new.greatest ≡ old.greatest → new.leap ≡ old.leap → new.records ≡ old.records → target ≡ last_at run a.greatest →
-    WroteOn run (with_slots (job_of a) (on_to a.slots target)) hex start later new.mux new.packets → IsOnAir run (ended run a) start later new
-ended_on run a target hex start now later old new h moves like greatest leap records is w =
-    let wrote = subst (λ (n : ℕ). WroteOn run (with_slots (job_of a) (on_to a.slots n)) hex start later new.mux new.packets) is w in
-    record {
-      mux = wrote.mux;
-      promises = h.promises;
-      terms = moves.terms ∙ h.terms;
-      hex = wrote.hex_is ∙ like ∙ h.hex;
-      rate = moves.rate ∙ h.rate;
-      lead = moves.lead ∙ h.lead;
-      greatest = greatest ∙ h.greatest;
-      leap = leap ∙ h.leap;
-      records = records ∙ h.records;
-      output = subst (λ (b : Bool). IsOutput start later new.packets (output_of b run.scheduled (job_of (ended run a)))) (like ∙ h.hex) wrote.output;
-      headline = keeps run a.accepted a.slots (ended run a).slots old.mux h.promises h.mux;
-    }
-
-pub end_fails : (run : Run) (a : Air) (target sent : ℕ) (hex : Bool) (start now later : Option (List ℕ)) (old : AirState) → IsOnAir run a start now old →
-    hex ≡ old.packets.hex → target ≡ last_at run a.greatest → Took start later sent (output_of hex run.scheduled (with_slots (job_of a) (on_to a.slots target))) →
-    Fails run (ended run a) start later sent
-end_fails run a target sent hex start now later old h like is took = record {
-  took =
-      subst (λ (b : Bool). Took start later sent (output_of b run.scheduled (job_of (ended run a)))) (like ∙ h.hex)
-      (subst (λ (n : ℕ). Took start later sent (output_of hex run.scheduled (with_slots (job_of a) (on_to a.slots n)))) is took);
-  headline = keeps run a.accepted a.slots (ended run a).slots old.mux h.promises h.mux;
+-- slots were written until `target` are
+pub counted_on : (run : Run) (a : Air) (target : ℕ) (hex : Bool) (start now later : Option (List ℕ)) (old new : AirState) → IsOnAir run a start now old → Moves old new →
+    hex ≡ old.packets.hex → new.greatest ≡ old.greatest → new.leap ≡ old.leap → new.records ≡ old.records →
+    WroteOn run (with_slots (job_of a) (on_to a.slots target)) hex start later new.mux new.packets → IsOnAir run (with_count a (on_to a.slots target)) start later new
+counted_on run a target hex start now later old new h moves like greatest leap records wrote = record {
+  mux = wrote.mux;
+  promises = h.promises;
+  terms = moves.terms ∙ h.terms;
+  hex = wrote.hex_is ∙ like ∙ h.hex;
+  rate = moves.rate ∙ h.rate;
+  lead = moves.lead ∙ h.lead;
+  greatest = greatest ∙ h.greatest;
+  leap = leap ∙ h.leap;
+  records = records ∙ h.records;
+  output = subst (λ (b : Bool). IsOutput start later new.packets (output_of b run.scheduled (job_of (with_count a (on_to a.slots target))))) (like ∙ h.hex) wrote.output;
+  headline = keeps run a.accepted a.slots (on_to a.slots target) old.mux h.promises h.mux;
 }
+
+pub count_fails : (run : Run) (a : Air) (target sent : ℕ) (hex : Bool) (start now later : Option (List ℕ)) (old : AirState) → IsOnAir run a start now old →
+    hex ≡ old.packets.hex → Took start later sent (output_of hex run.scheduled (with_slots (job_of a) (on_to a.slots target))) →
+    Fails run (with_count a (on_to a.slots target)) start later sent
+count_fails run a target sent hex start now later old h like took = record {
+  took = subst (λ (b : Bool). Took start later sent (output_of b run.scheduled (job_of (with_count a (on_to a.slots target))))) (like ∙ h.hex) took;
+  headline = keeps run a.accepted a.slots (on_to a.slots target) old.mux h.promises h.mux;
+}
+
+-- the same by the number of slots that was asked for
+pub counted_same : (run : Run) (a : Air) (target wanted : ℕ) (start later : Option (List ℕ)) (new : AirState) → target ≡ wanted → IsOnAir run (with_count a (on_to a.slots target)) start later new →
+    IsOnAir run (with_count a (on_to a.slots wanted)) start later new
+counted_same run a target wanted start later new is on = subst (λ (n : ℕ). IsOnAir run (with_count a (on_to a.slots n)) start later new) is on
+
+pub fails_same : (run : Run) (a : Air) (target wanted sent : ℕ) (start later : Option (List ℕ)) → target ≡ wanted → Fails run (with_count a (on_to a.slots target)) start later sent →
+    Fails run (with_count a (on_to a.slots wanted)) start later sent
+fails_same run a target wanted sent start later is fails = subst (λ (n : ℕ). Fails run (with_count a (on_to a.slots n)) start later sent) is fails
+
+-- the slots up to a record were written, if the run follows it
+pub followed_on : {V : Type 0} (run : Run) (a : Air) (refusal : AirRefusal) (packet from to : ℕ) (start later : Option (List ℕ)) (new : AirState) (result : Result V OutputFault) →
+    refusal ≡ Followed packet from to → OnOk result (IsOnAir run (with_count a (on_to a.slots (settled_at run to))) start later new) →
+    OnOk result (IsOnAir run (caught_up run a (Some refusal)) start later new)
+unfolding slots_followed
+followed_on run a refusal packet from to start later new result is on =
+    subst (λ (r : AirRefusal). OnOk result (IsOnAir run (caught_up run a (Some r)) start later new)) (sym is) on
+
+pub follow_fails : {V : Type 0} (run : Run) (a : Air) (refusal : AirRefusal) (packet from to : ℕ) (start later : Option (List ℕ)) (result : Result V OutputFault) →
+    refusal ≡ Followed packet from to → IfErr result (λ fault. Fails run (with_count a (on_to a.slots (settled_at run to))) start later fault.sent) →
+    IfErr result (λ fault. Fails run (caught_up run a (Some refusal)) start later fault.sent)
+unfolding slots_followed
+follow_fails run a refusal packet from to start later result is fails =
+    subst (λ (r : AirRefusal). IfErr result (λ fault. Fails run (caught_up run a (Some r)) start later fault.sent)) (sym is) fails
+
+pub stays_ahead : (run : Run) (a : Air) (refusal : AirRefusal) (start now : Option (List ℕ)) (s : AirState) → refusal ≡ Ahead → IsOnAir run a start now s →
+    IsOnAir run (caught_up run a (Some refusal)) start now s
+unfolding slots_followed
+stays_ahead run a refusal start now s is on = subst (λ (r : AirRefusal). IsOnAir run (caught_up run a (Some r)) start now s) (sym is) on
+
+pub stays_fed : (run : Run) (a : Air) (refusal : AirRefusal) (cause : FeedError) (start now : Option (List ℕ)) (s : AirState) → refusal ≡ Feed cause → IsOnAir run a start now s →
+    IsOnAir run (caught_up run a (Some refusal)) start now s
+unfolding slots_followed
+stays_fed run a refusal cause start now s is on = subst (λ (r : AirRefusal). IsOnAir run (caught_up run a (Some r)) start now s) (sym is) on
 
 -- ---- what the calls count by
 
@@ -201,23 +260,18 @@ settled_same run a start now old rate lead limit due dts terms h r l t m e =
     ∙ ap (λ (n : ℕ). settled run.scheduled.description.rate (lead_of run) n due) (m ∙ ap (λ (x : Terms). limit_of x) (t ∙ h.terms))
     ∙ ap (λ (n : ℕ). settled run.scheduled.description.rate (lead_of run) (limit_of run.terms) n) e
 
--- the records that leap, with one more, and whether it is refused for being ahead
-pub leap_same : (run : Run) (a : Air) (entry : ℕ × AccessUnit) (start now : Option (List ℕ)) (old : AirState) (far : Bool) (leap before : Leap) (ahead greatest due : ℕ) →
-    IsOnAir run a start now old → ahead ≡ old.terms.ahead → greatest ≡ old.greatest → before ≡ old.leap → due ≡ entry.1.dts → far ≡ is_far ahead greatest due →
-    leap ≡ leap_after far ahead before due → (leap ≡ leap_by run a entry) × (far ≡ is_far_from run a entry)
-leap_same run a entry start now old far leap before ahead greatest due h s g b d is after =
+-- whether a record is too far ahead, and the records that leap with it
+pub far_same : (run : Run) (a : Air) (entry : ℕ × AccessUnit) (start now : Option (List ℕ)) (old : AirState) (ahead greatest due : ℕ) →
+    IsOnAir run a start now old → ahead ≡ old.terms.ahead → greatest ≡ old.greatest → due ≡ entry.1.dts → is_far ahead greatest due ≡ is_far_from run a entry
+far_same run a entry start now old ahead greatest due h s g d =
     let terms : ahead ≡ run.terms.ahead = s ∙ ap (λ (t : Terms). t.ahead) h.terms in
-    let distance : far ≡ is_far_from run a entry =
-    is ∙ ap (λ (n : ℕ). is_far n greatest due) terms ∙ ap (λ (n : ℕ). is_far run.terms.ahead n due) (g ∙ h.greatest) ∙ ap (λ (n : ℕ). is_far run.terms.ahead a.greatest n) d in (
-      after ∙ ap (λ (f : Bool). leap_after f ahead before due) distance ∙ ap (λ (n : ℕ). leap_after (is_far_from run a entry) n before due) terms
-          ∙ ap (λ (l : Leap). leap_after (is_far_from run a entry) run.terms.ahead l due) (b ∙ h.leap) ∙ ap (λ (n : ℕ). leap_after (is_far_from run a entry) run.terms.ahead a.leap n) d,
-      distance,
-    )
+    ap (λ (n : ℕ). is_far n greatest due) terms ∙ ap (λ (n : ℕ). is_far run.terms.ahead n due) (g ∙ h.greatest) ∙ ap (λ (n : ℕ). is_far run.terms.ahead a.greatest n) d
 
-pub ahead_same : (run : Run) (a : Air) (entry : ℕ × AccessUnit) (far held : Bool) (leap : Leap) → leap ≡ leap_by run a entry → far ≡ is_far_from run a entry →
-    held ≡ (far && nat_lt leap.records leap_records) → held ≡ is_ahead run a entry
-ahead_same run a entry far held leap same distance is =
-    is ∙ ap (λ (f : Bool). f && nat_lt leap.records leap_records) distance ∙ ap (λ (l : Leap). is_far_from run a entry && nat_lt l.records leap_records) same
+pub leap_same : (run : Run) (a : Air) (entry : ℕ × AccessUnit) (start now : Option (List ℕ)) (old : AirState) (before : Leap) (ahead due : ℕ) →
+    IsOnAir run a start now old → ahead ≡ old.terms.ahead → before ≡ old.leap → due ≡ entry.1.dts → leap_with ahead before due ≡ leap_by run a entry
+leap_same run a entry start now old before ahead due h s b d =
+    let terms : ahead ≡ run.terms.ahead = s ∙ ap (λ (t : Terms). t.ahead) h.terms in
+    ap (λ (n : ℕ). leap_with n before due) terms ∙ ap (λ (l : Leap). leap_with run.terms.ahead l due) (b ∙ h.leap) ∙ ap (λ (n : ℕ). leap_with run.terms.ahead a.leap n) d
 
 -- before the first record
 pub begins : (d : Scheduled) (terms : Terms) (hex : Bool) (start : Option (List ℕ)) (s : AirState) → Carries (run_with d terms hex) empty_history s.mux → Promises d →

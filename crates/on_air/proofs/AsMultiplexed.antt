@@ -20,7 +20,7 @@ use Rattle.mux_core.specs.MuxStates.{feed_cause}
 use Rattle.mux_core.specs.WholeJobs.{job_history, output_of, or_cause, unit_refused, cause_after, first_refused}
 use Rattle.mux_core.specs.declared.multiplexing.MuxError.{MuxError}
 use Rattle.on_air.specs.declared.refusals.AirRefusal.{AirRefusal}
-use Rattle.on_air.specs.Airing.{Run, Air, silence, lead_of, settled_at, limit_of, last_by, last_at, on_to, is_tick, air_cause, accepted_by, aired_by, with_record, heard, ended}
+use Rattle.on_air.specs.Airing.{Run, Air, silence, lead_of, settled_at, limit_of, last_by, last_at, on_to, is_tick, air_cause, accepted_by, caught_up, judged_by, slots_followed, with_record, heard, ended}
 use Rattle.on_air.specs.Laws.{with_entry, records_of, greatest_of, AiredAsMultiplexed}
 
 -- ---- slots of releases
@@ -128,8 +128,8 @@ none_taken run = record {
 }
 
 pub taken_more : (run : Run) (a : Air) (units : List (ℕ × AccessUnit)) (entry : ℕ × AccessUnit) → Taken run a units → is_tick entry ≡ false →
-    Taken run (aired_by run a entry None) (units ++ (entry ∷ []))
-unfolding aired_by accepted_by
+    Taken run (caught_up run (judged_by run a entry None) None) (units ++ (entry ∷ []))
+unfolding judged_by accepted_by slots_followed
 taken_more run a units entry so tick = record {
   accepted = rw tick (ap (λ (l : List (ℕ × AccessUnit)). l ++ (entry ∷ [])) so.accepted);
   greatest = ap (λ (g : ℕ). max g entry.1.dts) so.greatest ∙ sym (greatest_more units entry);
@@ -149,8 +149,8 @@ not_empty (y ∷ xs) x e = cc
 
 -- a refusal stays
 taken_by : (run : Run) (a : Air) (units : List (ℕ × AccessUnit)) (entry : ℕ × AccessUnit) (cause : Option AirRefusal) → (a.refused ≡ [] → Taken run a units) →
-    is_tick entry ≡ false → (aired_by run a entry cause).refused ≡ [] → Taken run (aired_by run a entry cause) (units ++ (entry ∷ []))
-unfolding aired_by
+    is_tick entry ≡ false → (judged_by run a entry cause).refused ≡ [] → Taken run (caught_up run (judged_by run a entry cause) cause) (units ++ (entry ∷ []))
+unfolding judged_by
 taken_by run a units entry None so tick none = taken_more run a units entry (so none) tick
 taken_by run a units entry (Some cause) so tick none = absurd (not_empty a.refused (a.records, cause) none)
 

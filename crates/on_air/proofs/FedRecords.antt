@@ -16,8 +16,8 @@ use Rattle.mux_core.specs.WholeJobs.{job_history, run_output, output_of}
 use Rattle.mux_core.proofs.Accepted.{units_kept}
 use Rattle.mux_core.proofs.JobFeeding.{history_more}
 use Rattle.mux_core.proofs.Whole.{contents_fit}
-use Rattle.on_air.specs.declared.refusals.AirRefusal.TheVariants.{Feed, Ahead}
-use Rattle.on_air.specs.Airing.{Run, Air, job_of, is_tick, is_ahead, unit_refusal, air_cause, accepted_by}
+use Rattle.on_air.specs.declared.refusals.AirRefusal.TheVariants.{Feed}
+use Rattle.on_air.specs.Airing.{Run, Air, job_of, is_tick, is_far_from, unit_refusal, air_cause, accepted_by}
 use Rattle.on_air.specs.AirStates.{Carries, Promises, Admits}
 
 -- the same bytes are the same output
@@ -59,21 +59,17 @@ cause_is run a old entry c =
     ap (λ (d : Scheduled). feed_cause d old.capacity (job_of a) entry.0 entry.1 (slice_get d.description.streams entry.0)) c.scheduled
     ∙ ap (λ (n : ℕ). feed_cause run.scheduled n (job_of a) entry.0 entry.1 (slice_get run.scheduled.description.streams entry.0)) c.capacity
 
-fed_cause : (run : Run) (a : Air) (entry : ℕ × AccessUnit) (refused : Option FeedError) → is_ahead run a entry ≡ false → is_tick entry ≡ false →
+fed_cause : (run : Run) (a : Air) (entry : ℕ × AccessUnit) (refused : Option FeedError) → is_far_from run a entry ≡ false → is_tick entry ≡ false →
     refused ≡ unit_refusal run a entry → option_map Feed refused ≡ air_cause run a entry
 fed_cause run a entry refused near unit is = rw (near, unit) (ap (option_map Feed) is)
 
 -- ---- what a call leaves
 
-pub too_far : (run : Run) (a : Air) (m : MuxState) (entry : ℕ × AccessUnit) → Carries run (job_of a) m → is_ahead run a entry ≡ true → Admits run a entry (Some Ahead) m
-unfolding accepted_by
-too_far run a m entry c far = record { cause = rw far refl; mux = c; before = refl }
-
-pub ticked : (run : Run) (a : Air) (m : MuxState) (entry : ℕ × AccessUnit) → Carries run (job_of a) m → is_ahead run a entry ≡ false → is_tick entry ≡ true → Admits run a entry None m
+pub ticked : (run : Run) (a : Air) (m : MuxState) (entry : ℕ × AccessUnit) → Carries run (job_of a) m → is_far_from run a entry ≡ false → is_tick entry ≡ true → Admits run a entry None m
 unfolding accepted_by
 ticked run a m entry c near tick = record { cause = rw (near, tick) refl; mux = rw tick c; before = rw tick refl }
 
-pub unfed : (run : Run) (a : Air) (old new : MuxState) (entry : ℕ × AccessUnit) (cause : FeedError) → Carries run (job_of a) old → is_ahead run a entry ≡ false → is_tick entry ≡ false →
+pub unfed : (run : Run) (a : Air) (old new : MuxState) (entry : ℕ × AccessUnit) (cause : FeedError) → Carries run (job_of a) old → is_far_from run a entry ≡ false → is_tick entry ≡ false →
     Takes (job_of a) old entry.0 entry.1 (Some cause) new → new ≡ old → Admits run a entry (Some (Feed cause)) new
 unfolding accepted_by
 unfed run a old new entry cause c near unit takes same = record {
@@ -82,7 +78,7 @@ unfed run a old new entry cause c near unit takes same = record {
   before = refl;
 }
 
-pub fed : (run : Run) (a : Air) (old new : MuxState) (entry : ℕ × AccessUnit) → Carries run (job_of a) old → Promises run.scheduled → is_ahead run a entry ≡ false → is_tick entry ≡ false →
+pub fed : (run : Run) (a : Air) (old new : MuxState) (entry : ℕ × AccessUnit) → Carries run (job_of a) old → Promises run.scheduled → is_far_from run a entry ≡ false → is_tick entry ≡ false →
     Takes (job_of a) old entry.0 entry.1 None new → Admits run a entry None new
 unfolding accepted_by
 fed run a old new entry c promises near unit takes = record {

@@ -9,7 +9,7 @@ use Rattle.packet_output.specs.declared.output.OutputFault.{OutputFault}
 use Rattle.on_air.specs.declared.answers.Heard.{Heard}
 use Rattle.on_air.specs.declared.answers.Heard.TheVariants.{Taken, Refused, Ended}
 use Rattle.on_air.specs.declared.answers.Ending.{Ending}
-use Rattle.on_air.specs.Airing.{Run, Air, air_cause, aired_by, aired, with_record, heard, limit_of}
+use Rattle.on_air.specs.Airing.{Run, Air, air_cause, aired, caught_up, judged, judged_by, slots_followed, with_record, heard, limit_of}
 use Rattle.on_air.specs.AirStates.{AirState, IsOnAir}
 use Rattle.on_air.specs.Hearing.{HearsRecord, Hears, HasHeard, HasSlotsLeft, HearsOn, NamesDevice}
 
@@ -31,14 +31,22 @@ one_more run n a origin old left refused h has xs is =
     let read = h.known (after_records n xs) before.1 in
     (with_one run a (record_at (after_records n xs)) h.entry read.0 ∙ ap (with_record run (record_at (after_records n xs))) before.0, read.1, slots_more run n a xs before.0 h.slots_left before.2)
 
+-- what is left once the slots up to a record that the run follows are written; a record that is taken is not followed
+pub aired_as : (run : Run) (a : Air) (entry : ℕ × AccessUnit) (refused : Option AirRefusal) → air_cause run a entry ≡ refused → aired run a entry ≡ caught_up run (judged run a entry) refused
+aired_as run a entry refused is = ap (λ (o : Option AirRefusal). caught_up run (judged run a entry) o) is
+
+pub aired_taken : (run : Run) (a : Air) (entry : ℕ × AccessUnit) → air_cause run a entry ≡ None → aired run a entry ≡ judged run a entry
+unfolding slots_followed
+aired_taken run a entry none = aired_as run a entry None none
+
 -- a record that is taken adds no refusal, and one that is refused its own
-pub taken_adds : (run : Run) (a : Air) (entry : ℕ × AccessUnit) (refused : Option AirRefusal) → refused ≡ None → (aired_by run a entry refused).refused ≡ a.refused
-unfolding aired_by
+pub taken_adds : (run : Run) (a : Air) (entry : ℕ × AccessUnit) (refused : Option AirRefusal) → refused ≡ None → (judged_by run a entry refused).refused ≡ a.refused
+unfolding judged_by
 taken_adds run a entry refused none = rw none refl
 
 pub refused_adds : (run : Run) (a : Air) (entry : ℕ × AccessUnit) (refused : Option AirRefusal) (cause : AirRefusal) → refused ≡ Some cause →
-    (aired_by run a entry refused).refused ≡ a.refused ++ ((a.records, cause) ∷ [])
-unfolding aired_by
+    (judged_by run a entry refused).refused ≡ a.refused ++ ((a.records, cause) ∷ [])
+unfolding judged_by
 refused_adds run a entry refused cause some = rw some refl
 
 -- further records were taken
@@ -56,9 +64,9 @@ midway_begins run n a origin start left now s h has = record { so_far = a; count
 pub next_taken : (run : Run) (a : Air) (origin start mid left now later : Option (List ℕ)) (s new : AirState) (w : Midway run a origin start mid now s) →
     Hears run w.so_far mid left start later (Ok Taken) new → Midway run a origin start left later new
 next_taken run a origin start mid left now later s new w (h, state) = record {
-  so_far = aired run w.so_far h.entry;
+  so_far = judged run w.so_far h.entry;
   count = suc w.count;
-  heard_is = one_more run w.count w.so_far origin mid left None h w.heard_is;
+  heard_is = subst (λ (b : Air). HasHeard run (suc w.count) b origin left) (aired_taken run w.so_far h.entry h.cause) (one_more run w.count w.so_far origin mid left None h w.heard_is);
   refused = taken_adds run w.so_far h.entry (air_cause run w.so_far h.entry) h.cause ∙ w.refused;
   state = state;
 }
@@ -66,8 +74,12 @@ next_taken run a origin start mid left now later s new w (h, state) = record {
 pub next_refused : (run : Run) (a : Air) (origin start mid left now later : Option (List ℕ)) (s new : AirState) (index : ℕ) (cause : AirRefusal) (w : Midway run a origin start mid now s) →
     Hears run w.so_far mid left start later (Ok (Refused index cause)) new → HearsOn run a origin left start later (Ok (Refused index cause)) new
 next_refused run a origin start mid left now later s new index cause w (same, (h, state)) = (
-  aired run w.so_far h.entry,
-  record { count = suc w.count; heard_is = one_more run w.count w.so_far origin mid left (Some cause) h w.heard_is },
+  judged run w.so_far h.entry,
+  record {
+    count = suc w.count;
+    heard_is = subst (λ (b : Air). HasHeard run (suc w.count) b origin left) (aired_as run w.so_far h.entry (Some cause) h.cause)
+        (one_more run w.count w.so_far origin mid left (Some cause) h w.heard_is);
+  },
   refused_adds run w.so_far h.entry (air_cause run w.so_far h.entry) cause h.cause ∙ ap (λ (l : List (ℕ × AirRefusal)). l ++ ((w.so_far.records, cause) ∷ [])) w.refused
       ∙ ap (λ (i : ℕ). a.refused ++ ((i, cause) ∷ [])) (sym same),
   state,
@@ -81,8 +93,11 @@ next_ended run a origin start mid left now later s new why w (ends, state) =
 pub next_failed : (run : Run) (a : Air) (origin start mid left now later : Option (List ℕ)) (s new : AirState) (fault : OutputFault) (w : Midway run a origin start mid now s) →
     Hears run w.so_far mid left start later (Err fault) new → HearsOn run a origin left start later (Err fault) new
 next_failed run a origin start mid left now later s new fault w (h, fails) = (
-  aired run w.so_far h.entry,
-  record { count = suc w.count; heard_is = one_more run w.count w.so_far origin mid left None h w.heard_is },
+  judged run w.so_far h.entry,
+  record {
+    count = suc w.count;
+    heard_is = subst (λ (b : Air). HasHeard run (suc w.count) b origin left) (aired_taken run w.so_far h.entry h.cause) (one_more run w.count w.so_far origin mid left None h w.heard_is);
+  },
   taken_adds run w.so_far h.entry (air_cause run w.so_far h.entry) h.cause ∙ w.refused,
   fails,
 )

@@ -1,6 +1,6 @@
 -- Units in order are all accepted, with ticks among them.
-use Rattle.std.proofs.Common.{◌≡◌, ◌&&◌, ℕ, zero, suc, ◌+◌, ◌-◌, ◌*◌, ◌<◌, ◌≤◌, ◌==◌, min, max, Bool, true, false, List, [], ◌∷◌, ◌++◌, length, map, Option, Some, None, Result, Ok, Err, refl, sym, ap, ◌∙◌, subst, arith, All, inl, inr, append_assoc, append-nil}
-use Rattle.std.specs.Prelude.{slice_get, fold, not, nat_lt}
+use Rattle.std.proofs.Common.{◌≡◌, ℕ, zero, suc, ◌+◌, ◌-◌, ◌*◌, ◌<◌, ◌≤◌, ◌==◌, min, max, Bool, true, false, List, [], ◌∷◌, ◌++◌, length, map, Option, Some, None, Result, Ok, Err, refl, sym, ap, ◌∙◌, subst, arith, All, inl, inr, append_assoc, append-nil}
+use Rattle.std.specs.Prelude.{slice_get, fold, not}
 use Rattle.std.proofs.Math.Nat.{mul-le-mul_right, mul-le-mul_left}
 use Rattle.std.specs.Int.{div_ceil}
 use Rattle.std.proofs.lemmas.Grind.{div_ceil_times}
@@ -30,8 +30,7 @@ use Rattle.mux_core.specs.WholeJobs.{job_history, cause_after, first_refused}
 use Rattle.mux_core.proofs.KnownRanges.{parameters_known, stream_range}
 use Rattle.mux_core.proofs.UnitCounts.{own_units, other_units, units_append}
 use Rattle.on_air.specs.declared.refusals.AirRefusal.{AirRefusal}
-use Rattle.on_air.specs.Leaps.{leap_records}
-use Rattle.on_air.specs.Airing.{Run, Air, silence, greatest_lead, least_interval, needed_room, lead_of, settled_at, on_to, is_tick, is_ahead, leap_by, unit_refusal, air_cause, accepted_by, aired, aired_by, with_record, heard}
+use Rattle.on_air.specs.Airing.{Run, Air, silence, greatest_lead, least_interval, needed_room, lead_of, settled_at, on_to, is_tick, is_far_from, unit_refusal, air_cause, accepted_by, aired, caught_up, judged_by, slots_followed, with_record, heard}
 use Rattle.on_air.specs.AirStates.{Promises}
 use Rattle.on_air.specs.Laws.{with_entry, records_of, without_ticks, greatest_of, IsJobInOrder, AiredInOrder}
 use Rattle.on_air.proofs.InTime.{taken_in_time}
@@ -41,26 +40,27 @@ use Rattle.on_air.proofs.AsMultiplexed.{first_taken, greatest_more, last_taken, 
 -- ---- each stream's units
 
 -- each stream's units are within its declaration
-abbrev AllKept : Scheduled → List (ℕ × AccessUnit) → Type 0
+abbrev pub AllKept : Scheduled → List (ℕ × AccessUnit) → Type 0
 AllKept d units = (k : ℕ) (s : DescribedStream) → slice_get d.description.streams k ≡ Some s → Kept (owned_stream d k s) (units_of k units)
 
-kept_none : (d : Scheduled) → AllKept d []
+pub kept_none : (d : Scheduled) → AllKept d []
 kept_none d k s is = (first_law (owned_stream d k s) 0).kept
 
-kept_own : (d : Scheduled) (other k : ℕ) (units : List (ℕ × AccessUnit)) (u : AccessUnit) (s : DescribedStream) → IsInRange d.description → slice_get d.description.streams k ≡ Some s →
-    cause_after d other units (k, u) ≡ None → AllKept d units → Kept (owned_stream d k s) (units_of k units ++ (u ∷ []))
-kept_own d other k units u s ranges is none kept =
+kept_own : (d : Scheduled) (slots other k : ℕ) (units : List (ℕ × AccessUnit)) (u : AccessUnit) (s : DescribedStream) → IsInRange d.description → slice_get d.description.streams k ≡ Some s →
+    feed_cause d other (job_history units slots) k u (slice_get d.description.streams k) ≡ None → AllKept d units → Kept (owned_stream d k s) (units_of k units ++ (u ∷ []))
+kept_own d slots other k units u s ranges is none kept =
     let found = rw is at none in
-    kept_law (owned_stream d k s) 0 other (units_of k units) u (parameters_known d ranges k s is) (unfold feed_cause in found) (kept k s is)
+    kept_law (owned_stream d k s) slots other (units_of k units) u (parameters_known d ranges k s is) (unfold feed_cause in found) (kept k s is)
 
-kept_more : (d : Scheduled) (other : ℕ) (units : List (ℕ × AccessUnit)) (entry : ℕ × AccessUnit) → IsInRange d.description → cause_after d other units entry ≡ None → AllKept d units →
-    AllKept d (units ++ (entry ∷ []))
-kept_more d other units entry ranges none kept k s is = elim (cases_eq entry.0 k) [
+pub kept_more : (d : Scheduled) (slots other : ℕ) (units : List (ℕ × AccessUnit)) (entry : ℕ × AccessUnit) → IsInRange d.description →
+    feed_cause d other (job_history units slots) entry.0 entry.1 (slice_get d.description.streams entry.0) ≡ None → AllKept d units → AllKept d (units ++ (entry ∷ []))
+kept_more d slots other units entry ranges none kept k s is = elim (cases_eq entry.0 k) [
   | inl e ↦
       let more : units_of k (units ++ (entry ∷ [])) ≡ units_of k units ++ (entry.1 ∷ []) =
       units_append k units (entry ∷ []) ∙ ap (λ (l : List AccessUnit). units_of k units ++ l) (own_units k entry [] e) in
       subst (λ (l : List AccessUnit). Kept (owned_stream d k s) l) (sym more)
-      (kept_own d other k units entry.1 s ranges is (subst (λ (j : ℕ). cause_after d other units (j, entry.1) ≡ None) e none) kept)
+      (kept_own d slots other k units entry.1 s ranges is
+      (subst (λ (j : ℕ). feed_cause d other (job_history units slots) j entry.1 (slice_get d.description.streams j) ≡ None) e none) kept)
   | inr ne ↦
       let same : units_of k (units ++ (entry ∷ [])) ≡ units_of k units =
       units_append k units (entry ∷ []) ∙ ap (λ (l : List AccessUnit). units_of k units ++ l) (other_units k entry [] ne) ∙ append-nil (units_of k units) in
@@ -90,7 +90,7 @@ all_intervals g (s ∷ streams) =
     let rest = all_intervals (min g s.interval) streams in
     (omega (arith, rest.0), All-cons (λ x. fold (λ least y. min least y.interval) (min g s.interval) streams ≤ x.interval) s streams (omega (arith, rest.0)) rest.1)
 
-lead_within : (streams : List DescribedStream) (k : ℕ) (s : DescribedStream) → slice_get streams k ≡ Some s → s.lead ≤ greatest_lead streams
+pub lead_within : (streams : List DescribedStream) (k : ℕ) (s : DescribedStream) → slice_get streams k ≡ Some s → s.lead ≤ greatest_lead streams
 lead_within streams k s is =
     rw (get_or_from_slice_get streams k s s is) at (All-get_or (λ x. x.lead ≤ greatest_lead streams) streams k s (slice_get_within streams k s is) (all_leads 0 streams).1)
 
@@ -113,26 +113,22 @@ few_enough (suc n) interval least lead capacity some le below room =
       | inr over ↦ absurd (omega (arith, wide, below, bounds.0, mul-le-mul_right least over))
     ]
 
--- the slots that these records settle are written
-has_room : (run : Run) (k slots : ℕ) (records : List (ℕ × AccessUnit)) (s : DescribedStream) → Promises run.scheduled →
-    needed_room (lead_of run) run.scheduled.description.streams ≤ run.capacity → slice_get run.scheduled.description.streams k ≡ Some s → AllKept run.scheduled (without_ticks records) →
-    slots ≡ release run.scheduled.description.rate (lead_of run) (greatest_of records) →
-    is_full (owned_stream run.scheduled k s) slots run.capacity (units_of k (without_ticks records)) ≡ false
-has_room run k slots records s promises room is kept written =
+-- the slots that the greatest DTS settles are written
+pub has_room : (run : Run) (k slots last : ℕ) (units : List (ℕ × AccessUnit)) (s : DescribedStream) → Promises run.scheduled →
+    needed_room (lead_of run) run.scheduled.description.streams ≤ run.capacity → slice_get run.scheduled.description.streams k ≡ Some s → AllKept run.scheduled units →
+    slots ≡ release run.scheduled.description.rate (lead_of run) last → All (λ e. e.1.dts ≤ last) units →
+    is_full (owned_stream run.scheduled k s) slots run.capacity (units_of k units) ≡ false
+has_room run k slots last units s promises room is kept written within =
     let d = run.scheduled in
     let l = owned_stream d k s in
-    let units = without_ticks records in
     let us = units_of k units in
-    let last = greatest_of records in
     let mine = kept k s is in
-    let keeps : KeepsDeclaration (declaration s) (map (timed (owned_stream run.scheduled k s)) (units_of k (without_ticks records))) =
+    let keeps : KeepsDeclaration (declaration s) (map (timed (owned_stream run.scheduled k s)) (units_of k units)) =
     record { spaced = mine.spaced; sized = mine.sized; allowed = mine.allowed } in
     let served = promises.promised.streams k s (map (timed l) us) is keeps in
     let range = stream_range d.description k s promises.ranges is in
-    let begins : (greatest_of records - lead_of run) * run.scheduled.description.rate ≤ slots * 135360000 =
+    let begins : (last - lead_of run) * run.scheduled.description.rate ≤ slots * 135360000 =
     rw written (release_begins d.description.rate (lead_of run) last) in
-    let within : All (λ e. e.1.dts ≤ greatest_of records) (without_ticks records) =
-    All-filter (λ e. not (is_tick e)) (λ e. e.1.dts ≤ last) records (none_after 0 records).1 in
     let few = waiting_few l s.rx slots (lead_of run) last s.interval range.some_interval begins us 0 0 0 s.lead mine.spaced
     (units_within k last units within) (served.arrived slots) in
     let least = interval_within d.description.streams k s is in
@@ -161,10 +157,10 @@ record SoFar (run : Run) (a : Air) (records : List (ℕ × AccessUnit)) : Type 0
   kept : AllKept run.scheduled (without_ticks records)
 
 is_near : (run : Run) (a : Air) (other : ℕ) (records : List (ℕ × AccessUnit)) (entry : ℕ × AccessUnit) → SoFar run a records → IsJobInOrder run other (records ++ (entry ∷ [])) →
-    is_ahead run a entry ≡ false
+    is_far_from run a entry ≡ false
 is_near run a other records entry so job =
     let comes = job.in_order records [] entry refl in
-    ap (λ (far : Bool). far && nat_lt (leap_by run a entry).records leap_records) (le-ltb run.terms.ahead (entry.1.dts - a.greatest) (omega (arith, comes.near, so.greatest)))
+    le-ltb run.terms.ahead (entry.1.dts - a.greatest) (omega (arith, comes.near, so.greatest))
 
 taken_stream : (d : Scheduled) (capacity slots : ℕ) (units : List (ℕ × AccessUnit)) (entry : ℕ × AccessUnit) (s : DescribedStream) →
     unit_cause (owned_stream d entry.0 s) slots capacity (units_of entry.0 units) entry.1 ≡ None → feed_cause d capacity (job_history units slots) entry.0 entry.1 (Some s) ≡ None
@@ -185,7 +181,9 @@ none_refused run a other records entry so job tick last =
     let written : a.slots ≡ release run.scheduled.description.rate (lead_of run) (greatest_of records) = omega (arith, so.slots, comes.early) in
     let lead = lead_within d.description.streams entry.0 found.stream found.is in
     let rises = release_rises d.description.rate (lead_of run) (greatest_of records) found.stream.lead entry.1.dts (omega (arith, comes.in_order, lead)) in
-    let room = has_room run entry.0 a.slots records found.stream job.promises job.room found.is so.kept written in
+    let within : All (λ e. e.1.dts ≤ greatest_of records) (without_ticks records) =
+    All-filter (λ e. not (is_tick e)) (λ e. e.1.dts ≤ greatest_of records) records (none_after 0 records).1 in
+    let room = has_room run entry.0 a.slots (greatest_of records) units found.stream job.promises job.room found.is so.kept written within in
     let taken = taken_in_time l a.slots run.capacity other (units_of entry.0 units) entry.1 found.cause (omega (arith, written, rises)) room in
     let none = taken_stream run.scheduled run.capacity a.slots units entry found.stream taken in
     let unit : unit_refusal run a entry ≡ None =
@@ -202,25 +200,25 @@ more_slots run a records entry so =
 
 so_far_unit : (run : Run) (a : Air) (other : ℕ) (records : List (ℕ × AccessUnit)) (entry : ℕ × AccessUnit) → SoFar run a records → IsJobInOrder run other (records ++ (entry ∷ [])) →
     is_tick entry ≡ false → SoFar run (aired run a entry) (records ++ (entry ∷ []))
-unfolding aired_by accepted_by
+unfolding judged_by accepted_by slots_followed
 so_far_unit run a other records entry so job tick =
     let more = with_unit records entry tick in
     let last = last_taken run.scheduled other [] (without_ticks records) entry (ap (λ (us : List (ℕ × AccessUnit)). first_refused run.scheduled other [] us) (sym more) ∙ job.accepted) in
-    subst (λ (o : Option AirRefusal). SoFar run (aired_by run a entry o) (records ++ (entry ∷ []))) (sym (none_refused run a other records entry so job tick last)) (record {
+    subst (λ (o : Option AirRefusal). SoFar run (caught_up run (judged_by run a entry o) o) (records ++ (entry ∷ []))) (sym (none_refused run a other records entry so job tick last)) (record {
       accepted = rw tick (ap (λ (l : List (ℕ × AccessUnit)). l ++ (entry ∷ [])) so.accepted ∙ sym more);
       greatest = ap (λ (g : ℕ). max g entry.1.dts) so.greatest ∙ sym (greatest_more records entry);
       slots = more_slots run a records entry so;
       refused = so.refused;
-      kept = subst (AllKept run.scheduled) (sym more) (kept_more run.scheduled other (without_ticks records) entry job.promises.ranges last.1 so.kept);
+      kept = subst (AllKept run.scheduled) (sym more) (kept_more run.scheduled 0 other (without_ticks records) entry job.promises.ranges last.1 so.kept);
     })
 
 so_far_tick : (run : Run) (a : Air) (other : ℕ) (records : List (ℕ × AccessUnit)) (entry : ℕ × AccessUnit) → SoFar run a records → IsJobInOrder run other (records ++ (entry ∷ [])) →
     is_tick entry ≡ true → SoFar run (aired run a entry) (records ++ (entry ∷ []))
-unfolding aired_by accepted_by
+unfolding judged_by accepted_by slots_followed
 so_far_tick run a other records entry so job tick =
     let same = with_tick records entry tick in
     let none : air_cause run a entry ≡ None = rw (is_near run a other records entry so job, tick) refl in
-    subst (λ (o : Option AirRefusal). SoFar run (aired_by run a entry o) (records ++ (entry ∷ []))) (sym none) (record {
+    subst (λ (o : Option AirRefusal). SoFar run (caught_up run (judged_by run a entry o) o) (records ++ (entry ∷ []))) (sym none) (record {
       accepted = rw tick (so.accepted ∙ sym same);
       greatest = ap (λ (g : ℕ). max g entry.1.dts) so.greatest ∙ sym (greatest_more records entry);
       slots = more_slots run a records entry so;

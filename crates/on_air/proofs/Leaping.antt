@@ -1,31 +1,31 @@
--- Records that leap are followed before the eighth.
-use Rattle.std.proofs.Common.{◌≡◌, ℕ, suc, ◌+◌, ◌<◌, ◌≤◌, ◌&&◌, Bool, true, false, List, [], ◌∷◌, length, Option, Some, None, refl, ap, sym, ◌∙◌, cond, arith}
-use Rattle.std.specs.Prelude.{nat_lt, option_map}
-use Rattle.std.proofs.lemmas.Bool.{and_parts, ltb-true, lt-ltb}
+-- Records that leap are followed by the eighth at the latest.
+use Rattle.std.proofs.Common.{◌≡◌, ℕ, ◌+◌, ◌-◌, ◌<◌, ◌≤◌, Bool, true, false, List, [], ◌∷◌, length, Option, Some, None, refl, ap, ◌∙◌, cond, arith, inl, inr}
+use Rattle.std.specs.Prelude.{nat_le, nat_lt, option_map}
+use Rattle.std.proofs.lemmas.Bool.{and_parts, cases_Bool, leb-false, leb-true, ltb-true, lt-ltb}
 use Rattle.pes_packet.specs.AccessUnits.{AccessUnit}
 use Rattle.unit_queue.specs.declared.refusal.FeedError.{FeedError}
 use Rattle.on_air.specs.declared.leap.Leap.{Leap}
 use Rattle.on_air.specs.declared.refusals.AirRefusal.{AirRefusal}
-use Rattle.on_air.specs.declared.refusals.AirRefusal.TheVariants.{Feed, Ahead}
-use Rattle.on_air.specs.Leaps.{is_near, leap_after, leap_with, leap_records}
-use Rattle.on_air.specs.Airing.{Run, Air, is_tick, is_far_from, leap_by, is_ahead, unit_refusal, air_cause, aired_by, aired}
-use Rattle.on_air.specs.Laws.{NearEach, AllAhead, LeapFollowed}
+use Rattle.on_air.specs.declared.refusals.AirRefusal.TheVariants.{Feed, Ahead, Followed}
+use Rattle.on_air.specs.Leaps.{is_followed, is_near, leap_with, leap_records}
+use Rattle.on_air.specs.Airing.{Run, Air, is_tick, is_far_from, leap_by, leap_left, unit_refusal, air_cause, greatest_by, judged_by, aired, caught_up, on_to, settled_at, slots_followed}
+use Rattle.on_air.specs.Laws.{NearEach, AllFar, LeapFollowed, LeapMovesOn}
 
--- a record that is refused for being ahead is ahead
-ahead_by : (far tick : Bool) (refused : Option FeedError) → cond far (Some Ahead) (cond tick None (option_map Feed refused)) ≡ Some Ahead → far ≡ true
-ahead_by true tick refused e = refl
-ahead_by false true refused e = absurd cc
-ahead_by false false None e = absurd cc
-ahead_by false false (Some cause) e = absurd cc
+-- ---- one record that lies too far ahead
 
-is_ahead_of : (run : Run) (a : Air) (entry : ℕ × AccessUnit) → air_cause run a entry ≡ Some Ahead → is_ahead run a entry ≡ true
-is_ahead_of run a entry e = ahead_by (is_ahead run a entry) (is_tick entry) (unit_refusal run a entry) e
+-- too few records leap with it: they are counted
+counted : (run : Run) (a : Air) (entry : ℕ × AccessUnit) → is_far_from run a entry ≡ true → is_followed (leap_by run a entry) ≡ false → (aired run a entry).leap ≡ leap_by run a entry
+unfolding judged_by leap_left
+counted run a entry far few =
+    let cause : air_cause run a entry ≡ Some Ahead = rw (far, few) refl in
+    ap (λ (o : Option AirRefusal). (caught_up run (judged_by run a entry o) o).leap) cause
 
--- whether a record is refused or not, it counts for a leap
-leaps_by : (run : Run) (a : Air) (entry : ℕ × AccessUnit) (cause : Option AirRefusal) → (aired_by run a entry cause).leap ≡ leap_by run a entry
-unfolding aired_by
-leaps_by run a entry None = refl
-leaps_by run a entry (Some cause) = refl
+-- enough records leap with it: the run follows them
+followed : (run : Run) (a : Air) (entry : ℕ × AccessUnit) → is_far_from run a entry ≡ true → is_followed (leap_by run a entry) ≡ true → (aired run a entry).greatest ≡ entry.1.dts
+unfolding judged_by greatest_by
+followed run a entry far many =
+    let cause : air_cause run a entry ≡ Some (Followed a.slots a.greatest entry.1.dts) = rw (far, many) refl in
+    ap (λ (o : Option AirRefusal). (caught_up run (judged_by run a entry o) o).greatest) cause
 
 -- the records of a leap that goes on with one that is near
 one_more : (ahead due : ℕ) (leap : Leap) → leap.records < leap_records → is_near ahead leap.due due ≡ true → (leap_with ahead leap due).records ≡ leap.records + 1
@@ -37,40 +37,92 @@ some_records ahead due leap false more near is = rw near (omega arith)
 some_records ahead due leap true true near is = rw (near, is) (omega arith)
 some_records ahead due leap true false near is = rw (near, is) (omega arith)
 
--- what a record that is refused for being ahead leaves of a leap
-record Leapt (run : Run) (a : Air) (entry : ℕ × AccessUnit) : Type 0 where
-  leap : (aired run a entry).leap ≡ leap_with run.terms.ahead a.leap entry.1.dts
-  few : (leap_with run.terms.ahead a.leap entry.1.dts).records < leap_records
+not_many : (leap : Leap) → is_followed leap ≡ false → leap.records < leap_records
+not_many leap less = leb-false leap_records leap.records less
 
-leapt : (run : Run) (a : Air) (entry : ℕ × AccessUnit) → air_cause run a entry ≡ Some Ahead → Leapt run a entry
-leapt run a entry e =
-    let both = and_parts (is_far_from run a entry) (nat_lt (leap_by run a entry).records leap_records) (is_ahead_of run a entry e) in
-    let is : leap_by run a entry ≡ leap_with run.terms.ahead a.leap entry.1.dts =
-    ap (λ (far : Bool). leap_after far run.terms.ahead a.leap entry.1.dts) both.0 in
-    let few = ltb-true (leap_by run a entry).records leap_records both.1 in
-    let same = ap (λ (l : Leap). l.records) is in
-    record { leap = leaps_by run a entry (air_cause run a entry) ∙ is; few = omega (arith, few, same) }
+-- ---- records one after another
+
+-- after the one that the run follows, one that is near it is not too far ahead
+none_after : (run : Run) (b : Air) (due : ℕ) (rest : List (ℕ × AccessUnit)) → b.greatest ≡ due → NearEach run.terms.ahead due rest → AllFar run b rest → length rest ≡ 0
+unfolding NearEach AllFar
+none_after run b due [] at near all = refl
+none_after run b due (entry ∷ rest) at near all =
+    let parts = and_parts (nat_le (due - entry.1.dts) run.terms.ahead) (nat_le (entry.1.dts - due) run.terms.ahead) near.0 in
+    let close = leb-true (entry.1.dts - due) run.terms.ahead parts.1 in
+    let far = ltb-true run.terms.ahead (entry.1.dts - b.greatest) all.0 in
+    absurd (omega (arith, at, close, far))
 
 -- the records of a leap, and those after it
-more_records : (run : Run) (a : Air) (rest : List (ℕ × AccessUnit)) → a.leap.records < leap_records → NearEach run.terms.ahead a.leap.due rest → AllAhead run a rest →
-    a.leap.records + length rest < leap_records
-unfolding NearEach AllAhead
+more_records : (run : Run) (a : Air) (rest : List (ℕ × AccessUnit)) → a.leap.records < leap_records → NearEach run.terms.ahead a.leap.due rest → AllFar run a rest →
+    a.leap.records + length rest ≤ leap_records
+unfolding NearEach AllFar
 more_records run a [] few near all = omega (arith, few)
 more_records run a (entry ∷ rest) few near all =
-    let one = leapt run a entry all.0 in
-    let records = ap (λ (l : Leap). l.records) one.leap ∙ one_more run.terms.ahead entry.1.dts a.leap few near.0 in
-    let due : (aired run a entry).leap.due ≡ entry.1.dts = ap (λ (l : Leap). l.due) one.leap in
-    let fewer : (aired run a entry).leap.records < leap_records = omega (arith, one.few, ap (λ (l : Leap). l.records) one.leap) in
-    let others = more_records run (aired run a entry) rest fewer (rw due near.1) all.1 in
-    omega (arith, others, records)
+    let records = one_more run.terms.ahead entry.1.dts a.leap few near.0 in
+    elim (cases_Bool (is_followed (leap_by run a entry))) [
+      | inl many ↦
+          let none = none_after run (aired run a entry) entry.1.dts rest (followed run a entry all.0 many) near.1 all.1 in
+          omega (arith, none, few)
+      | inr less ↦
+          let leap = counted run a entry all.0 less in
+          let count = ap (λ (l : Leap). l.records) leap ∙ records in
+          let due : (aired run a entry).leap.due ≡ entry.1.dts = ap (λ (l : Leap). l.due) leap in
+          let below = not_many (leap_by run a entry) less in
+          let fewer : (aired run a entry).leap.records < leap_records = omega (arith, below, ap (λ (l : Leap). l.records) leap) in
+          let others = more_records run (aired run a entry) rest fewer (rw due near.1) all.1 in
+          omega (arith, others, count)
+    ]
 
 pub leap_followed : LeapFollowed
-unfolding AllAhead
-leap_followed run a first rest near all =
-    let one = leapt run a first all.0 in
-    let some = some_records run.terms.ahead first.1.dts a.leap (is_near run.terms.ahead a.leap.due first.1.dts) (nat_lt a.leap.records leap_records) refl refl in
-    let records = ap (λ (l : Leap). l.records) one.leap in
-    let due : (aired run a first).leap.due ≡ first.1.dts = ap (λ (l : Leap). l.due) one.leap in
-    let fewer : (aired run a first).leap.records < leap_records = omega (arith, one.few, records) in
-    let others = more_records run (aired run a first) rest fewer (rw due near) all.1 in
-    omega (arith, others, records, some)
+unfolding AllFar
+leap_followed run a first rest near all = elim (cases_Bool (is_followed (leap_by run a first))) [
+  | inl many ↦
+      let none = none_after run (aired run a first) first.1.dts rest (followed run a first all.0 many) near all.1 in
+      omega (arith, none)
+  | inr less ↦
+      let leap = counted run a first all.0 less in
+      let some = some_records run.terms.ahead first.1.dts a.leap (is_near run.terms.ahead a.leap.due first.1.dts) (nat_lt a.leap.records leap_records) refl refl in
+      let count = ap (λ (l : Leap). l.records) leap in
+      let due : (aired run a first).leap.due ≡ first.1.dts = ap (λ (l : Leap). l.due) leap in
+      let below = not_many (leap_by run a first) less in
+      let fewer : (aired run a first).leap.records < leap_records = omega (arith, below, count) in
+      let others = more_records run (aired run a first) rest fewer (rw due near) all.1 in
+      omega (arith, others, count, some)
+]
+
+-- ---- what is told of one that the run follows
+
+pub record Told (far many : Bool) (slots greatest due packet from to : ℕ) : Type 0 where
+  pub is_far : far ≡ true
+  pub is_many : many ≡ true
+  pub packet_is : packet ≡ slots
+  pub from_is : from ≡ greatest
+  pub to_is : to ≡ due
+
+told_by : (far many tick : Bool) (refused : Option FeedError) (slots greatest due packet from to : ℕ) →
+    cond far (Some (cond many (Followed slots greatest due) Ahead)) (cond tick None (option_map Feed refused)) ≡ Some (Followed packet from to) →
+    Told far many slots greatest due packet from to
+told_by true true tick refused slots greatest due packet from to e = record { is_far = refl; is_many = refl; packet_is = cc; from_is = cc; to_is = cc }
+told_by true false tick refused slots greatest due packet from to e = absurd cc
+told_by false many true refused slots greatest due packet from to e = absurd cc
+told_by false many false None slots greatest due packet from to e = absurd cc
+told_by false many false (Some cause) slots greatest due packet from to e = absurd cc
+
+pub told_of : (run : Run) (a : Air) (entry : ℕ × AccessUnit) (packet from to : ℕ) → air_cause run a entry ≡ Some (Followed packet from to) →
+    Told (is_far_from run a entry) (is_followed (leap_by run a entry)) a.slots a.greatest entry.1.dts packet from to
+told_of run a entry packet from to e =
+    told_by (is_far_from run a entry) (is_followed (leap_by run a entry)) (is_tick entry) (unit_refusal run a entry) a.slots a.greatest entry.1.dts packet from to e
+
+pub leap_moves_on : LeapMovesOn
+unfolding judged_by greatest_by slots_followed
+leap_moves_on run a entry packet from to e =
+    let told = told_of run a entry packet from to e in
+    let greatest : (aired run a entry).greatest ≡ to = ap (λ (o : Option AirRefusal). (caught_up run (judged_by run a entry o) o).greatest) e in
+    let slots : (aired run a entry).slots ≡ on_to a.slots (settled_at run to) = ap (λ (o : Option AirRefusal). (caught_up run (judged_by run a entry o) o).slots) e in
+    record {
+      packet_is = told.packet_is;
+      from_is = told.from_is;
+      to_is = told.to_is;
+      greatest = greatest ∙ told.to_is;
+      slots = slots ∙ ap (λ (n : ℕ). on_to a.slots (settled_at run n)) told.to_is;
+    }

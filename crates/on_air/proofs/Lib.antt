@@ -8,3 +8,4 @@ pub mod Aired
 pub mod HeardRecords
 pub mod FirstStates
 pub mod Leaping
+pub mod Near

@@ -19,7 +19,7 @@ use Rattle.mux_core.specs.WholeJobs.{job_history, output_of, plan_schedule, swit
 use Rattle.on_air.specs.declared.leap.Leap.{Leap}
 use Rattle.on_air.specs.declared.options.Terms.{Terms}
 use Rattle.on_air.specs.declared.refusals.AirRefusal.{AirRefusal}
-use Rattle.on_air.specs.Airing.{Run, Air, job_of, air_output, lead_of, greatest_lead, room_of, air_cause, accepted_by}
+use Rattle.on_air.specs.Airing.{Run, Air, job_of, air_output, lead_of, greatest_lead, room_by, room_of, air_cause, accepted_by}
 
 -- the multiplexer, the packets that wait to be written, the terms, the rate and the lead by which slots are settled, the greatest DTS taken,
 -- the records that leap and the number of records heard
@@ -92,7 +92,12 @@ IsOut held s = holds_record held ≡ false → waiting_of s.packets ≡ []
 -- ---- what is aired of a plan, and of two
 
 abbrev pub run_with : Scheduled → Terms → Bool → Run
-run_with d terms hex = record { scheduled = d; capacity = room_of (greatest_lead d.description.streams + terms.wait) d.description.streams; terms = terms; hex = hex }
+run_with d terms hex = record {
+  scheduled = d;
+  capacity = room_by terms.room (room_of (greatest_lead d.description.streams + terms.wait) d.description.streams);
+  terms = terms;
+  hex = hex;
+}
 
 abbrev pub plan_run : Served → Terms → Bool → Run
 plan_run plan terms hex = run_with (plan_schedule plan) terms hex

@@ -1,5 +1,5 @@
 -- The rule of a run without end: which records are taken, and which slots are written after each of them and at the end.
-use Rattle.std.specs.Prelude.{ℕ, zero, suc, ◌+◌, ◌-◌, ◌^◌, ◌==◌, ◌&&◌, min, max, nat_lt, Bool, cond, if◌then◌else◌, List, [], ◌∷◌, ◌++◌, length, slice_get, fold, Option, Some, None, option_map, Result, Ok, Err}
+use Rattle.std.specs.Prelude.{ℕ, zero, suc, ◌+◌, ◌-◌, ◌^◌, ◌==◌, ◌&&◌, min, max, Bool, cond, if◌then◌else◌, List, [], ◌∷◌, ◌++◌, length, slice_get, fold, Option, Some, None, option_map, Result, Ok, Err}
 use Rattle.std.specs.Int.{div_ceil}
 use Rattle.clock27.specs.Release.{release}
 use Rattle.pes_packet.specs.AccessUnits.{AccessUnit}
@@ -16,8 +16,8 @@ use Rattle.mux_core.specs.WholeJobs.{job_history, output_of}
 use Rattle.on_air.specs.declared.leap.Leap.{Leap}
 use Rattle.on_air.specs.declared.options.Terms.{Terms}
 use Rattle.on_air.specs.declared.refusals.AirRefusal.{AirRefusal}
-use Rattle.on_air.specs.declared.refusals.AirRefusal.TheVariants.{Feed, Ahead}
-use Rattle.on_air.specs.Leaps.{is_far, leap_after, leap_records, no_leap}
+use Rattle.on_air.specs.declared.refusals.AirRefusal.TheVariants.{Feed, Ahead, Followed}
+use Rattle.on_air.specs.Leaps.{is_far, is_followed, leap_with, no_leap}
 
 -- what is aired, the number of units of a stream that may wait, the terms, and whether packets leave as lines of digits
 pub record Run : Type 0 where
@@ -100,13 +100,14 @@ is_tick entry = (entry.0 == 255) && (length entry.1.bytes == 0)
 abbrev pub is_far_from : Run → Air → ℕ × AccessUnit → Bool
 is_far_from run a entry = is_far run.terms.ahead a.greatest entry.1.dts
 
--- the records that leap, with this one
+-- the records that leap, with this one, which does
 abbrev pub leap_by : Run → Air → ℕ × AccessUnit → Leap
-leap_by run a entry = leap_after (is_far_from run a entry) run.terms.ahead a.leap entry.1.dts
+leap_by run a entry = leap_with run.terms.ahead a.leap entry.1.dts
 
--- it lies further ahead than the terms allow, and too few records before it leapt as far
-abbrev pub is_ahead : Run → Air → ℕ × AccessUnit → Bool
-is_ahead run a entry = is_far_from run a entry && nat_lt (leap_by run a entry).records leap_records
+-- why a record is refused that lies further ahead than the terms allow: it is the last of enough records that leap, so that the run follows
+-- them, after these slots, from this DTS to that of the record; or it is not
+abbrev pub far_cause : Run → Air → ℕ × AccessUnit → AirRefusal
+far_cause run a entry = if is_followed (leap_by run a entry) then Followed a.slots a.greatest entry.1.dts else Ahead
 
 -- why the multiplexer refuses its unit
 abbrev pub unit_refusal : Run → Air → ℕ × AccessUnit → Option FeedError
@@ -114,34 +115,72 @@ unit_refusal run a entry = feed_cause run.scheduled run.capacity (job_of a) entr
 
 -- why it is refused; a tick is not fed
 abbrev pub air_cause : Run → Air → ℕ × AccessUnit → Option AirRefusal
-air_cause run a entry = if is_ahead run a entry then Some Ahead else (if is_tick entry then None else option_map Feed (unit_refusal run a entry))
+air_cause run a entry =
+    if is_far_from run a entry then Some (far_cause run a entry) else (if is_tick entry then None else option_map Feed (unit_refusal run a entry))
 
 -- the units accepted with it
 unfoldable pub accepted_by : Air → ℕ × AccessUnit → Option AirRefusal → List (ℕ × AccessUnit)
 accepted_by a entry (Some cause) = a.accepted
 accepted_by a entry None = cond (is_tick entry) a.accepted (a.accepted ++ entry ∷ [])
 
--- a record that is refused moves no slot; else the slots that are settled by its DTS are written
-unfoldable pub aired_by : Run → Air → ℕ × AccessUnit → Option AirRefusal → Air
-aired_by run a entry (Some cause) = record {
+-- the greatest DTS after a record that is refused, from which later records are judged: it moves to a record that the run follows alone
+unfoldable pub greatest_by : Air → AirRefusal → ℕ
+greatest_by a (Feed cause) = a.greatest
+greatest_by a Ahead = a.greatest
+greatest_by a (Followed packet from to) = to
+
+-- the records that leap after it: one that is not far, and refused, leaves them as they are; one that the run follows ends the leap
+unfoldable pub leap_left : Run → Air → ℕ × AccessUnit → AirRefusal → Leap
+leap_left run a entry (Feed cause) = a.leap
+leap_left run a entry Ahead = leap_by run a entry
+leap_left run a entry (Followed packet from to) = no_leap
+
+-- a record that is refused moves no slot; after one that is taken the slots that are settled by its DTS are written
+unfoldable pub judged_by : Run → Air → ℕ × AccessUnit → Option AirRefusal → Air
+judged_by run a entry (Some cause) = record {
   accepted = a.accepted;
   slots = a.slots;
-  greatest = a.greatest;
-  leap = leap_by run a entry;
+  greatest = greatest_by a cause;
+  leap = leap_left run a entry cause;
   records = a.records + 1;
   refused = a.refused ++ (a.records, cause) ∷ [];
 }
-aired_by run a entry None = record {
+judged_by run a entry None = record {
   accepted = accepted_by a entry None;
   slots = on_to a.slots (settled_at run entry.1.dts);
   greatest = max a.greatest entry.1.dts;
-  leap = leap_by run a entry;
+  leap = no_leap;
   records = a.records + 1;
   refused = a.refused;
 }
 
+abbrev pub judged : Run → Air → ℕ × AccessUnit → Air
+judged run a entry = judged_by run a entry (air_cause run a entry)
+
+-- with this number of slots
+abbrev pub with_count : Air → ℕ → Air
+with_count a slots = record {
+  accepted = a.accepted;
+  slots = slots;
+  greatest = a.greatest;
+  leap = a.leap;
+  records = a.records;
+  refused = a.refused;
+}
+
+-- the slots after a record that the run follows: those that are settled by its DTS are written, as after one that is taken
+unfoldable pub slots_followed : Run → Air → Option AirRefusal → ℕ
+slots_followed run a None = a.slots
+slots_followed run a (Some (Feed cause)) = a.slots
+slots_followed run a (Some Ahead) = a.slots
+slots_followed run a (Some (Followed packet from to)) = on_to a.slots (settled_at run to)
+
+abbrev pub caught_up : Run → Air → Option AirRefusal → Air
+caught_up run a refused = with_count a (slots_followed run a refused)
+
+-- a record was judged, and the run followed it if it is the last of a leap
 abbrev pub aired : Run → Air → ℕ × AccessUnit → Air
-aired run a entry = aired_by run a entry (air_cause run a entry)
+aired run a entry = caught_up run (judged run a entry) (air_cause run a entry)
 
 -- ---- a whole input
 
@@ -158,20 +197,14 @@ heard run (suc n) xs = with_record run (record_at (after_records n xs)) (heard r
 
 -- where the input ends
 abbrev pub ended : Run → Air → Air
-ended run a = record {
-  accepted = a.accepted;
-  slots = on_to a.slots (last_at run a.greatest);
-  greatest = a.greatest;
-  leap = a.leap;
-  records = a.records;
-  refused = a.refused;
-}
+ended run a = with_count a (on_to a.slots (last_at run a.greatest))
 
 -- ---- the number of a refusal, and the room for units
 
 abbrev pub air_code : AirRefusal → ℕ
 air_code (Feed cause) = feed_code cause
 air_code Ahead = 11
+air_code (Followed packet from to) = 11
 
 -- the number of units of a stream that may wait: those due within a lead, and one that comes; 1,048,576 at most
 abbrev pub needed_room : ℕ → List DescribedStream → ℕ
@@ -179,3 +212,8 @@ needed_room lead streams = div_ceil lead (max (least_interval streams) 1) + 1
 
 abbrev pub room_of : ℕ → List DescribedStream → ℕ
 room_of lead streams = min (needed_room lead streams) 1048576
+
+-- the room that the terms ask for, from 1 to as many; else that one
+unfoldable pub room_by : Option ℕ → ℕ → ℕ
+room_by None room = room
+room_by (Some units) room = min (max units 1) 1048576

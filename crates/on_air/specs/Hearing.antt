@@ -12,7 +12,7 @@ use Rattle.on_air.specs.declared.answers.Heard.{Heard}
 use Rattle.on_air.specs.declared.answers.Heard.TheVariants.{Taken, Refused, Ended}
 use Rattle.on_air.specs.declared.answers.Ending.{Ending}
 use Rattle.on_air.specs.declared.answers.Ending.TheVariants.{Input, Unread, Slots, Records}
-use Rattle.on_air.specs.Airing.{Run, Air, air_cause, aired, air_output, heard, limit_of}
+use Rattle.on_air.specs.Airing.{Run, Air, air_cause, judged, caught_up, air_output, heard, limit_of}
 use Rattle.on_air.specs.AirStates.{AirState, IsOnAir, IsOut, KeepsHeadline}
 
 -- the writer failed: it took exactly the first `sent` bytes of an output that keeps every promise
@@ -34,18 +34,18 @@ EndsAt run a old left (Unread fault) = (xs : List ℕ) → old ≡ Some xs → R
 EndsAt run a old left Slots = (limit_of run.terms ≤ a.slots) × (left ≡ old)
 EndsAt run a old left Records = (a.records ≡ 2 ^ 64 - 1) × (left ≡ old)
 
--- what one call leaves, where the run had come as far as `a`
+-- what one call leaves, where the run had come as far as `a`; a record that the run follows is told before the slots up to it are written
 abbrev pub Hears : Run → Air → Option (List ℕ) → Option (List ℕ) → Option (List ℕ) → Option (List ℕ) → Result Heard OutputFault → AirState → Type 0
-Hears run a old left start now (Ok Taken) s = (h : HearsRecord run a old left None) × IsOnAir run (aired run a h.entry) start now s
+Hears run a old left start now (Ok Taken) s = (h : HearsRecord run a old left None) × IsOnAir run (judged run a h.entry) start now s
 Hears run a old left start now (Ok (Refused index cause)) s =
-    (index ≡ a.records) × ((h : HearsRecord run a old left (Some cause)) × IsOnAir run (aired run a h.entry) start now s)
+    (index ≡ a.records) × ((h : HearsRecord run a old left (Some cause)) × IsOnAir run (judged run a h.entry) start now s)
 Hears run a old left start now (Ok (Ended why)) s = EndsAt run a old left why × IsOnAir run a start now s
-Hears run a old left start now (Err fault) s = (h : HearsRecord run a old left None) × Fails run (aired run a h.entry) start now fault.sent
+Hears run a old left start now (Err fault) s = (h : HearsRecord run a old left None) × Fails run (judged run a h.entry) start now fault.sent
 
 -- the same of a unit at hand
 abbrev pub TakesUnit : Run → Air → ℕ × AccessUnit → Option (List ℕ) → Option (List ℕ) → Result (Option AirRefusal) OutputFault → AirState → Type 0
-TakesUnit run a entry start now (Ok refused) s = (air_cause run a entry ≡ refused) × IsOnAir run (aired run a entry) start now s
-TakesUnit run a entry start now (Err fault) s = (air_cause run a entry ≡ None) × Fails run (aired run a entry) start now fault.sent
+TakesUnit run a entry start now (Ok refused) s = (air_cause run a entry ≡ refused) × IsOnAir run (judged run a entry) start now s
+TakesUnit run a entry start now (Err fault) s = (air_cause run a entry ≡ None) × Fails run (judged run a entry) start now fault.sent
 
 -- the number of records rises by each that is heard
 abbrev pub CountsRecord : ℕ → ℕ → Heard → Type 0
@@ -93,10 +93,11 @@ pub record HeardOn (run : Run) (origin left : Option (List ℕ)) (b : Air) : Typ
   pub count : ℕ
   pub heard_is : HasHeard run count b origin left
 
+-- after a record that is refused, the run has come as far as `b` before it follows that record
 abbrev pub HearsOn : Run → Air → Option (List ℕ) → Option (List ℕ) → Option (List ℕ) → Option (List ℕ) → Result Heard OutputFault → AirState → Type 0
 HearsOn run a origin left start now (Ok Taken) s = ⊥
 HearsOn run a origin left start now (Ok (Refused index cause)) s =
-    (b : Air) × HeardOn run origin left b × (b.refused ≡ a.refused ++ (index, cause) ∷ []) × IsOnAir run b start now s
+    (b : Air) × HeardOn run origin left (caught_up run b (Some cause)) × (b.refused ≡ a.refused ++ (index, cause) ∷ []) × IsOnAir run b start now s
 HearsOn run a origin left start now (Ok (Ended why)) s =
     (b : Air) × ((before : Option (List ℕ)) × HeardOn run origin before b × EndsAt run b before left why) × (b.refused ≡ a.refused) × IsOnAir run b start now s
 HearsOn run a origin left start now (Err fault) s =

@@ -1,17 +1,20 @@
 -- What the laws of this crate say.
-use Rattle.std.specs.Prelude.{◌≡◌, ◌≤◌, ◌<◌, ⊤, length, ◌+◌, ℕ, zero, suc, max, not, true, false, List, [], ◌∷◌, ◌++◌, fold, Option, Some, None, Result, Ok, Err}
+use Rattle.std.specs.Prelude.{◌≡◌, ◌≤◌, ⊤, length, ◌+◌, ℕ, zero, suc, max, not, true, false, List, [], ◌∷◌, ◌++◌, fold, Option, Some, None, Result, Ok, Err}
 use Rattle.std.specs.List.{filter}
 use Rattle.clock27.specs.Release.{release}
 use Rattle.pes_packet.specs.AccessUnits.{AccessUnit}
 use Rattle.unit_queue.specs.OwnedStreams.{OwnedStream}
 use Rattle.unit_queue.specs.Causes.{unit_cause, is_full}
+use Rattle.unit_queue.specs.declared.refusal.FeedError.{FeedError}
+use Rattle.unit_queue.specs.declared.refusal.FeedError.TheVariants.{UnknownStream, Empty, TooLarge, TooSoon, BadPts, Late, TooFar, Full, Group, Pace}
 use Rattle.unit_records.specs.Records.{record_at}
 use Rattle.unit_records.specs.declared.reading.UnitFileError.{UnitFileError}
 use Rattle.carry.specs.RecordRuns.{after_records}
 use Rattle.mux_core.specs.WholeJobs.{job_history, output_of, first_refused}
-use Rattle.on_air.specs.declared.refusals.AirRefusal.TheVariants.{Ahead}
+use Rattle.on_air.specs.declared.refusals.AirRefusal.{AirRefusal}
+use Rattle.on_air.specs.declared.refusals.AirRefusal.TheVariants.{Feed, Ahead, Followed}
 use Rattle.on_air.specs.Leaps.{is_near, leap_records}
-use Rattle.on_air.specs.Airing.{Run, Air, is_tick, lead_of, limit_of, last_at, needed_room, air_cause, aired, heard, ended, air_output}
+use Rattle.on_air.specs.Airing.{Run, Air, greatest_lead, is_tick, is_far_from, lead_of, limit_of, last_at, needed_room, settled_at, on_to, air_cause, aired, heard, ended, air_output}
 use Rattle.on_air.specs.AirStates.{Promises}
 
 -- a unit that a stream accepts before the first slot is accepted too where no slot from its release on is written, and there is room for it
@@ -83,13 +86,62 @@ unfoldable pub NearEach : ℕ → ℕ → List (ℕ × AccessUnit) → Type 0
 NearEach ahead due [] = ⊤
 NearEach ahead due (entry ∷ entries) = (is_near ahead due entry.1.dts ≡ true) × NearEach ahead entry.1.dts entries
 
--- a run refuses each of these records for being ahead
-unfoldable pub AllAhead : Run → Air → List (ℕ × AccessUnit) → Type 0
-AllAhead run a [] = ⊤
-AllAhead run a (entry ∷ entries) = (air_cause run a entry ≡ Some Ahead) × AllAhead run (aired run a entry) entries
+-- each of these records lies further ahead than the terms of a run allow, when it comes
+unfoldable pub AllFar : Run → Air → List (ℕ × AccessUnit) → Type 0
+AllFar run a [] = ⊤
+AllFar run a (entry ∷ entries) = (is_far_from run a entry ≡ true) × AllFar run (aired run a entry) entries
 
--- whatever was heard before, of eight records in a row that lie near one another not all are refused for being ahead: a feed whose
--- stamps agree is never refused for ever
+-- whatever came before, of nine records in a row that lie near one another not all lie too far ahead: from the ninth on at the latest, a
+-- feed whose stamps agree is judged by its streams
 abbrev pub LeapFollowed : Type 0
 LeapFollowed = (run : Run) (a : Air) (first : ℕ × AccessUnit) (rest : List (ℕ × AccessUnit)) → NearEach run.terms.ahead first.1.dts rest →
-    AllAhead run a (first ∷ rest) → length (first ∷ rest) < leap_records
+    AllFar run a (first ∷ rest) → length (first ∷ rest) ≤ leap_records
+
+-- what is told of a record that the run follows: how many slots were written before it, the greatest DTS before it, and its own; and the run
+-- goes on from this DTS, after the slots that it settles
+pub record GoesOnFrom (run : Run) (a : Air) (entry : ℕ × AccessUnit) (packet from to : ℕ) : Type 0 where
+  pub packet_is : packet ≡ a.slots
+  pub from_is : from ≡ a.greatest
+  pub to_is : to ≡ entry.1.dts
+  pub greatest : (aired run a entry).greatest ≡ entry.1.dts
+  pub slots : (aired run a entry).slots ≡ on_to a.slots (settled_at run entry.1.dts)
+
+abbrev pub LeapMovesOn : Type 0
+LeapMovesOn = (run : Run) (a : Air) (entry : ℕ × AccessUnit) (packet from to : ℕ) → air_cause run a entry ≡ Some (Followed packet from to) →
+    GoesOnFrom run a entry packet from to
+
+-- ---- records that are near
+
+-- a record is due at most as far after the greatest DTS so far as the terms allow, at most as long before it as the run waits, and no
+-- earlier than its lead after the beginning; and the slots that are settled so far are within those of the run
+pub record ComesNear (run : Run) (a : Air) (entry : ℕ × AccessUnit) : Type 0 where
+  pub near : entry.1.dts ≤ a.greatest + run.terms.ahead
+  pub in_order : a.greatest ≤ entry.1.dts + run.terms.wait
+  pub begun : greatest_lead run.scheduled.description.streams ≤ entry.1.dts
+  pub early : release run.scheduled.description.rate (lead_of run) a.greatest ≤ limit_of run.terms
+
+-- a cause that lies in the unit and its stream's units, by what the stream declares: all but the slots that are written, and the room
+abbrev pub IsOwnCause : FeedError → Type 0
+IsOwnCause UnknownStream = ⊤
+IsOwnCause Empty = ⊤
+IsOwnCause TooLarge = ⊤
+IsOwnCause TooSoon = ⊤
+IsOwnCause BadPts = ⊤
+IsOwnCause Late = ⊥
+IsOwnCause TooFar = ⊤
+IsOwnCause Full = ⊥
+IsOwnCause Group = ⊤
+IsOwnCause Pace = ⊤
+
+abbrev pub IsJudgedAlone : Option AirRefusal → Type 0
+IsJudgedAlone None = ⊤
+IsJudgedAlone (Some (Feed cause)) = IsOwnCause cause
+IsJudgedAlone (Some Ahead) = ⊥
+IsJudgedAlone (Some (Followed packet from to)) = ⊥
+
+-- after any input, however damaged, such a record is refused for nothing else: neither for its time nor for want of room, where the run has
+-- the room that its streams need
+abbrev pub NearIsJudgedAlone : Type 0
+NearIsJudgedAlone = (run : Run) (n : ℕ) (xs : List ℕ) (entry : ℕ × AccessUnit) → Promises run.scheduled →
+    needed_room (lead_of run) run.scheduled.description.streams ≤ run.capacity → ComesNear run (heard run n xs) entry →
+    IsJudgedAlone (air_cause run (heard run n xs) entry)

@@ -1,9 +1,9 @@
--- A leap of the stamps that come in: after a silence, or where an encoder begins anew, each record lies further ahead than the
--- terms of a run allow. A single wild stamp is no leap: a run follows stamps only once several records in a row agree.
+-- A leap of the stamps that come in: after a silence, or if an encoder restarts with greater stamps, each record lies further ahead than
+-- the terms of a run allow. A single wild stamp is no leap: a run follows stamps only once several records in a row agree.
 use Rattle.std.specs.Prelude.{ℕ, ◌+◌, ◌-◌, ◌&&◌, Bool, nat_le, nat_lt, if◌then◌else◌}
 use Rattle.on_air.specs.declared.leap.Leap.{Leap}
 
--- how many records in a row have to leap, each near the one before, until a run follows them
+-- how many records in a row have to leap, each near the record before it, until a run follows them
 abbrev pub leap_records : ℕ
 leap_records = 8
 
@@ -26,6 +26,6 @@ leap_with ahead leap due = record {
   due = due;
 }
 
--- after a record; one that is not far ends a leap
-abbrev pub leap_after : Bool → ℕ → Leap → ℕ → Leap
-leap_after far ahead leap due = if far then leap_with ahead leap due else no_leap
+-- the run follows these records
+abbrev pub is_followed : Leap → Bool
+is_followed leap = nat_le leap_records leap.records

@@ -1,9 +1,10 @@
 //! A run without end: its calls.
 
-ghost use Rattle.std.specs.Prelude.{◌≡◌, ◌<◌, ◌≤◌, ◌-◌, ◌+◌, ◌^◌, ℕ, List, [], Option, IfOk, IfErr, OnOk, OnErr};
+ghost use Rattle.std.specs.Prelude.{◌≡◌, ◌<◌, ◌≤◌, ◌-◌, ◌+◌, ◌^◌, ℕ, List, [], Option, Some, true, IfOk, IfErr, OnOk, OnErr};
 ghost use Rattle.counted_io.specs.Device.{Failed};
 ghost use Rattle.packet_output.specs.Buffer.{waiting_of};
-ghost use Rattle.on_air.specs.Airing.{Run, Air, ended};
+ghost use Rattle.pes_packet.specs.AccessUnits.{AccessUnit};
+ghost use Rattle.on_air.specs.Airing.{Run, Air, air_cause, caught_up, ended, is_far_from, judged, on_to, settled_at, with_count};
 ghost use Rattle.on_air.specs.AirStates.{IsOnAir, IsOut};
 ghost use Rattle.on_air.specs.Hearing.{Fails, Hears, TakesUnit, CountsRecord, CountsRecords, LetsOut, NamesDevice, HasHeard, HearsOn};
 
@@ -79,7 +80,7 @@ impl<A: Allocator + Copy> OnAir<A> {
     }
 
     /// Takes the next record: judges it, and writes the slots that it settles, to the last byte if a read of the record
-    /// after it may wait. A refused record moves nothing.
+    /// after it may wait. A refused record moves nothing; if the run follows it, `follow` writes what is between.
     pub fn hear<R: HeldInput, W: Sink>(
         &mut self,
         alloc: A,
@@ -146,6 +147,24 @@ impl<A: Allocator + Copy> OnAir<A> {
         }
     }
 
+    /// Follows a refused record, if the refusal says so: writes the slots up to its time. Without units they are null
+    /// packets, tables and clock references.
+    pub fn follow<W: Sink>(&mut self, refusal: AirRefusal, to: &mut W) -> Result<(), OutputFault>
+        ensures ok { (run : Run) (a : Air) (start : Option (List ℕ)) → IsOnAir run a start (W.contents to.old) self.old →
+            OnOk result (IsOnAir run (caught_up run a (Some refusal)) start (W.contents to.new) self.new) }
+        ensures err { (run : Run) (a : Air) (start : Option (List ℕ)) → IsOnAir run a start (W.contents to.old) self.old →
+            IfErr result (λ fault. Fails run (caught_up run a (Some refusal)) start (W.contents to.new) fault.sent) }
+        ensures records { OnOk result (self.new.records ≡ self.old.records) }
+        ensures clean { OnOk result (W.fault_count to.new ≡ W.fault_count to.old) }
+        ensures fault { OnErr result (Failed (W.fault_count to.old) (W.fault_count to.new)) }
+    {
+        match refusal {
+            AirRefusal::Followed { to: due, .. } => self.write_until(due, to),
+            AirRefusal::Ahead => Ok(()),
+            AirRefusal::Feed(_) => Ok(()),
+        }
+    }
+
     /// Ends the run: writes on to its last slot, to the last byte.
     pub fn end<W: Sink>(&mut self, to: &mut W) -> Result<(), OutputFault>
         ensures ok { (run : Run) (a : Air) (start : Option (List ℕ)) → IsOnAir run a start (W.contents to.old) self.old →
@@ -184,6 +203,46 @@ impl<A: Allocator + Copy> OnAir<A> {
         self.packets.flush(to)
     }
 
+    // Writes the slots that are settled by a DTS; what is no whole part yet waits.
+    fn write_until<W: Sink>(&mut self, due: u64, to: &mut W) -> Result<(), OutputFault>
+        ensures ok { (run : Run) (a : Air) (start : Option (List ℕ)) → IsOnAir run a start (W.contents to.old) self.old →
+            OnOk result (IsOnAir run (with_count a (on_to a.slots (settled_at run due))) start (W.contents to.new) self.new) }
+        ensures err { (run : Run) (a : Air) (start : Option (List ℕ)) → IsOnAir run a start (W.contents to.old) self.old →
+            IfErr result (λ fault. Fails run (with_count a (on_to a.slots (settled_at run due))) start (W.contents to.new) fault.sent) }
+        ensures records { self.new.records ≡ self.old.records }
+        ensures clean { OnOk result (W.fault_count to.new ≡ W.fault_count to.old) }
+        ensures fault { OnErr result (Failed (W.fault_count to.old) (W.fault_count to.new)) }
+    {
+        let limit = self.terms.limit();
+        let target = settled(self.rate, self.lead, limit, due);
+        write_on(&mut self.mux, target, &mut self.packets, to)
+    }
+
+    // Refuses a record that lies too far ahead, and counts it among those that leap.
+    fn pass_over(&mut self, due: u64) -> AirRefusal
+        requires { self.old.records < 2 ^ 64 - 1 }
+        ensures passes { (run : Run) (a : Air) (entry : ℕ × AccessUnit) (start now : Option (List ℕ)) → IsOnAir run a start now self.old →
+            due ≡ entry.1.dts → is_far_from run a entry ≡ true →
+            (air_cause run a entry ≡ Some result) × IsOnAir run (judged run a entry) start now self.new }
+        ensures records { self.new.records ≡ self.old.records + 1 }
+    {
+        self.records += 1;
+        let leap = self.leap.with(self.terms.ahead, due);
+        if !leap.is_followed() {
+            self.leap = leap;
+            return AirRefusal::Ahead;
+        }
+        let packet = self.mux.now();
+        let from = self.greatest;
+        self.leap = Leap::none();
+        self.greatest = due;
+        AirRefusal::Followed {
+            packet,
+            from,
+            to: due,
+        }
+    }
+
     // Judges a record, and writes the slots that are settled by it; what is no whole part yet waits.
     fn take<W: Sink>(
         &mut self,
@@ -199,22 +258,21 @@ impl<A: Allocator + Copy> OnAir<A> {
         ensures fault { OnErr result (Failed (W.fault_count to.old) (W.fault_count to.new)) }
     {
         let due = unit.dts;
-        self.records += 1;
-        let far = is_far(self.terms.ahead, self.greatest, due);
-        let leap = self.leap.after(far, self.terms.ahead, due);
-        self.leap = leap;
-        match admit(&mut self.mux, leap.refuses(far), stream, unit) {
-            None => {}
-            Some(cause) => return Ok(Some(cause)),
+        if is_far(self.terms.ahead, self.greatest, due) {
+            drop(unit);
+            return Ok(Some(self.pass_over(due)));
         }
+        self.records += 1;
+        match admit(&mut self.mux, stream, unit) {
+            None => {}
+            Some(cause) => return Ok(Some(AirRefusal::Feed(cause))),
+        }
+        self.leap = Leap::none();
         let greatest = self.greatest.max(due);
         self.greatest = greatest;
-        let limit = self.terms.limit();
-        let target = settled(self.rate, self.lead, limit, due);
-        match write_on(&mut self.mux, target, &mut self.packets, to) {
-            Ok(()) => {}
-            Err(fault) => return Err(fault),
+        match self.write_until(due, to) {
+            Ok(()) => Ok(None),
+            Err(fault) => Err(fault),
         }
-        Ok(None)
     }
 }

@@ -1,16 +1,16 @@
 //! How a run begins: the one place where it takes memory of its own.
 
-ghost use Rattle.std.specs.Prelude.{◌≡◌, ◌+◌, ℕ, List, [], Option, None, IfOk};
+ghost use Rattle.std.specs.Prelude.{◌≡◌, ◌≤◌, ◌+◌, ℕ, List, [], Option, None, IfOk};
 ghost use Rattle.packet_output.specs.Buffer.{waiting_of};
 ghost use Rattle.mux_core.specs.NewMux.{Judges};
 ghost use Rattle.mux_core.specs.Scheduled.{Scheduled};
 ghost use Rattle.mux_core.specs.Histories.{empty_history};
-ghost use Rattle.on_air.specs.Airing.{silence, greatest_lead, room_of};
+ghost use Rattle.on_air.specs.Airing.{silence, greatest_lead, room_by, room_of};
 ghost use Rattle.on_air.specs.AirStates.{Carries, IsOnAir, Promises, run_with, plan_run, switch_run, begin_refusal};
 ghost use Rattle.on_air.specs.AirStates.{switch_refusal};
 
 use crate::airing::OnAir;
-use crate::leads::{greatest_lead, room_of};
+use crate::leads::{greatest_lead, room_by, room_of};
 use crate::leap::Leap;
 use crate::options::Terms;
 use clock27::Rate;
@@ -86,13 +86,16 @@ struct Numbers {
 fn numbers_of(description: &Description, terms: Terms) -> Numbers
     ensures rate { result.rate ≡ description.now.rate }
     ensures lead { result.lead ≡ greatest_lead description.now.streams + terms.wait }
-    ensures room { result.room ≡ room_of (greatest_lead description.now.streams + terms.wait) description.now.streams }
+    ensures room { result.room ≡
+        room_by terms.room (room_of (greatest_lead description.now.streams + terms.wait) description.now.streams) }
+    ensures some { 1 ≤ result.room }
+    ensures most { result.room ≤ 1048576 }
 {
     let lead = u64::from(greatest_lead(description.streams())) + u64::from(terms.wait);
     Numbers {
         rate: description.rate(),
         lead,
-        room: room_of(lead, description.streams()),
+        room: room_by(terms.room, room_of(lead, description.streams())),
     }
 }
 

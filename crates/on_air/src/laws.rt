@@ -1,6 +1,6 @@
 //! Laws of the definitions. Each function does nothing: its contract is the law.
 
-ghost use Rattle.on_air.specs.Laws.{TakenInTime, AiredInOrder, AiredAsMultiplexed, LeapFollowed};
+ghost use Rattle.on_air.specs.Laws.{TakenInTime, AiredInOrder, AiredAsMultiplexed, LeapFollowed, LeapMovesOn, NearIsJudgedAlone};
 
 /// States that a unit that a stream accepts before the first slot is accepted too where no slot from its release on is
 /// written.
@@ -19,8 +19,19 @@ pub fn aired_as_multiplexed()
     ensures { AiredAsMultiplexed }
 {}
 
-/// States that not all of eight records in a row whose stamps lie near one another are refused for being ahead, whatever
-/// came before: a feed whose stamps agree is never refused for ever.
+/// States that of nine records in a row whose stamps lie near one another, not all lie too far ahead, whatever came
+/// before: a feed whose stamps agree is never refused for ever for being ahead.
 pub fn leap_followed()
     ensures { LeapFollowed }
+{}
+
+/// States that a run goes on from the DTS of a record that it follows, after the slots that this DTS settles.
+pub fn leap_moves_on()
+    ensures { LeapMovesOn }
+{}
+
+/// States that, after any input, a record that is near the greatest DTS so far is refused for nothing but itself and the
+/// units of its stream: neither for its time nor for the room.
+pub fn near_is_judged_alone()
+    ensures { NearIsJudgedAlone }
 {}

@@ -1,7 +1,7 @@
 //! The greatest lead of a description's streams, and the room that they need.
 
 ghost use Rattle.std.specs.Prelude.{◌≡◌, ◌≤◌, ◌^◌};
-ghost use Rattle.on_air.specs.Airing.{greatest_lead, least_interval, room_of};
+ghost use Rattle.on_air.specs.Airing.{greatest_lead, least_interval, room_by, room_of};
 
 use slot_plan::StreamDescription;
 
@@ -27,8 +27,25 @@ fn least_interval(streams: &[StreamDescription]) -> u32
 /// Returns the number of units of a stream that may wait: those that may be due within a lead, and one that comes.
 pub(crate) fn room_of(lead: u64, streams: &[StreamDescription]) -> usize
     requires { lead ≤ 2 ^ 33 }
-    ensures { result ≡ room_of lead streams.now }
+    ensures value { result ≡ room_of lead streams.now }
+    ensures some { 1 ≤ result }
+    ensures most { result ≤ 1048576 }
 {
     let room = lead.div_ceil(u64::from(least_interval(streams).max(1))) + 1;
     room.min(MAX_ROOM) as usize
+}
+
+/// Returns the room that the terms of a run ask for, from 1 to 1,048,576 units; else this one.
+#[tactic(auto, unfolding(crate::specs::Airing::room_by))]
+pub(crate) fn room_by(asked: Option<u64>, room: usize) -> usize
+    requires some { 1 ≤ room }
+    requires most { room ≤ 1048576 }
+    ensures value { result ≡ room_by asked room }
+    ensures some { 1 ≤ result }
+    ensures most { result ≤ 1048576 }
+{
+    match asked {
+        Some(units) => units.max(1).min(MAX_ROOM) as usize,
+        None => room,
+    }
 }

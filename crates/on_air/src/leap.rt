@@ -1,7 +1,7 @@
 //! A leap of the stamps of the input: records in a row that all lie further ahead than the terms of a run allow.
 
-ghost use Rattle.std.specs.Prelude.{◌≡◌, ◌&&◌, nat_lt};
-ghost use Rattle.on_air.specs.Leaps.{is_far, is_near, leap_after, leap_records, leap_with, no_leap};
+ghost use Rattle.std.specs.Prelude.{◌≡◌};
+ghost use Rattle.on_air.specs.Leaps.{is_far, is_followed, is_near, leap_with, no_leap};
 
 /// How many records in a row have to leap, each near the one before, until a run follows them.
 pub(crate) const LEAP_RECORDS: u8 = 8;
@@ -37,8 +37,8 @@ impl Leap {
         Leap { records: 0, due: 0 }
     }
 
-    // Returns the leap with one more record that lies further ahead than the terms allow.
-    fn with(self, ahead: u64, due: u64) -> Leap
+    /// Returns the leap with one more record that lies further ahead than the terms allow.
+    pub(crate) fn with(self, ahead: u64, due: u64) -> Leap
         ensures { result ≡ leap_with ahead self due }
     {
         let records = if is_near(ahead, self.due, due) {
@@ -53,22 +53,10 @@ impl Leap {
         Leap { records, due }
     }
 
-    /// Returns the leap after a record that is due at `due`, where `far` says whether it lies further ahead than `ahead`.
-    pub(crate) fn after(self, far: bool, ahead: u64, due: u64) -> Leap
-        ensures { result ≡ leap_after far ahead self due }
+    /// Returns whether a run follows these records.
+    pub(crate) fn is_followed(self) -> bool
+        ensures { result ≡ is_followed self }
     {
-        if far {
-            self.with(ahead, due)
-        } else {
-            Leap::none()
-        }
-    }
-
-    /// Returns whether the last record of this leap is refused, where `far` says whether it lies further ahead than the terms
-    /// allow: the leap has fewer than 8 records.
-    pub(crate) fn refuses(self, far: bool) -> bool
-        ensures { result ≡ far && nat_lt self.records leap_records }
-    {
-        far && self.records < LEAP_RECORDS
+        LEAP_RECORDS <= self.records
     }
 }

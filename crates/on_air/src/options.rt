@@ -16,6 +16,8 @@ pub struct Terms {
     pub ahead: u64,
     /// The number of slots to be written; without it, as many as the units need. 2^40 at most are written.
     pub slots: Option<u64>,
+    /// The number of units of each stream that may wait, from 1 to 1,048,576; without it, as many as the streams need.
+    pub room: Option<u64>,
 }
 
 impl Terms {

@@ -5,13 +5,16 @@ ghost use Rattle.on_air.specs.Airing.{air_code};
 
 use unit_queue::FeedError;
 
-/// Why a record is refused. It moves nothing.
+/// Why a record is refused. It moves nothing, except if the run follows it.
 #[derive(Clone, Copy)]
 pub enum AirRefusal {
     /// The multiplexer refuses its unit.
     Feed(FeedError),
     /// Its DTS lies further after the greatest so far than the terms allow.
     Ahead,
+    /// The same, and seven records before it in a row were refused for it, each near the record before it: the run follows
+    /// them. `packet` slots were written before it, and time goes on from the DTS `from` to its own, `to`.
+    Followed { packet: u64, from: u64, to: u64 },
 }
 
 impl AirRefusal {
@@ -22,6 +25,7 @@ impl AirRefusal {
         match self {
             AirRefusal::Feed(cause) => cause.code(),
             AirRefusal::Ahead => 11,
+            AirRefusal::Followed { .. } => 11,
         }
     }
 }

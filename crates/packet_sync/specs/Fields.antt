@@ -69,9 +69,10 @@ is_flagged p = slice_index p 0 == 0 && slice_index p 1 == 0 && slice_index p 2 =
 abbrev pub goes_on : List ℕ → Bool
 goes_on p = nat_lt (slice_index p 7) 128
 
--- a PES header of which the PTS_DTS_flags announce a PTS is at the front of a payload: a unit begins with it
+-- a PES header of which the PTS_DTS_flags announce a PTS is at the front of a payload: a unit begins with it; of a header that goes on in
+-- another packet before its PTS_DTS_flags the same is taken
 unfoldable pub begins_unit : List ℕ → Bool
-begins_unit p = nat_lt 8 (length p) && (is_flagged p && not (goes_on p))
+begins_unit p = if nat_lt (length p) 9 then not (length p == 0) else is_flagged p && not (goes_on p)
 
 -- data_alignment_indicator
 abbrev pub is_aligned : List ℕ → Bool
@@ -103,6 +104,14 @@ extension_flags p =
 -- PES_private_data_flag
 abbrev pub has_private_data : ℕ → Bool
 has_private_data extension = extension / 128 == 1
+
+-- the header data end before the 16 bytes of PES_private_data do
+abbrev pub lacks_private_data : List ℕ → Bool
+lacks_private_data p = nat_lt (9 + slice_index p 8) (extension_place (slice_index p 7) + 17)
+
+-- PES_private_data that no unit carries: of a PES packet that goes on with a unit, or not whole
+abbrev pub loses_private_data : List ℕ → Bool
+loses_private_data p = has_private_data (extension_flags p) && (goes_on p || lacks_private_data p)
 
 -- ESCR, ES_rate, DSM_trick_mode, additional_copy_info, PES_CRC; of the extension pack_header, program_packet_sequence_counter,
 -- P-STD_buffer and PES_extension_flag_2

@@ -2,7 +2,7 @@
 use Rattle.std.specs.Prelude.{ℕ, zero, suc, ◌+◌, ◌*◌, ◌%◌, ◌==◌, ◌&&◌, not, nat_lt, Bool, true, if◌then◌else◌, List, [], ◌∷◌, ◌++◌, length, slice_index, slice_range, Option, None, Some}
 use Rattle.std.specs.List.{list_any}
 use Rattle.packet_sync.specs.Slips.{slip_size}
-use Rattle.packet_sync.specs.Fields.{adaptation_flags, begins_unit, extension_flags, goes_on, has_adaptation_extension, has_adaptation_private_data, has_original_clock, has_other_data, has_other_flags, has_priority, has_private_data, has_splice_countdown, has_stream_priority, is_aligned, is_cut, is_discontinuity, is_flagged, is_long, is_random_access, is_scrambled, number_of, start_payload}
+use Rattle.packet_sync.specs.Fields.{adaptation_flags, begins_unit, extension_flags, goes_on, has_adaptation_extension, has_adaptation_private_data, has_original_clock, has_other_data, has_other_flags, has_priority, has_splice_countdown, has_stream_priority, is_aligned, is_cut, is_discontinuity, is_flagged, is_long, is_random_access, is_scrambled, loses_private_data, number_of, start_payload}
 use Rattle.packet_sync.specs.declared.field.Field.{Field}
 use Rattle.packet_sync.specs.declared.field.Field.TheVariants.{TransportPriority, Discontinuity, RandomAccess, StreamPriority, OriginalClock, SpliceCountdown, AdaptationPrivateData, AdaptationExtension, Alignment, Flags, Scrambling, LongHeader, PrivateData, OtherHeaderData, UnreadHeader}
 use Rattle.packet_sync.specs.declared.left_out.FieldLeftOut.{FieldLeftOut}
@@ -42,11 +42,11 @@ with_flags pid p found =
     with_field pid Scrambling (is_scrambled p)
     (with_field pid Flags (goes_on p && has_other_flags p) (with_field pid Alignment (goes_on p && is_aligned p) found))
 
--- with those of its header data; a long header of the first PES packet of a unit is carried
+-- with those of its header data; a long header and PES_private_data of the first PES packet of a unit are carried
 unfoldable pub with_data : ℕ → List ℕ → List FieldLeftOut → List FieldLeftOut
 with_data pid p found =
     with_field pid UnreadHeader (is_cut p)
-    (with_field pid OtherHeaderData (has_other_data (slice_index p 7) (extension_flags p)) (with_field pid PrivateData (has_private_data (extension_flags p)) (with_field pid LongHeader (goes_on p && is_long p) found)))
+    (with_field pid OtherHeaderData (has_other_data (slice_index p 7) (extension_flags p)) (with_field pid PrivateData (loses_private_data p) (with_field pid LongHeader (goes_on p && is_long p) found)))
 
 -- with those of the PES header at the front of a payload; of one that is cut before its header data nothing is read
 unfoldable pub with_header : ℕ → List ℕ → List FieldLeftOut → List FieldLeftOut

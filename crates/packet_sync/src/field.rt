@@ -34,7 +34,8 @@ pub enum Field {
     /// The header of 45 bytes that teletext (EN 300 472, 4.2) and VBI data (EN 301 775, 4.3) have, so that their data
     /// units stand in step with packets.
     LongHeader,
-    /// PES_private_data, 16 bytes: where audio description has its levels (ETSI TS 101 154, annex E).
+    /// PES_private_data, 16 bytes, where audio description has its levels (ETSI TS 101 154, annex E): of a PES packet that
+    /// goes on with a unit, or not whole.
     PrivateData,
     /// ESCR, ES_rate, DSM_trick_mode, additional_copy_info, PES_CRC, or another part of PES_extension.
     OtherHeaderData,
@@ -145,12 +146,16 @@ pub(crate) fn is_flagged(payload: &[u8]) -> bool
     payload[0] == 0 && payload[1] == 0 && payload[2] == 1 && has_flags(payload[3])
 }
 
-/// Returns whether a PES header with a PTS is at the front of a payload: a unit begins with it.
+/// Returns whether a PES header with a PTS is at the front of a payload: a unit begins with it. Of a header that goes on
+/// in another packet before its PTS_DTS_flags the same is taken.
 #[tactic(auto, unfolding(crate::specs::Fields::begins_unit))]
 pub(crate) fn begins_unit(payload: &[u8]) -> bool
     ensures { result ≡ spec.begins_unit payload.now }
 {
-    payload.len() > 8 && (is_flagged(payload) && payload[7] >= 128)
+    if payload.len() < 9 {
+        return !payload.is_empty();
+    }
+    is_flagged(payload) && payload[7] >= 128
 }
 
 // Where the flags of PES_extension stand, by the second flag byte.
@@ -174,4 +179,23 @@ pub(crate) fn extension_flags(payload: &[u8]) -> u8
     } else {
         0
     }
+}
+
+// Whether the header data end before the 16 bytes of PES_private_data do.
+fn lacks_private_data(payload: &[u8]) -> bool
+    requires { 9 ≤ length payload.now }
+    ensures { result ≡ spec.lacks_private_data payload.now }
+{
+    let end = 9 + payload[8] as usize;
+    end < 17 || end - 17 < extension_place(payload[7])
+}
+
+/// Returns whether PES_private_data is there that no unit carries: of a PES packet that goes on with a unit, or not
+/// whole.
+pub(crate) fn loses_private_data(payload: &[u8]) -> bool
+    requires { 9 ≤ length payload.now }
+    ensures { result ≡ spec.loses_private_data payload.now }
+{
+    let is_lost = payload[7] < 128 || lacks_private_data(payload);
+    extension_flags(payload) / 128 == 1 && is_lost
 }

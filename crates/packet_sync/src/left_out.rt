@@ -5,7 +5,8 @@ ghost use Rattle.packet_sync.specs.Fields as fields;
 ghost use Rattle.packet_sync.specs.FieldsLeftOut as spec;
 
 use crate::field::{
-    Field, adaptation_flags, begins_unit, extension_flags, is_flagged, start_payload,
+    Field, adaptation_flags, begins_unit, extension_flags, is_flagged, loses_private_data,
+    start_payload,
 };
 use crate::sync_bytes::PACKET_SIZE;
 use std::alloc::{AllocError, Allocator};
@@ -144,7 +145,7 @@ fn note_data<A: Allocator>(
         payload[7] < 128 && (payload[3] == 0xBD && size == 36),
         found,
     )?;
-    note(pid, Field::PrivateData, extension / 128 == 1, found)?;
+    note(pid, Field::PrivateData, loses_private_data(payload), found)?;
     note(
         pid,
         Field::OtherHeaderData,

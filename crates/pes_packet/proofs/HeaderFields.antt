@@ -1,5 +1,5 @@
 -- A header is read exactly if the bytes are one by the table of its fields.
-use Rattle.std.proofs.Common.{◌≡◌, ℕ, ◌+◌, ◌*◌, ◌/◌, ◌%◌, ◌^◌, ◌<◌, ◌≤◌, ◌&&◌, not, Bool, true, false, cond, Result, Ok, Err, List, [], ◌∷◌, ◌++◌, length, take, drop, refl, sym, ap, ◌∙◌, subst, arith, ltb, eqb, suc, ◌⊎◌, inl, inr, IfOk}
+use Rattle.std.proofs.Common.{◌≡◌, ℕ, ◌+◌, ◌*◌, ◌/◌, ◌%◌, ◌^◌, ◌<◌, ◌≤◌, ◌&&◌, not, Bool, true, false, cond, Option, None, Result, Ok, Err, List, [], ◌∷◌, ◌++◌, length, take, drop, slice_index, refl, sym, ap, ◌∙◌, subst, arith, ltb, eqb, suc, ◌⊎◌, inl, inr, IfOk}
 use Rattle.std.proofs.lemmas.Bool.{eqb-true, eq-eqb, or_parts, or_from, ltb-false, le-ltb, ne_eqb, cases_eq}
 use Rattle.std.proofs.lemmas.List.{length-append, length-take-le, take-append-drop, take_at}
 use Rattle.bit_fields.specs.Fields.{number, fields, bit, flag, IsBytes}
@@ -8,6 +8,7 @@ use Rattle.bit_fields.proofs.Fields.{bit_test, test_bit}
 use Rattle.bit_fields.proofs.ByteLists.{IsBytes-tail, IsBytes-take, IsBytes-append_left, IsBytes-append_right}
 use Rattle.pes_packet.specs.StreamIds.{has_flags}
 use Rattle.pes_packet.specs.Marks.{no_flags, flags_in}
+use Rattle.pes_packet.specs.PrivateData.{private_at}
 use Rattle.pes_packet.specs.Reading.{stamps_at, is_bad_flags, is_too_short, data_at, flags_at, start_at, misses_prefix, header_at}
 use Rattle.pes_packet.specs.Syntax.{IsStamps, IsStart, IsFlags, IsAfter, IsPesHeader, stamp_flags}
 use Rattle.pes_packet.specs.declared.refusal.PesError.{PesError}
@@ -85,8 +86,8 @@ flags_takes id len (first ∷ second ∷ count ∷ bytes) header size fits flagg
     let b = bind_ok (stamps_at (second / 64) (take count bytes)) _ (header, size) n.1 in
     let more : IsBytes bytes = IsBytes-tail count bytes (IsBytes-tail second (count ∷ bytes) (IsBytes-tail first (second ∷ count ∷ bytes) fits)) in
     let s = stamps_takes (second / 64) (take count bytes) b.0 (IsBytes-take count bytes more) b.1 in
-    let made : ◌≡◌ {A = Result (PesHeader × ℕ) PesError} (Ok (record { id = id; len = len; stamps = b.0; flags = flags_in first; data_length = count }, 9 + count)) (Ok (header, size)) = b.2 in
-    let is : ◌≡◌ {A = PesHeader × ℕ} (record { id = id; len = len; stamps = b.0; flags = flags_in first; data_length = count }, 9 + count) (header, size) = cc (made) in
+    let made : ◌≡◌ {A = Result (PesHeader × ℕ) PesError} (Ok (record { id = id; len = len; stamps = b.0; flags = flags_in first; data_length = count; private_data = private_at second (take count bytes) }, 9 + count)) (Ok (header, size)) = b.2 in
+    let is : ◌≡◌ {A = PesHeader × ℕ} (record { id = id; len = len; stamps = b.0; flags = flags_in first; data_length = count; private_data = private_at second (take count bytes) }, 9 + count) (header, size) = cc (made) in
     let there : count ≤ length bytes = ltb-false _ _ g.0 in
     let took : length (take count bytes) ≡ count = length-take-le count bytes there in
     let parts : length (take count bytes) ≡ length s.front + length s.others = ap (length {A = ℕ}) s.is ∙ length-append s.front s.others in
@@ -108,6 +109,7 @@ flags_takes id len (first ∷ second ∷ count ∷ bytes) header size fits flagg
         flags_stand = flags;
         data_is = sym whole;
         stamps_stand = s.stand;
+        private_is = ap (private_at second) s.is;
         counted = elim (counts len count n.0) [
           | inl none ↦ inl none
           | inr some ↦ inr (omega (arith, length-append s.front s.others))
@@ -119,14 +121,14 @@ flags_takes id len (first ∷ []) header size fits flagged read = absurd cc
 flags_takes id len (first ∷ second ∷ []) header size fits flagged read = absurd cc
 
 after_takes : (id len : ℕ) (bytes : List ℕ) (header : PesHeader) (size : ℕ) → IsBytes bytes
-    → cond (has_flags id) (flags_at id len bytes) (Ok (record { id = id; len = len; stamps = Absent; flags = no_flags; data_length = 0 }, 6)) ≡ Ok (header, size)
+    → cond (has_flags id) (flags_at id len bytes) (Ok (record { id = id; len = len; stamps = Absent; flags = no_flags; data_length = 0; private_data = None }, 6)) ≡ Ok (header, size)
     → ReadsAfter id len bytes header size
 after_takes id len bytes header size fits read =
     elim (chosen (has_flags id) _ _ _ read) [
       | inl some ↦ flags_takes id len bytes header size fits some.0 some.1
       | inr none ↦
-          let made : ◌≡◌ {A = Result (PesHeader × ℕ) PesError} (Ok (record { id = id; len = len; stamps = Absent; flags = no_flags; data_length = 0 }, 6)) (Ok (header, size)) = none.1 in
-          let is : ◌≡◌ {A = PesHeader × ℕ} (record { id = id; len = len; stamps = Absent; flags = no_flags; data_length = 0 }, 6) (header, size) = cc (made) in
+          let made : ◌≡◌ {A = Result (PesHeader × ℕ) PesError} (Ok (record { id = id; len = len; stamps = Absent; flags = no_flags; data_length = 0; private_data = None }, 6)) (Ok (header, size)) = none.1 in
+          let is : ◌≡◌ {A = PesHeader × ℕ} (record { id = id; len = len; stamps = Absent; flags = no_flags; data_length = 0; private_data = None }, 6) (header, size) = cc (made) in
           subst (λ (x : PesHeader × ℕ). ReadsAfter id len bytes x.0 x.1) is (record {
             after = [];
             rest = bytes;
@@ -134,7 +136,7 @@ after_takes id len bytes header size fits read =
             id_is = refl;
             len_is = refl;
             size_is = refl;
-            stands = rw none.0 (refl, refl, refl, refl);
+            stands = rw none.0 (refl, refl, refl, refl, refl);
           })
     ]
 
@@ -250,10 +252,11 @@ bad_again : (first second : ℕ) → first / 64 ≡ 2 → (second / 64 ≡ 1 →
 bad_again first second two one = or_from _ _ (ap not (eq-eqb _ _ two)) (ne_eqb _ _ one)
 
 -- a header made of parts that are its own
-header_by : (header : PesHeader) (stamps : Stamps) (flags : PesFlags) (count : ℕ)
-    → stamps ≡ header.stamps → flags ≡ header.flags → count ≡ header.data_length
-    → ◌≡◌ {A = PesHeader} (record { id = header.id; len = header.len; stamps = stamps; flags = flags; data_length = count }) header
-header_by header stamps flags count es ef ec = rw (es, ef, ec) refl
+header_by : (header : PesHeader) (stamps : Stamps) (flags : PesFlags) (count : ℕ) (private : Option (List ℕ))
+    → stamps ≡ header.stamps → flags ≡ header.flags → count ≡ header.data_length → private ≡ header.private_data
+    → ◌≡◌ {A = PesHeader} (record { id = header.id; len = header.len; stamps = stamps; flags = flags; data_length = count; private_data = private })
+    header
+header_by header stamps flags count private es ef ec ep = rw (es, ef, ec, ep) refl
 
 -- header data is read after flag bytes
 flagged_again : (header : PesHeader) (first second count : ℕ) (stamps others rest : List ℕ)
@@ -262,9 +265,10 @@ flagged_again : (header : PesHeader) (first second count : ℕ) (stamps others r
     → header.data_length ≡ length stamps + length others
     → IsStamps stamps header.stamps
     → (header.len ≡ 0) ⊎ (3 + (length stamps + length others) ≤ header.len)
+    → header.private_data ≡ private_at second (stamps ++ others)
     → flags_at header.id header.len (first ∷ second ∷ count ∷ ((stamps ++ others) ++ rest)) ≡ Ok (header, 9 + (length stamps + length others))
 unfolding flags_at data_at
-flagged_again header first second count stamps others rest hf hs hc fits flags sized stand counted =
+flagged_again header first second count stamps others rest hf hs hc fits flags sized stand counted private =
     let n = flag_bytes first second count header.flags header.stamps header.data_length hf hs hc flags in
     let sum : count ≡ length stamps + length others = n.count_is ∙ sized in
     let whole : length (stamps ++ others) ≡ count = length-append stamps others ∙ sym sum in
@@ -274,29 +278,39 @@ flagged_again header first second count stamps others rest hf hs hc fits flags s
     let long : is_too_short header.len count ≡ false = counts_again header.len count (subst (λ (x : ℕ). (header.len ≡ 0) ⊎ (3 + x ≤ header.len)) (sym sum) counted) in
     let stamp : stamps_at (second / 64) (take count ((stamps ++ others) ++ rest)) ≡ Ok header.stamps =
     rw (n.stamps_are, took) (stamps_again header.stamps stamps others fits stand) in
+    let same : private_at second (take count ((stamps ++ others) ++ rest)) ≡ header.private_data = ap (private_at second) took ∙ sym private in
     let made : ◌≡◌ {A = PesHeader}
-    (record { id = header.id; len = header.len; stamps = header.stamps; flags = flags_in first; data_length = count }) header =
-    header_by header header.stamps (flags_in first) count refl n.flags_are n.count_is in
+    (record {
+      id = header.id;
+      len = header.len;
+      stamps = header.stamps;
+      flags = flags_in first;
+      data_length = count;
+      private_data = private_at second (take count ((stamps ++ others) ++ rest));
+    })
+    header =
+    header_by header header.stamps (flags_in first) count (private_at second (take count ((stamps ++ others) ++ rest))) refl n.flags_are n.count_is same in
     rw (there, good, long, stamp) (ap (λ (h : PesHeader). Ok (h, 9 + count)) made ∙ ap (λ (k : ℕ). Ok (header, 9 + k)) sum)
 
-flagged_by : (header : PesHeader) (flags stamps others rest : List ℕ) → IsBytes flags → IsBytes stamps
+pub flagged_by : (header : PesHeader) (flags stamps others rest : List ℕ) → IsBytes flags → IsBytes stamps
     → IsFlags flags header.flags header.stamps header.data_length → header.data_length ≡ length stamps + length others → IsStamps stamps header.stamps
     → (header.len ≡ 0) ⊎ (length (flags ++ (stamps ++ others)) ≤ header.len)
+    → header.private_data ≡ private_at (slice_index flags 1) (stamps ++ others)
     → flags_at header.id header.len ((flags ++ (stamps ++ others)) ++ rest) ≡ Ok (header, 6 + length (flags ++ (stamps ++ others)))
-flagged_by header (first ∷ second ∷ count ∷ []) stamps others rest fits_flags fits stands sized stand counted =
+flagged_by header (first ∷ second ∷ count ∷ []) stamps others rest fits_flags fits stands sized stand counted private =
     let joined : length (stamps ++ others) ≡ length stamps + length others = length-append stamps others in
     let there : (header.len ≡ 0) ⊎ (3 + (length stamps + length others) ≤ header.len) =
     elim counted [ inl none ↦ inl none | inr some ↦ inr (omega (arith, some, joined)) ] in
     let size : 9 + (length stamps + length others) ≡ 6 + (3 + length (stamps ++ others)) = omega (arith, joined) in
-    flagged_again header first second count stamps others rest (fits_flags 0) (fits_flags 1) (fits_flags 2) fits stands sized stand there
+    flagged_again header first second count stamps others rest (fits_flags 0) (fits_flags 1) (fits_flags 2) fits stands sized stand there private
     ∙ ap (λ (n : ℕ). Ok (header, n)) (size ∙ omega arith)
-flagged_by header [] stamps others rest fits_flags fits stands sized stand counted = absurd (omega (arith, stands.len))
-flagged_by header (first ∷ []) stamps others rest fits_flags fits stands sized stand counted = absurd (omega (arith, stands.len))
-flagged_by header (first ∷ second ∷ []) stamps others rest fits_flags fits stands sized stand counted = absurd (omega (arith, stands.len))
-flagged_by header (first ∷ second ∷ count ∷ more ∷ flags) stamps others rest fits_flags fits stands sized stand counted = absurd (omega (arith, stands.len))
+flagged_by header [] stamps others rest fits_flags fits stands sized stand counted private = absurd (omega (arith, stands.len))
+flagged_by header (first ∷ []) stamps others rest fits_flags fits stands sized stand counted private = absurd (omega (arith, stands.len))
+flagged_by header (first ∷ second ∷ []) stamps others rest fits_flags fits stands sized stand counted private = absurd (omega (arith, stands.len))
+flagged_by header (first ∷ second ∷ count ∷ more ∷ flags) stamps others rest fits_flags fits stands sized stand counted private = absurd (omega (arith, stands.len))
 
 after_by : (b : Bool) (header : PesHeader) (after rest : List ℕ) → IsBytes after → IsAfter b after header
-    → cond b (flags_at header.id header.len (after ++ rest)) (Ok (record { id = header.id; len = header.len; stamps = Absent; flags = no_flags; data_length = 0 }, 6))
+    → cond b (flags_at header.id header.len (after ++ rest)) (Ok (record { id = header.id; len = header.len; stamps = Absent; flags = no_flags; data_length = 0; private_data = None }, 6))
     ≡ Ok (header, 6 + length after)
 after_by true header after rest fits stands =
     let whole : IsBytes (stands.flags ++ (stands.stamps ++ stands.others)) = subst IsBytes stands.is fits in
@@ -306,38 +320,41 @@ after_by true header after rest fits stands =
     rw (stands.is)
     (flagged_by header stands.flags stands.stamps stands.others rest
     (IsBytes-append_left stands.flags (stands.stamps ++ stands.others) whole) (IsBytes-append_left stands.stamps stands.others later)
-    stands.flags_stand stands.data_is stands.stamps_stand counted)
+    stands.flags_stand stands.data_is stands.stamps_stand counted stands.private_is)
 after_by false header after rest fits stands =
-    let whole : ◌≡◌ {A = PesHeader} (record { id = header.id; len = header.len; stamps = Absent; flags = no_flags; data_length = 0 }) header =
-    header_by header Absent no_flags 0 (sym stands.1) (sym stands.2) (sym stands.3) in
+    let whole : ◌≡◌ {A = PesHeader} (record { id = header.id; len = header.len; stamps = Absent; flags = no_flags; data_length = 0; private_data = None }) header =
+    header_by header Absent no_flags 0 None (sym stands.1) (sym stands.2) (sym stands.3) (sym stands.4) in
     let size : 6 ≡ 6 + length after = sym (ap (λ (t : List ℕ). 6 + length t) stands.0) in
     ap (λ (h : PesHeader). Ok (h, 6)) whole ∙ ap (λ (n : ℕ). Ok (header, n)) size
 
 -- what follows PES_packet_length is read
-after_again : (header : PesHeader) (after rest : List ℕ) → IsBytes after → IsAfter (has_flags header.id) after header
-    → cond (has_flags header.id) (flags_at header.id header.len (after ++ rest)) (Ok (record { id = header.id; len = header.len; stamps = Absent; flags = no_flags; data_length = 0 }, 6))
+abbrev pub ReadsRest : PesHeader → List ℕ → List ℕ → Type 0
+ReadsRest header after rest =
+    cond (has_flags header.id) (flags_at header.id header.len (after ++ rest)) (Ok (record { id = header.id; len = header.len; stamps = Absent; flags = no_flags; data_length = 0; private_data = None }, 6))
     ≡ Ok (header, 6 + length after)
+
+after_again : (header : PesHeader) (after rest : List ℕ) → IsBytes after → IsAfter (has_flags header.id) after header → ReadsRest header after rest
 after_again header after rest fits stands = after_by (has_flags header.id) header after rest fits stands
 
-start_again : (header : PesHeader) (start after rest : List ℕ) → IsBytes start → IsBytes after → IsStart start header
-    → IsAfter (has_flags header.id) after header → header_at (start ++ (after ++ rest)) ≡ Ok (header, length start + length after)
+-- and so is the whole
+pub start_again : (header : PesHeader) (start after rest : List ℕ) → IsBytes start → IsStart start header → ReadsRest header after rest → header_at (start ++ (after ++ rest)) ≡ Ok (header, length start + length after)
 unfolding header_at start_at
-start_again header (p ∷ q ∷ r ∷ id ∷ high ∷ low ∷ []) after rest fits fits_after stands after_stands =
+start_again header (p ∷ q ∷ r ∷ id ∷ high ∷ low ∷ []) after rest fits stands read =
     let n = start_numbers p q r id high low header (fits 0) (fits 1) (fits 2) (fits 3) (fits 4) (fits 5) stands.spelled stands.id stands.packet_length in
-    rw (n.0, n.1, n.2, n.3, n.4) (after_again header after rest fits_after after_stands)
-start_again header [] after rest fits fits_after stands after_stands = absurd (omega (arith, stands.len))
-start_again header (p ∷ []) after rest fits fits_after stands after_stands = absurd (omega (arith, stands.len))
-start_again header (p ∷ q ∷ []) after rest fits fits_after stands after_stands = absurd (omega (arith, stands.len))
-start_again header (p ∷ q ∷ r ∷ []) after rest fits fits_after stands after_stands = absurd (omega (arith, stands.len))
-start_again header (p ∷ q ∷ r ∷ id ∷ []) after rest fits fits_after stands after_stands = absurd (omega (arith, stands.len))
-start_again header (p ∷ q ∷ r ∷ id ∷ high ∷ []) after rest fits fits_after stands after_stands = absurd (omega (arith, stands.len))
-start_again header (p ∷ q ∷ r ∷ id ∷ high ∷ low ∷ more ∷ start) after rest fits fits_after stands after_stands = absurd (omega (arith, stands.len))
+    rw (n.0, n.1, n.2, n.3, n.4) read
+start_again header [] after rest fits stands read = absurd (omega (arith, stands.len))
+start_again header (p ∷ []) after rest fits stands read = absurd (omega (arith, stands.len))
+start_again header (p ∷ q ∷ []) after rest fits stands read = absurd (omega (arith, stands.len))
+start_again header (p ∷ q ∷ r ∷ []) after rest fits stands read = absurd (omega (arith, stands.len))
+start_again header (p ∷ q ∷ r ∷ id ∷ []) after rest fits stands read = absurd (omega (arith, stands.len))
+start_again header (p ∷ q ∷ r ∷ id ∷ high ∷ []) after rest fits stands read = absurd (omega (arith, stands.len))
+start_again header (p ∷ q ∷ r ∷ id ∷ high ∷ low ∷ more ∷ start) after rest fits stands read = absurd (omega (arith, stands.len))
 
 -- a header by the table of fields is read, whatever follows it
 pub header_again : (bytes : List ℕ) (header : PesHeader) (size : ℕ) (h : IsPesHeader bytes header size) → IsBytes h.start → IsBytes h.after
     → header_at bytes ≡ Ok (header, size)
 header_again bytes header size h fits_start fits_after =
-    rw (h.is, h.size_is) (start_again header h.start h.after h.rest fits_start fits_after h.start_stands h.after_stands)
+    rw (h.is, h.size_is) (start_again header h.start h.after h.rest fits_start h.start_stands (after_again header h.after h.rest fits_after h.after_stands))
 
 -- what an answer of the reading function tells
 pub is_found : (bytes : List ℕ) (r : Result (PesHeader × ℕ) PesError) → IsBytes bytes → r ≡ header_at bytes

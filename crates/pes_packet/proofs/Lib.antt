@@ -1,3 +1,4 @@
+pub mod Sixteen
 pub mod StampFields
 pub mod HeaderFields
 pub mod Written

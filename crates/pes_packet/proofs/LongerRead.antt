@@ -1,5 +1,5 @@
 -- More bytes change no answer but that the bytes were too short.
-use Rattle.std.proofs.Common.{◌≡◌, ◌≢◌, ℕ, ◌+◌, ◌*◌, ◌≤◌, ◌==◌, ◌||◌, not, Bool, true, false, cond, Result, Ok, Err, List, [], ◌∷◌, ◌++◌, length, refl, arith, ltb}
+use Rattle.std.proofs.Common.{◌≡◌, ◌≢◌, ℕ, ◌+◌, ◌*◌, ◌≤◌, ◌==◌, ◌||◌, not, Bool, true, false, cond, None, Result, Ok, Err, List, [], ◌∷◌, ◌++◌, length, refl, arith, ltb}
 use Rattle.std.proofs.lemmas.Bool.{ltb-false, le-ltb}
 use Rattle.std.proofs.lemmas.List.{length-append, take-append-le}
 use Rattle.std.specs.List.{zip, list_any}
@@ -61,7 +61,7 @@ start_stays : (bytes more : List ℕ) → Stays (start_at bytes) (start_at (byte
 unfolding start_at
 start_stays (p ∷ q ∷ r ∷ id ∷ high ∷ low ∷ bytes) more =
     either_stays (has_flags id) (flags_at id (high * 256 + low) bytes) (flags_at id (high * 256 + low) (bytes ++ more))
-    (Ok (record { id = id; len = high * 256 + low; stamps = Absent; flags = no_flags; data_length = 0 }, 6)) (flags_stay id (high * 256 + low) bytes more)
+    (Ok (record { id = id; len = high * 256 + low; stamps = Absent; flags = no_flags; data_length = 0; private_data = None }, 6)) (flags_stay id (high * 256 + low) bytes more)
 start_stays [] more = λ some. absurd (some refl)
 start_stays (p ∷ []) more = λ some. absurd (some refl)
 start_stays (p ∷ q ∷ []) more = λ some. absurd (some refl)

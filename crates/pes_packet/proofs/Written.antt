@@ -1,21 +1,24 @@
 -- A written header is one by the table of fields, and is read again.
-use Rattle.std.proofs.Common.{◌≡◌, ℕ, ◌+◌, ◌*◌, ◌/◌, ◌%◌, ◌^◌, ◌<◌, ◌≤◌, ◌==◌, ◌&&◌, ◌||◌, not, nat_le, zero, suc, ◌-◌, Bool, true, false, cond, List, [], ◌∷◌, ◌++◌, length, replicate, refl, sym, ap, ◌∙◌, arith, ◌⊎◌, inl, inr, IsTrue}
-use Rattle.std.proofs.lemmas.Bool.{eqb-true, ne_eqb, and_parts, or_from, leb-true, le-leb}
-use Rattle.std.proofs.lemmas.List.{length-append, length-replicate}
-use Rattle.bit_fields.specs.Fields.{IsBytes}
+use Rattle.std.proofs.Common.{◌≡◌, ℕ, ◌+◌, ◌*◌, ◌/◌, ◌%◌, ◌^◌, ◌<◌, ◌≤◌, ◌==◌, ◌&&◌, ◌||◌, not, nat_le, zero, suc, ◌-◌, Bool, true, false, cond, Option, Some, None, is_some, option_map, IfSome, Ok, drop, List, [], ◌∷◌, ◌++◌, length, replicate, refl, sym, ap, ◌∙◌, arith, ◌⊎◌, inl, inr, IsTrue}
+use Rattle.std.proofs.lemmas.Bool.{eqb-true, ne_eqb, and_parts, or_from, leb-true, le-leb, le-ltb}
+use Rattle.std.proofs.lemmas.List.{length-append, length-replicate, take_at, drop_at}
+use Rattle.bit_fields.specs.Fields.{IsBytes, bit, flag}
 use Rattle.bit_fields.proofs.ByteLists.{IsBytes-cons, IsBytes-nil, IsBytes-append}
 use Rattle.pes_packet.specs.StreamIds.{has_flags, is_unit_id, greatest_size, fits_packet}
 use Rattle.pes_packet.specs.Encoding.{pes_start_bytes, packet_length, stamp_bytes, on_wire, header_with, pts_header, pts_dts_header, pes_header_bytes}
 use Rattle.pes_packet.specs.HeaderMarks.{header_marks}
-use Rattle.pes_packet.specs.Marks.{flag_bits, data_length, stuffing}
+use Rattle.pes_packet.specs.Marks.{flag_bits, data_length, extension, first_sixteen, sixteen, stuffing}
+use Rattle.pes_packet.specs.PrivateData.{before_extension, private_at, private_in}
+use Rattle.pes_packet.specs.Reading.{header_at}
 use Rattle.pes_packet.specs.Syntax.{IsStamp, IsStamps, IsStart, IsFlags, IsPesHeader, stamp_flags}
-use Rattle.pes_packet.specs.Laws.{written_header, plain_header, MarksAreRead, WrittenIsRead, WrittenIsHeader, HeaderSizes, HeaderCounts, WithoutMarks}
+use Rattle.pes_packet.specs.Laws.{written_header, plain_header, HasSixteen, MarksAreRead, WrittenIsRead, WrittenIsHeader, HeaderSizes, HeaderCounts, WithoutMarks}
 use Rattle.pes_packet.specs.declared.time_stamps.Stamps.{Stamps}
 use Rattle.pes_packet.specs.declared.time_stamps.Stamps.TheVariants.{Pts, PtsDts}
 use Rattle.pes_packet.specs.declared.reading.PesHeader.{PesHeader}
 use Rattle.pes_packet.specs.declared.marks.PesFlags.{PesFlags}
 use Rattle.pes_packet.specs.declared.marks.Marks.{Marks}
-use Rattle.pes_packet.proofs.HeaderFields.{header_again, bit_most}
+use Rattle.pes_packet.proofs.HeaderFields.{flagged_by, start_again, bit_most}
+use Rattle.pes_packet.proofs.Sixteen.{has_sixteen, same_private, sixteen_size}
 
 either : (b c : Bool) → (b || c) ≡ true → (b ≡ true) ⊎ (c ≡ true)
 either true c e = inl refl
@@ -103,22 +106,21 @@ start_is_bytes id len hi hl =
     IsBytes-cons 0 (0 ∷ 1 ∷ id ∷ (len / 256) ∷ (len % 256) ∷ []) (omega arith)
     (five_bytes 0 1 id (len / 256) (len % 256) (omega arith) (omega arith) hi (omega arith) (omega arith))
 
--- a header is at the front of bytes, and each of its elements is a byte
+-- a header is at the front of bytes, and is read there
 pub record Stands (bytes : List ℕ) (header : PesHeader) (size : ℕ) : Type 0 where
   pub is : IsPesHeader bytes header size
-  pub start_is_bytes : IsBytes is.start
-  pub after_is_bytes : IsBytes is.after
+  pub read : header_at bytes ≡ Ok (header, size)
 
 -- flag bytes
-flags_stand : (second n : ℕ) (flags : PesFlags) (stamps : Stamps) → second < 256 → n < 256 → stamp_flags stamps * 64 ≡ second
-    → IsFlags ((0x80 + flag_bits flags) ∷ second ∷ n ∷ []) flags stamps n
-flags_stand second n flags stamps hs hn e = record {
+flags_stand : (second n : ℕ) (private : Bool) (flags : PesFlags) (stamps : Stamps) → n < 256 → stamp_flags stamps * 64 ≡ second → second < 255
+    → IsFlags ((0x80 + flag_bits flags) ∷ (second + bit private) ∷ n ∷ []) flags stamps n
+flags_stand second n private flags stamps hn e hs = record {
   len = refl;
   scrambling = 0;
-  parts = 0;
+  parts = bit private;
   spelled = omega (arith, e);
   scrambling_fits = omega arith;
-  parts_fit = omega arith;
+  parts_fit = omega (arith, bit_most private);
   length_fits = hn;
 }
 
@@ -126,23 +128,41 @@ flag_byte_fits : (flags : PesFlags) → 0x80 + flag_bits flags < 256
 flag_byte_fits flags =
     omega (arith, bit_most flags.priority, bit_most flags.aligned, bit_most flags.copyright, bit_most flags.original)
 
-stuffed_fits : (n : ℕ) → IsBytes (replicate n 0xFF)
-stuffed_fits zero = IsBytes-nil
-stuffed_fits (suc n) = IsBytes-cons 0xFF (replicate n 0xFF) (omega arith) (stuffed_fits n)
+-- the PES extension and the stuffing are as many bytes as are wanting
+filled_by : (long : Bool) (private : Option (List ℕ)) (n : ℕ) → n ≤ 10
+    → cond long 36 (n + cond (is_some private) 17 0)
+    ≡ n + length (extension private ++ cond long (replicate (36 - (n + cond (is_some private) 17 0)) 0xFF) [])
+filled_by true None n h = omega (arith, length-replicate {A = ℕ} (36 - (n + 0)) 0xFF)
+filled_by true (Some bytes) n h =
+    omega (arith, length-append (sixteen bytes) (replicate (36 - (n + 17)) 0xFF), length-replicate {A = ℕ} (36 - (n + 17)) 0xFF, sixteen_size bytes)
+filled_by false None n h = omega arith
+filled_by false (Some bytes) n h = omega (arith, length-append (sixteen bytes) [], sixteen_size bytes)
 
--- stuffing is bytes, and as many as are wanting
-filled_by : (b : Bool) (n : ℕ) → n ≤ 10
-    → (IsBytes (cond b (replicate (36 - n) 0xFF) [])) × (cond b 36 n ≡ n + length {A = ℕ} (cond b (replicate (36 - n) 0xFF) []))
-filled_by true n h = (stuffed_fits (36 - n), omega (arith, length-replicate {A = ℕ} (36 - n) 0xFF))
-filled_by false n h = (IsBytes-nil, omega arith)
+data_fits : (long private : Bool) (n : ℕ) → n ≤ 10 → cond long 36 (n + cond private 17 0) < 256
+data_fits true private n h = omega arith
+data_fits false true n h = omega arith
+data_fits false false n h = omega arith
 
-data_fits : (b : Bool) (n : ℕ) → n ≤ 10 → cond b 36 n < 256
-data_fits true n h = omega arith
-data_fits false n h = omega arith
+-- PES_private_data is read behind the stamps
+pub first_again : (bytes more : List ℕ) → first_sixteen (sixteen bytes ++ more) ≡ Some (sixteen bytes)
+unfolding first_sixteen
+first_again bytes more =
+    let some : 16 ≤ length (sixteen bytes ++ more) = omega (arith, length-append (sixteen bytes) more, sixteen_size bytes) in
+    rw (le-ltb (length (sixteen bytes ++ more)) 16 some, take_at (sixteen bytes) more 16 (sixteen_size bytes)) refl
+
+private_again : (second : ℕ) (private : Option (List ℕ)) (wire more : List ℕ) → flag (second + 0) 1 ≡ false → flag (second + 1) 1 ≡ true
+    → before_extension (second + 1) ≡ length wire → private_at (second + bit (is_some private)) (wire ++ (extension private ++ more)) ≡ option_map sixteen private
+unfolding private_at private_in
+private_again second None wire more unset set skips = rw unset refl
+private_again second (Some bytes) wire more unset set skips =
+    let behind : drop (before_extension (second + 1)) (wire ++ ((0x8E ∷ sixteen bytes) ++ more)) ≡ (0x8E ∷ sixteen bytes) ++ more =
+    drop_at wire ((0x8E ∷ sixteen bytes) ++ more) (before_extension (second + 1)) (sym skips) in
+    rw (set, behind) (first_again bytes more)
 
 -- a header with these stamps
 with_stands : (id size : ℕ) (marks : Marks) (second : ℕ) (stamps : Stamps) (wire rest : List ℕ) → id < 256 → has_flags id ≡ true
-    → second < 256 → stamp_flags stamps * 64 ≡ second → length wire ≤ 10 → IsStamps wire stamps → IsBytes wire
+    → second < 255 → stamp_flags stamps * 64 ≡ second → flag (second + 0) 1 ≡ false → flag (second + 1) 1 ≡ true → before_extension (second + 1) ≡ length wire
+    → length wire ≤ 10 → IsStamps wire stamps → IsBytes wire
     → Stands (header_with id size marks second wire ++ rest)
     (record {
       id = id;
@@ -150,61 +170,97 @@ with_stands : (id size : ℕ) (marks : Marks) (second : ℕ) (stamps : Stamps) (
       stamps = stamps;
       flags = marks.flags;
       data_length = data_length marks (length wire);
+      private_data = option_map sixteen marks.private_data;
     })
     (length (header_with id size marks second wire))
 unfolding header_with pes_start_bytes
-with_stands id size marks second stamps wire rest hi flagged hs announced short stand fits =
+with_stands id size marks second stamps wire rest hi flagged hs announced unset set skips short stand fits =
     let n : ℕ = length wire in
-    let filled = filled_by marks.long n short in
-    let joined : length (wire ++ stuffing marks n) ≡ data_length marks n = length-append wire (stuffing marks n) ∙ sym filled.1 in
+    let others : List ℕ = extension marks.private_data ++ stuffing marks n in
+    let flags : List ℕ = (0x80 + flag_bits marks.flags) ∷ (second + bit (is_some marks.private_data)) ∷ data_length marks n ∷ [] in
+    let start : List ℕ = pes_start_bytes id (packet_length (3 + data_length marks n + size)) in
+    let header : PesHeader = record {
+      id = id;
+      len = packet_length (3 + data_length marks n + size);
+      stamps = stamps;
+      flags = marks.flags;
+      data_length = data_length marks n;
+      private_data = option_map sixteen marks.private_data;
+    } in
+    let filled : data_length marks n ≡ n + length others = filled_by marks.long marks.private_data n short in
+    let joined : length (wire ++ others) ≡ data_length marks n = length-append wire others ∙ sym filled in
     let count : 3 + data_length marks n ≤ 3 + data_length marks n + size = omega arith in
+    let below : data_length marks n < 256 = data_fits marks.long (is_some marks.private_data) n short in
+    let counted : (header.len ≡ 0) ⊎ (length (flags ++ (wire ++ others)) ≤ header.len) =
+    elim (packet_length_counts (3 + data_length marks n) (3 + data_length marks n + size) count) [
+      | inl none ↦ inl none
+      | inr some ↦ inr (omega (arith, some, joined))
+    ] in
+    let front : IsStart start header = start_stands id (packet_length (3 + data_length marks n + size)) header hi (packet_length_fits (3 + data_length marks n + size)) refl refl in
+    let flag_bytes : IsFlags flags marks.flags stamps (data_length marks n) =
+    flags_stand second (data_length marks n) (is_some marks.private_data) marks.flags stamps below announced hs in
+    let flags_fit : IsBytes flags =
+    three_bytes (0x80 + flag_bits marks.flags) (second + bit (is_some marks.private_data)) (data_length marks n) (flag_byte_fits marks.flags)
+    (omega (arith, hs, bit_most (is_some marks.private_data))) below in
+    let private : option_map sixteen marks.private_data ≡ private_at (second + bit (is_some marks.private_data)) (wire ++ others) =
+    sym (private_again second marks.private_data wire (stuffing marks n) unset set skips) in
     record {
       is = record {
-        start = pes_start_bytes id (packet_length (3 + data_length marks n + size));
-        after = ((0x80 + flag_bits marks.flags) ∷ second ∷ data_length marks n ∷ []) ++ (wire ++ stuffing marks n);
+        start = start;
+        after = flags ++ (wire ++ others);
         rest = rest;
         is = refl;
-        size_is = length-append (pes_start_bytes id (packet_length (3 + data_length marks n + size)))
-            (((0x80 + flag_bits marks.flags) ∷ second ∷ data_length marks n ∷ []) ++ (wire ++ stuffing marks n));
-        start_stands = start_stands id (packet_length (3 + data_length marks n + size)) _ hi (packet_length_fits (3 + data_length marks n + size)) refl refl;
+        size_is = length-append start (flags ++ (wire ++ others));
+        start_stands = front;
         after_stands = rw flagged (record {
-          flags = (0x80 + flag_bits marks.flags) ∷ second ∷ data_length marks n ∷ [];
+          flags = flags;
           stamps = wire;
-          others = stuffing marks n;
+          others = others;
           is = refl;
-          flags_stand = flags_stand second (data_length marks n) marks.flags stamps hs (data_fits marks.long n short) announced;
-          data_is = filled.1;
+          flags_stand = flag_bytes;
+          data_is = filled;
           stamps_stand = stand;
-          counted = elim (packet_length_counts (3 + data_length marks n) (3 + data_length marks n + size) count) [
-            | inl none ↦ inl none
-            | inr some ↦ inr (omega (arith, some, joined))
-          ];
+          private_is = private;
+          counted = counted;
         });
       };
-      start_is_bytes = start_is_bytes id (packet_length (3 + data_length marks n + size)) hi (packet_length_fits (3 + data_length marks n + size));
-      after_is_bytes = IsBytes-append ((0x80 + flag_bits marks.flags) ∷ second ∷ data_length marks n ∷ []) (wire ++ stuffing marks n)
-          (three_bytes (0x80 + flag_bits marks.flags) second (data_length marks n) (flag_byte_fits marks.flags) hs (data_fits marks.long n short))
-          (IsBytes-append wire (stuffing marks n) fits filled.0);
+      read = start_again header start (flags ++ (wire ++ others)) rest (start_is_bytes id (packet_length (3 + data_length marks n + size)) hi (packet_length_fits (3 + data_length marks n + size)))
+          front (rw flagged (flagged_by header flags wire others rest flags_fit fits flag_bytes filled stand counted private))
+          ∙ ap (λ (k : ℕ). Ok (header, k)) (sym (length-append start (flags ++ (wire ++ others))));
     }
 
 -- a header with a PTS alone
 pts_stands : (id size : ℕ) (marks : Marks) (pts : ℕ) (rest : List ℕ) → id < 256 → has_flags id ≡ true → pts < 2 ^ 33
     → Stands (pts_header id size marks pts ++ rest)
-    (record { id = id; len = packet_length (3 + data_length marks 5 + size); stamps = Pts pts; flags = marks.flags; data_length = data_length marks 5 })
+    (record {
+      id = id;
+      len = packet_length (3 + data_length marks 5 + size);
+      stamps = Pts pts;
+      flags = marks.flags;
+      data_length = data_length marks 5;
+      private_data = option_map sixteen marks.private_data;
+    })
     (length (pts_header id size marks pts))
 unfolding pts_header stamp_bytes
 pts_stands id size marks pts rest hi flagged hp =
-    with_stands id size marks 0x80 (Pts pts) (stamp_bytes 2 pts) rest hi flagged (omega arith) refl (omega arith)
+    with_stands id size marks 0x80 (Pts pts) (stamp_bytes 2 pts) rest hi flagged (omega arith) refl refl refl refl (omega arith)
     (stamp_stands 2 pts (omega arith) hp) (stamp_is_bytes 2 pts (omega arith) hp)
 
 -- a header with a PTS and a DTS
 pts_dts_stands : (id size : ℕ) (marks : Marks) (pts dts : ℕ) (rest : List ℕ) → id < 256 → has_flags id ≡ true → pts < 2 ^ 33 → dts < 2 ^ 33
     → Stands (pts_dts_header id size marks pts dts ++ rest)
-    (record { id = id; len = packet_length (3 + data_length marks 10 + size); stamps = PtsDts pts dts; flags = marks.flags; data_length = data_length marks 10 })
+    (record {
+      id = id;
+      len = packet_length (3 + data_length marks 10 + size);
+      stamps = PtsDts pts dts;
+      flags = marks.flags;
+      data_length = data_length marks 10;
+      private_data = option_map sixteen marks.private_data;
+    })
     (length (pts_dts_header id size marks pts dts))
 unfolding pts_dts_header stamp_bytes
 pts_dts_stands id size marks pts dts rest hi flagged hp hd =
-    with_stands id size marks 0xC0 (PtsDts pts dts) (stamp_bytes 3 pts ++ stamp_bytes 1 dts) rest hi flagged (omega arith) refl (omega arith)
+    with_stands id size marks 0xC0 (PtsDts pts dts) (stamp_bytes 3 pts ++ stamp_bytes 1 dts) rest hi flagged (omega arith) refl refl refl refl (omega arith)
     (record {
       first = stamp_bytes 3 pts;
       second = stamp_bytes 1 dts;
@@ -218,8 +274,22 @@ pts_dts_stands id size marks pts dts rest hi flagged hp hd =
 header_stands : (b : Bool) (id size : ℕ) (marks : Marks) (p d : ℕ) (rest : List ℕ) → id < 256 → has_flags id ≡ true → p < 2 ^ 33 → d < 2 ^ 33
     → Stands (cond b (pts_header id size marks p) (pts_dts_header id size marks p d) ++ rest)
     (cond b
-    (record { id = id; len = packet_length (3 + data_length marks 5 + size); stamps = Pts p; flags = marks.flags; data_length = data_length marks 5 })
-    (record { id = id; len = packet_length (3 + data_length marks 10 + size); stamps = PtsDts p d; flags = marks.flags; data_length = data_length marks 10 }))
+    (record {
+      id = id;
+      len = packet_length (3 + data_length marks 5 + size);
+      stamps = Pts p;
+      flags = marks.flags;
+      data_length = data_length marks 5;
+      private_data = option_map sixteen marks.private_data;
+    })
+    (record {
+      id = id;
+      len = packet_length (3 + data_length marks 10 + size);
+      stamps = PtsDts p d;
+      flags = marks.flags;
+      data_length = data_length marks 10;
+      private_data = option_map sixteen marks.private_data;
+    }))
     (length (cond b (pts_header id size marks p) (pts_dts_header id size marks p d)))
 header_stands true id size marks p d rest hi flagged hp hd = pts_stands id size marks p rest hi flagged hp
 header_stands false id size marks p d rest hi flagged hp hd = pts_dts_stands id size marks p d rest hi flagged hp hd
@@ -240,17 +310,14 @@ pub written_is_header : WrittenIsHeader
 written_is_header id size marks pts dts rest fits = (written_stands id size marks pts dts rest fits).is
 
 pub written_is_read : WrittenIsRead
-written_is_read id size marks pts dts rest fits =
-    let s = written_stands id size marks pts dts rest fits in
-    header_again (pes_header_bytes id size marks pts dts ++ rest) (written_header id size marks pts dts) (length (pes_header_bytes id size marks pts dts))
-    s.is s.start_is_bytes s.after_is_bytes
+written_is_read id size marks pts dts rest fits = (written_stands id size marks pts dts rest fits).read
 
 -- a header has 9 bytes and its data
 with_size : (id size : ℕ) (marks : Marks) (second : ℕ) (wire : List ℕ) → length wire ≤ 10
     → length (header_with id size marks second wire) ≡ 9 + data_length marks (length wire)
 unfolding header_with pes_start_bytes
 with_size id size marks second wire short =
-    omega (arith, length-append wire (stuffing marks (length wire)), (filled_by marks.long (length wire) short).1)
+    omega (arith, length-append wire (extension marks.private_data ++ stuffing marks (length wire)), filled_by marks.long marks.private_data (length wire) short)
 
 sizes : (b : Bool) (id size : ℕ) (marks : Marks) (p d : ℕ)
     → length (cond b (pts_header id size marks p) (pts_dts_header id size marks p d)) ≡ cond b (9 + data_length marks 5) (9 + data_length marks 10)
@@ -258,28 +325,34 @@ unfolding pts_header pts_dts_header stamp_bytes
 sizes true id size marks p d = with_size id size marks 0x80 (stamp_bytes 2 p) (omega arith)
 sizes false id size marks p d = with_size id size marks 0xC0 (stamp_bytes 3 p ++ stamp_bytes 1 d) (omega arith)
 
-size_is : (b long : Bool) → cond b (9 + cond long 36 5) (9 + cond long 36 10) ≡ cond long 45 (cond b 14 19)
-size_is true true = refl
-size_is true false = refl
-size_is false true = refl
-size_is false false = refl
+size_is : (b long private : Bool) → cond b (9 + cond long 36 (5 + cond private 17 0)) (9 + cond long 36 (10 + cond private 17 0))
+    ≡ cond long 45 (cond b 14 19 + cond private 17 0)
+size_is true true private = refl
+size_is false true private = refl
+size_is true false true = refl
+size_is true false false = refl
+size_is false false true = refl
+size_is false false false = refl
 
 pub header_sizes : HeaderSizes
 unfolding pes_header_bytes
 header_sizes id size marks pts dts =
-    sizes (on_wire pts == on_wire dts) id size marks (on_wire pts) (on_wire dts) ∙ size_is (on_wire pts == on_wire dts) marks.long
+    sizes (on_wire pts == on_wire dts) id size marks (on_wire pts) (on_wire dts) ∙ size_is (on_wire pts == on_wire dts) marks.long (is_some marks.private_data)
 
-count_fits : (b long : Bool) (size : ℕ) → size + cond long 26 0 ≤ 65_522
-    → 6 + cond b (packet_length (3 + cond long 36 5 + size)) (packet_length (3 + cond long 36 10 + size)) ≡ cond long 45 (cond b 14 19) + size
-count_fits true true size h = omega (arith, packet_length_all (3 + 36 + size) (omega arith))
-count_fits true false size h = omega (arith, packet_length_all (3 + 5 + size) (omega arith))
-count_fits false true size h = omega (arith, packet_length_all (3 + 36 + size) (omega arith))
-count_fits false false size h = omega (arith, packet_length_all (3 + 10 + size) (omega arith))
+count_fits : (b long private : Bool) (size : ℕ) → size + cond long 26 (cond private 17 0) ≤ 65_522
+    → 6 + cond b (packet_length (3 + cond long 36 (5 + cond private 17 0) + size)) (packet_length (3 + cond long 36 (10 + cond private 17 0) + size))
+    ≡ cond long 45 (cond b 14 19 + cond private 17 0) + size
+count_fits true true private size h = omega (arith, packet_length_all (3 + 36 + size) (omega arith))
+count_fits false true private size h = omega (arith, packet_length_all (3 + 36 + size) (omega arith))
+count_fits true false true size h = omega (arith, packet_length_all (3 + 22 + size) (omega arith))
+count_fits true false false size h = omega (arith, packet_length_all (3 + 5 + size) (omega arith))
+count_fits false false true size h = omega (arith, packet_length_all (3 + 27 + size) (omega arith))
+count_fits false false false size h = omega (arith, packet_length_all (3 + 10 + size) (omega arith))
 
 -- without what the field takes
-less_field : (long access : Bool) (size : ℕ) → size + (cond long 26 0 + cond access 2 0) ≤ 65_522 → size + cond long 26 0 ≤ 65_522
-less_field long true size h = omega (arith, h)
-less_field long false size h = omega (arith, h)
+less_field : (header : ℕ) (access : Bool) (size : ℕ) → size + (header + cond access 2 0) ≤ 65_522 → size + header ≤ 65_522
+less_field header true size h = omega (arith, h)
+less_field header false size h = omega (arith, h)
 
 length_written : (b : Bool) (x y : PesHeader) → (cond b x y).len ≡ cond b x.len y.len
 length_written true x y = refl
@@ -294,6 +367,7 @@ header_counts id size marks pts dts h =
       stamps = Pts (on_wire pts);
       flags = marks.flags;
       data_length = data_length marks 5;
+      private_data = option_map sixteen marks.private_data;
     } in
     let with_dts : PesHeader = record {
       id = id;
@@ -301,29 +375,50 @@ header_counts id size marks pts dts h =
       stamps = PtsDts (on_wire pts) (on_wire dts);
       flags = marks.flags;
       data_length = data_length marks 10;
+      private_data = option_map sixteen marks.private_data;
     } in
     ap (λ (n : ℕ). 6 + n) (length_written (on_wire pts == on_wire dts) pts_alone with_dts)
-    ∙ count_fits (on_wire pts == on_wire dts) marks.long size (less_field marks.long marks.random_access size h)
+    ∙ count_fits (on_wire pts == on_wire dts) marks.long (is_some marks.private_data) size
+    (less_field (cond marks.long 26 (cond (is_some marks.private_data) 17 0)) marks.random_access size h)
     ∙ ap (λ (n : ℕ). n + size) (sym (header_sizes id size marks pts dts))
 
 pub without_marks : WithoutMarks
 unfolding pes_header_bytes pts_header pts_dts_header header_with pes_start_bytes stamp_bytes plain_header
 without_marks id size pts dts = refl
 
-long_again : (long : Bool) (n : ℕ) → (n == 36) ≡ false → (cond long 36 n == 36) ≡ long
-long_again true n e = refl
-long_again false n e = e
+-- 36 bytes of header data are of a long header alone
+long_of_pts : (long private : Bool) → (cond long 36 (5 + cond private 17 0) == 36) ≡ long
+long_of_pts true private = refl
+long_of_pts false true = refl
+long_of_pts false false = refl
 
-either_marks : (b : Bool) (marks : Marks) (id l m : ℕ) (s t : Stamps)
+long_of_both : (long private : Bool) → (cond long 36 (10 + cond private 17 0) == 36) ≡ long
+long_of_both true private = refl
+long_of_both false true = refl
+long_of_both false false = refl
+
+twice : (private : Option (List ℕ)) → IfSome private (λ bytes. length bytes ≡ 16) → option_map sixteen (option_map sixteen private) ≡ private
+twice private h = same_private (option_map sixteen private) (has_sixteen private) ∙ same_private private h
+
+-- marks by what a header says
+marks_by : (marks : Marks) (long : Bool) (private : Option (List ℕ)) → long ≡ marks.long → private ≡ marks.private_data
+    → ◌≡◌ {A = Marks} (record { random_access = marks.random_access; flags = marks.flags; long = long; private_data = private }) marks
+marks_by marks long private el ep = rw (el, ep) refl
+
+either_marks : (b : Bool) (marks : Marks) (id l m : ℕ) (s t : Stamps) → HasSixteen marks
     → header_marks marks.random_access (cond b
-    (record { id = id; len = l; stamps = s; flags = marks.flags; data_length = data_length marks 5 })
-    (record { id = id; len = m; stamps = t; flags = marks.flags; data_length = data_length marks 10 }))
+    (record { id = id; len = l; stamps = s; flags = marks.flags; data_length = data_length marks 5; private_data = option_map sixteen marks.private_data })
+    (record { id = id; len = m; stamps = t; flags = marks.flags; data_length = data_length marks 10; private_data = option_map sixteen marks.private_data }))
     ≡ marks
-either_marks true marks id l m s t = rw (long_again marks.long 5 refl) refl
-either_marks false marks id l m s t = rw (long_again marks.long 10 refl) refl
+either_marks true marks id l m s t h =
+    marks_by marks (data_length marks 5 == 36) (option_map sixteen (option_map sixteen marks.private_data))
+    (long_of_pts marks.long (is_some marks.private_data)) (twice marks.private_data h)
+either_marks false marks id l m s t h =
+    marks_by marks (data_length marks 10 == 36) (option_map sixteen (option_map sixteen marks.private_data))
+    (long_of_both marks.long (is_some marks.private_data)) (twice marks.private_data h)
 
 pub marks_are_read : MarksAreRead
 unfolding written_header
-marks_are_read id size marks pts dts =
+marks_are_read id size marks pts dts h =
     either_marks (on_wire pts == on_wire dts) marks id (packet_length (3 + data_length marks 5 + size)) (packet_length (3 + data_length marks 10 + size))
-    (Pts (on_wire pts)) (PtsDts (on_wire pts) (on_wire dts))
+    (Pts (on_wire pts)) (PtsDts (on_wire pts) (on_wire dts)) h

@@ -1,8 +1,9 @@
 -- What is written (ISO/IEC 13818-1, 2.4.3.6 and 2.4.3.7): the flags of a unit in the first flag byte, then 80 and a PTS, or C0,
--- a PTS and a DTS; 45 bytes where the unit asks for a long header.
-use Rattle.std.specs.Prelude.{ℕ, ◌+◌, ◌*◌, ◌/◌, ◌%◌, ◌^◌, ◌==◌, nat_le, if◌then◌else◌, List, [], ◌∷◌, ◌++◌, length}
+-- a PTS and a DTS, and one more with a PES extension of PES_private_data; 45 bytes where the unit asks for a long header.
+use Rattle.std.specs.Prelude.{ℕ, ◌+◌, ◌*◌, ◌/◌, ◌%◌, ◌^◌, ◌==◌, nat_le, if◌then◌else◌, is_some, List, [], ◌∷◌, ◌++◌, length}
+use Rattle.bit_fields.specs.Fields.{bit}
 use Rattle.pes_packet.specs.AccessUnits.{AccessUnit}
-use Rattle.pes_packet.specs.Marks.{flag_bits, data_length, stuffing}
+use Rattle.pes_packet.specs.Marks.{flag_bits, data_length, extension, extension_size, stuffing}
 use Rattle.pes_packet.specs.declared.marks.Marks.{Marks}
 
 -- the first six bytes: packet_start_code_prefix, stream_id, PES_packet_length
@@ -24,12 +25,12 @@ stamp_bytes mark stamp =
 abbrev pub on_wire : ℕ → ℕ
 on_wire stamp = stamp % 2 ^ 33
 
--- a header: its start, two flag bytes, PES_header_data_length, the bytes of the stamps and stuffing
+-- a header: its start, two flag bytes, PES_header_data_length, the bytes of the stamps, the PES extension and stuffing
 unfoldable pub header_with : ℕ → ℕ → Marks → ℕ → List ℕ → List ℕ
 header_with id size marks second stamps =
     pes_start_bytes id (packet_length (3 + data_length marks (length stamps) + size))
-    ++ ((0x80 + flag_bits marks.flags) ∷ second ∷ data_length marks (length stamps) ∷ [])
-    ++ stamps ++ stuffing marks (length stamps)
+    ++ ((0x80 + flag_bits marks.flags) ∷ (second + bit (is_some marks.private_data)) ∷ data_length marks (length stamps) ∷ [])
+    ++ (stamps ++ (extension marks.private_data ++ stuffing marks (length stamps)))
 
 -- a header with a PTS alone
 unfoldable pub pts_header : ℕ → ℕ → Marks → ℕ → List ℕ
@@ -47,7 +48,7 @@ pes_header_bytes id size marks pts dts =
 
 -- the size in bytes of the header of a unit
 abbrev pub header_size : Marks → ℕ → ℕ → ℕ
-header_size marks pts dts = if marks.long then 45 else (if on_wire pts == on_wire dts then 14 else 19)
+header_size marks pts dts = if marks.long then 45 else ((if on_wire pts == on_wire dts then 14 else 19) + extension_size marks)
 
 -- the PES packet of a unit, header and bytes, its stamps moved by the first value of the program clock reference
 unfoldable pub pes_packet_bytes : ℕ → ℕ → AccessUnit → List ℕ

@@ -1,10 +1,10 @@
 -- What the laws of this crate say.
-use Rattle.std.specs.Prelude.{◌≡◌, ◌≢◌, ℕ, ◌+◌, ◌*◌, ◌<◌, ◌≤◌, ◌==◌, if◌then◌else◌, Ok, Err, Some, List, [], ◌∷◌, ◌++◌, length, take, drop, slice_get, All, Bool, IsTrue}
+use Rattle.std.specs.Prelude.{◌≡◌, ◌≢◌, ℕ, option_map, IfSome, ◌+◌, ◌*◌, ◌<◌, ◌≤◌, ◌==◌, if◌then◌else◌, Ok, Err, Some, List, [], ◌∷◌, ◌++◌, length, take, drop, slice_get, All, Bool, IsTrue}
 use Rattle.std.specs.List.{concat}
 use Rattle.pes_packet.specs.StreamIds.{fits_packet}
 use Rattle.pes_packet.specs.Reading.{header_at}
 use Rattle.pes_packet.specs.HeaderMarks.{header_marks}
-use Rattle.pes_packet.specs.Marks.{data_length, field_size, marks_size, no_marks}
+use Rattle.pes_packet.specs.Marks.{data_length, field_size, marks_size, no_marks, sixteen}
 use Rattle.pes_packet.specs.Encoding.{packet_length, on_wire, pes_start_bytes, stamp_bytes, pes_header_bytes, header_size}
 use Rattle.pes_packet.specs.Syntax.{IsPesHeader}
 use Rattle.pes_packet.specs.Payloads.{pieces, piece_count, part_of, unit_pieces}
@@ -23,6 +23,7 @@ written_header id size marks pts dts =
       stamps = Pts (on_wire pts);
       flags = marks.flags;
       data_length = data_length marks 5;
+      private_data = option_map sixteen marks.private_data;
     }
     else record {
       id = id;
@@ -30,6 +31,7 @@ written_header id size marks pts dts =
       stamps = PtsDts (on_wire pts) (on_wire dts);
       flags = marks.flags;
       data_length = data_length marks 10;
+      private_data = option_map sixteen marks.private_data;
     }
 
 -- a written header, whatever follows it, is read again as the same value
@@ -45,11 +47,21 @@ WrittenIsHeader =
     (id size : ℕ) (marks : Marks) (pts dts : ℕ) (rest : List ℕ) → IsTrue (fits_packet id size)
     → IsPesHeader (pes_header_bytes id size marks pts dts ++ rest) (written_header id size marks pts dts) (length (pes_header_bytes id size marks pts dts))
 
+-- PES_private_data, if there is any, has 16 bytes (2.4.3.7), as it has wherever a program holds it
+abbrev pub HasSixteen : Marks → Type 0
+HasSixteen marks = IfSome marks.private_data (λ bytes. length bytes ≡ 16)
+
 -- with the marks of its unit
 abbrev pub MarksAreRead : Type 0
-MarksAreRead = (id size : ℕ) (marks : Marks) (pts dts : ℕ) → header_marks marks.random_access (written_header id size marks pts dts) ≡ marks
+MarksAreRead =
+    (id size : ℕ) (marks : Marks) (pts dts : ℕ) → HasSixteen marks
+    → header_marks marks.random_access (written_header id size marks pts dts) ≡ marks
 
--- a written header has 45 bytes where it is long, else 14, or 19 with a DTS
+-- whatever header it is
+abbrev pub MarksHaveSixteen : Type 0
+MarksHaveSixteen = (access : Bool) (header : PesHeader) → HasSixteen (header_marks access header)
+
+-- a written header has 45 bytes where it is long, else 14, or 19 with a DTS, and 17 more with PES_private_data
 abbrev pub HeaderSizes : Type 0
 HeaderSizes = (id size : ℕ) (marks : Marks) (pts dts : ℕ) → length (pes_header_bytes id size marks pts dts) ≡ header_size marks pts dts
 

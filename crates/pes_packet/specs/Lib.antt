@@ -2,6 +2,7 @@ pub mod StreamIds
 pub mod Marks
 pub mod AccessUnits
 pub mod Codes
+pub mod PrivateData
 pub mod Syntax
 pub mod Reading
 pub mod HeaderMarks

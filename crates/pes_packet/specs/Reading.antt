@@ -1,9 +1,10 @@
 -- Reading a PES header from left to right: the value, or the first refusal (ISO/IEC 13818-1, 2.4.3.6 and 2.4.3.7).
-use Rattle.std.specs.Prelude.{ℕ, ◌+◌, ◌*◌, ◌/◌, ◌%◌, ◌^◌, ◌==◌, ◌&&◌, ◌||◌, not, nat_lt, Bool, if◌then◌else◌, Result, Ok, Err, List, [], ◌∷◌, length, take, drop, slice_index}
+use Rattle.std.specs.Prelude.{ℕ, ◌+◌, ◌*◌, ◌/◌, ◌%◌, ◌^◌, ◌==◌, ◌&&◌, ◌||◌, not, nat_lt, Bool, if◌then◌else◌, None, Result, Ok, Err, List, [], ◌∷◌, length, take, drop, slice_index}
 use Rattle.std.specs.List.{zip, list_any}
 use Rattle.bit_fields.specs.Reading.{◌>>=◌}
 use Rattle.pes_packet.specs.StreamIds.{has_flags}
 use Rattle.pes_packet.specs.Marks.{no_flags, flags_in}
+use Rattle.pes_packet.specs.PrivateData.{private_at}
 use Rattle.pes_packet.specs.declared.refusal.PesError.{PesError}
 use Rattle.pes_packet.specs.declared.refusal.PesError.TheVariants.{Short, Prefix, BadFlags, Marker, Length}
 use Rattle.pes_packet.specs.declared.time_stamps.Stamps.{Stamps}
@@ -66,7 +67,7 @@ data_at id len first second size bytes =
     if is_bad_flags first second then Err BadFlags
     else (if is_too_short len size then Err Length
     else (stamps_at (second / 64) (take size bytes) >>= (λ stamps.
-    Ok (record { id = id; len = len; stamps = stamps; flags = flags_in first; data_length = size }, 9 + size))))
+    Ok (record { id = id; len = len; stamps = stamps; flags = flags_in first; data_length = size; private_data = private_at second (take size bytes) }, 9 + size))))
 
 -- two flag bytes, PES_header_data_length, and that many bytes at hand
 unfoldable pub flags_at : ℕ → ℕ → List ℕ → Result (PesHeader × ℕ) PesError
@@ -78,7 +79,7 @@ flags_at id len bytes = Err Short
 unfoldable pub start_at : List ℕ → Result (PesHeader × ℕ) PesError
 start_at (_ ∷ _ ∷ _ ∷ id ∷ high ∷ low ∷ bytes) =
     if has_flags id then flags_at id (high * 256 + low) bytes
-    else Ok (record { id = id; len = high * 256 + low; stamps = Absent; flags = no_flags; data_length = 0 }, 6)
+    else Ok (record { id = id; len = high * 256 + low; stamps = Absent; flags = no_flags; data_length = 0; private_data = None }, 6)
 start_at bytes = Err Short
 
 -- a byte at hand is not that of packet_start_code_prefix

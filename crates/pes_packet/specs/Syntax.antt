@@ -1,8 +1,9 @@
 -- The header of a PES packet as the standard's table of fields (ISO/IEC 13818-1, 2.4.3.6, table 2-21).
-use Rattle.std.specs.Prelude.{◌≡◌, ℕ, ◌+◌, ◌/◌, ◌%◌, ◌^◌, ◌<◌, ◌≤◌, ◌⊎◌, Bool, true, false, List, [], ◌∷◌, ◌++◌, length}
+use Rattle.std.specs.Prelude.{◌≡◌, ℕ, ◌+◌, ◌/◌, ◌%◌, ◌^◌, ◌<◌, ◌≤◌, ◌⊎◌, Bool, true, false, None, List, [], ◌∷◌, ◌++◌, length, slice_index}
 use Rattle.bit_fields.specs.Fields.{number, fields, bit}
 use Rattle.pes_packet.specs.StreamIds.{has_flags}
 use Rattle.pes_packet.specs.Marks.{no_flags}
+use Rattle.pes_packet.specs.PrivateData.{private_at}
 use Rattle.pes_packet.specs.declared.marks.PesFlags.{PesFlags}
 use Rattle.pes_packet.specs.declared.time_stamps.Stamps.{Stamps}
 use Rattle.pes_packet.specs.declared.time_stamps.Stamps.TheVariants.{Absent, Pts, PtsDts}
@@ -57,7 +58,7 @@ pub record IsFlags (bytes : List ℕ) (flags : PesFlags) (stamps : Stamps) (data
   pub parts_fit : parts < 2 ^ 6
   pub length_fits : data_length < 2 ^ 8
 
--- the flag bytes, the stamps, and header data that is stepped over; PES_packet_length is 0 or counts them
+-- the flag bytes, the stamps, and header data of which PES_private_data alone is read; PES_packet_length is 0 or counts them
 pub record IsFlagged (bytes : List ℕ) (header : PesHeader) : Type 0 where
   pub flags : List ℕ
   pub stamps : List ℕ
@@ -66,12 +67,13 @@ pub record IsFlagged (bytes : List ℕ) (header : PesHeader) : Type 0 where
   pub flags_stand : IsFlags flags header.flags header.stamps header.data_length
   pub data_is : header.data_length ≡ length stamps + length others
   pub stamps_stand : IsStamps stamps header.stamps
+  pub private_is : header.private_data ≡ private_at (slice_index flags 1) (stamps ++ others)
   pub counted : (header.len ≡ 0) ⊎ (length bytes ≤ header.len)
 
 -- what follows PES_packet_length, by whether the stream_id has flag bytes
 abbrev pub IsAfter : Bool → List ℕ → PesHeader → Type 0
 IsAfter true bytes header = IsFlagged bytes header
-IsAfter false bytes header = (bytes ≡ []) × (header.stamps ≡ Absent) × (header.flags ≡ no_flags) × (header.data_length ≡ 0)
+IsAfter false bytes header = (bytes ≡ []) × (header.stamps ≡ Absent) × (header.flags ≡ no_flags) × (header.data_length ≡ 0) × (header.private_data ≡ None)
 
 -- the bytes begin with this header, of this size in bytes
 pub record IsPesHeader (bytes : List ℕ) (header : PesHeader) (size : ℕ) : Type 0 where

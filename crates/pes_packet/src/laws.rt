@@ -2,7 +2,7 @@
 
 ghost use Rattle.std.specs.Prelude.{ℕ, Bool, List};
 ghost use Rattle.pes_packet.specs.Laws.{WrittenIsRead, WrittenIsHeader, MarksAreRead, HeaderSizes, HeaderCounts, WithoutMarks};
-ghost use Rattle.pes_packet.specs.Laws.{LongerIsRead, PayloadsJoin, UnitPiecesJoin};
+ghost use Rattle.pes_packet.specs.Laws.{MarksHaveSixteen, LongerIsRead, PayloadsJoin, UnitPiecesJoin};
 
 /// States that a header that `write_header` writes is read again as the same value, whatever follows it.
 pub fn written_is_read()
@@ -19,7 +19,13 @@ pub fn marks_are_read()
     ensures { MarksAreRead }
 {}
 
-/// States that a header that `write_header` writes has 45 bytes where it is long, else 14, or 19 with a DTS.
+/// States that PES_private_data of the marks that a header says has 16 bytes.
+pub fn marks_have_sixteen()
+    ensures { MarksHaveSixteen }
+{}
+
+/// States that a header that `write_header` writes has 45 bytes where it is long, else 14, or 19 with a DTS, and 17 more
+/// with PES_private_data.
 pub fn header_sizes()
     ensures { HeaderSizes }
 {}

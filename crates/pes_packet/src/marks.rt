@@ -2,7 +2,7 @@
 
 ghost use Rattle.std.specs.Prelude.{◌≡◌, ◌≤◌, ◌<◌, ◌+◌, ◌*◌, length};
 ghost use Rattle.bit_fields.specs.Fields.{bit};
-ghost use Rattle.pes_packet.specs.Marks.{flags_in, flag_bits, field_size, marks_size};
+ghost use Rattle.pes_packet.specs.Marks.{flags_in, flag_bits, field_size, extension_size, marks_size};
 
 /// The four flags in the lowest bits of the first flag byte of a PES header.
 #[derive(Clone, Copy, Debug, PartialEq, Eq)]
@@ -59,6 +59,8 @@ pub struct Marks {
     pub flags: PesFlags,
     /// Whether its PES header has 45 bytes, stuffed after the stamps, as EN 300 472 and EN 301 775 want it.
     pub long: bool,
+    /// PES_private_data of its PES header, as the AD_descriptor of an audio description (TS 101 154, annex E).
+    pub private_data: Option<[u8; 16]>,
 }
 
 impl Marks {
@@ -67,6 +69,7 @@ impl Marks {
         random_access: false,
         flags: PesFlags::NONE,
         long: false,
+        private_data: None,
     };
 
     /// Gives the number of bytes that the marks take beyond the 19 of the greatest header without them.
@@ -75,7 +78,19 @@ impl Marks {
         ensures most { result ≤ 28 }
     {
         let field = field_size(self.random_access);
-        if self.long { 26 + field } else { field }
+        if self.long {
+            26 + field
+        } else {
+            self.extension_size() + field
+        }
+    }
+
+    /// Gives the number of bytes of the PES extension, which has PES_private_data alone.
+    pub(crate) fn extension_size(self) -> usize
+        ensures value { result ≡ extension_size self }
+        ensures most { result ≤ 17 }
+    {
+        if self.private_data.is_some() { 17 } else { 0 }
     }
 }
 
@@ -87,8 +102,8 @@ pub fn field_size(random_access: bool) -> usize
     if random_access { 2 } else { 0 }
 }
 
-// A flag as a field of one bit.
-fn bit(flag: bool) -> u8
+/// Gives a flag as a field of one bit.
+pub(crate) fn bit(flag: bool) -> u8
     ensures value { result ≡ bit flag }
     ensures below { result ≤ 1 }
 {

@@ -7,6 +7,7 @@ ghost use Rattle.pes_packet.specs.HeaderMarks.{header_marks};
 ghost use Rattle.pes_packet.specs.Syntax.{IsPesHeader};
 
 use crate::marks::{Marks, PesFlags};
+use crate::private_data::{exactly, private_at};
 use crate::refusal::PesError;
 use crate::stream_ids::has_flags;
 use crate::time_stamps::{Stamps, stamps_at};
@@ -14,8 +15,8 @@ use crate::time_stamps::{Stamps, stamps_at};
 // packet_start_code_prefix.
 const START_CODE_PREFIX: [u8; 3] = [0x00, 0x00, 0x01];
 
-/// What the header of a PES packet says. The parts between the stamps and the first byte of the unit
-/// (ESCR, CRC, extension, stuffing) are stepped over.
+/// What the header of a PES packet says. Of the parts between the stamps and the first byte of the unit
+/// (ESCR, CRC, extension, stuffing) PES_private_data alone is read.
 #[derive(Clone, Copy, Debug, PartialEq, Eq)]
 pub struct PesHeader {
     /// stream_id.
@@ -28,11 +29,13 @@ pub struct PesHeader {
     pub flags: PesFlags,
     /// PES_header_data_length: the bytes of the header after it.
     pub data_length: u8,
+    /// PES_private_data.
+    pub private_data: Option<[u8; 16]>,
 }
 
 impl PesHeader {
-    /// Gives the marks that the header says: its flags, and whether it has 45 bytes; the random_access_indicator is its
-    /// packet's.
+    /// Gives the marks that the header says: its flags, whether it has 45 bytes, and PES_private_data; the
+    /// random_access_indicator is its packet's.
     pub fn marks(&self, random_access: bool) -> Marks
         ensures { result ≡ header_marks random_access self.now }
     {
@@ -40,6 +43,7 @@ impl PesHeader {
             random_access,
             flags: self.flags,
             long: self.data_length == 36,
+            private_data: exactly(self.private_data),
         }
     }
 }
@@ -98,6 +102,7 @@ fn start_at(bytes: &[u8]) -> Result<(PesHeader, usize), PesError>
                     stamps: Stamps::Absent,
                     flags: PesFlags::NONE,
                     data_length: 0,
+                    private_data: None,
                 },
                 6,
             ))
@@ -163,6 +168,7 @@ fn data_at(
         stamps,
         flags: PesFlags::from_bits(first),
         data_length: size,
+        private_data: private_at(second, data),
     };
     Ok((header, 9 + size as usize))
 }

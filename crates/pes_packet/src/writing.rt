@@ -1,13 +1,15 @@
 //! PES headers written (ISO/IEC 13818-1, 2.4.3.6, table 2-21).
 
-ghost use Rattle.std.specs.Prelude.{◌≡◌, ◌<◌, ◌≤◌, ◌+◌, ◌-◌, ◌^◌, ℕ, length, replicate, IsTrue};
+ghost use Rattle.std.specs.Prelude.{◌≡◌, ◌<◌, ◌≤◌, ◌+◌, ◌++◌, ◌^◌, ℕ, length, replicate, IsTrue};
+ghost use Rattle.arrayvec.specs.ArrayVec.{array_vec_len};
 ghost use Rattle.pes_packet.specs.StreamIds.{fits_packet};
 ghost use Rattle.pes_packet.specs.Encoding.{on_wire, pes_start_bytes, packet_length, header_with, pts_header, pts_dts_header};
 ghost use Rattle.pes_packet.specs.Encoding.{pes_header_bytes, pes_packet_bytes};
 
 use crate::access_unit::Unit;
 use crate::laws::header_sizes;
-use crate::marks::Marks;
+use crate::marks::{Marks, bit};
+use crate::private_data::extension;
 use crate::time_stamps::stamp_bytes;
 use arrayvec::ArrayVec;
 use bit_fields::append;
@@ -33,16 +35,17 @@ pub fn packet_size<A: Allocator>(base0: u64, unit: &Unit<A>) -> u64
     if unit.marks.long {
         return 45 + size;
     }
-    if on_wire(base0, unit.pts) == on_wire(base0, unit.dts) {
-        14 + size
+    let header = if on_wire(base0, unit.pts) == on_wire(base0, unit.dts) {
+        14
     } else {
-        19 + size
-    }
+        19
+    };
+    header + unit.marks.extension_size() as u64 + size
 }
 
 /// Writes the header of a PES packet: stream_id `id`, a unit of `size` bytes with its marks, its stamps in
 /// units of 90 kHz, each modulo 2^33. A DTS is written exactly where the two stamps on the wire differ, so
-/// the header has 14 bytes or 19, or 45 where the marks ask for a long one. PES_packet_length is 0 where 16
+/// the header has 14 bytes or 19, and 17 more with PES_private_data, or 45 where the marks ask for a long one. PES_packet_length is 0 where 16
 /// bits do not count the packet: if the unit and what its marks take have at most 65,522 bytes, they do.
 /// `fits_packet` tests the requirements.
 #[tactic(auto, unfolding(crate::specs::Encoding::pes_header_bytes))]
@@ -76,38 +79,48 @@ fn pes_start_bytes(id: u8, len: u16) -> [u8; 6]
     [0x00, 0x00, 0x01, id, high, low]
 }
 
-// A header with these bytes of stamps; if it is long, with the stuffing after them.
+// Stuffing bytes of any number that a header has.
+const STUFFING: [u8; 31] = [0xff; 31];
+
+// Appends stuffing bytes.
+fn append_stuffing(header: &mut ArrayVec<u8, 45>, count: usize)
+    requires room { array_vec_len header.old + count ≤ 45 }
+    requires most { count ≤ 31 }
+    ensures items { header.new.items ≡ header.old.items ++ replicate count 0xFF }
+    ensures len { array_vec_len header.new ≡ array_vec_len header.old + count }
+{
+    append(header, &STUFFING[..count]);
+}
+
+// A header with these bytes of stamps and the PES extension; if it is long, with the stuffing after them.
 #[tactic(auto, unfolding(crate::specs::Encoding::header_with))]
-fn header_with(
-    id: u8,
-    size: usize,
-    marks: Marks,
-    second: u8,
-    stamps: &[u8],
-    stuffing: &[u8],
-) -> ArrayVec<u8, 45>
+fn header_with(id: u8, size: usize, marks: Marks, second: u8, stamps: &[u8]) -> ArrayVec<u8, 45>
     requires size { size ≤ 4_000_000 }
-    requires stamps { length stamps.now ≤ 10 }
-    requires stuffing { stuffing.now ≡ replicate (36 - length stamps.now) 0xFF }
-    requires filled { length stamps.now + length stuffing.now ≡ 36 }
+    requires second { second < 255 }
+    requires lower { 5 ≤ length stamps.now }
+    requires upper { length stamps.now ≤ 10 }
     ensures { result.items ≡ header_with id size marks second stamps.now }
 {
     let first = 0x80 + marks.flags.bits();
+    let second = second + bit(marks.private_data.is_some());
+    let extension = extension(marks.private_data);
+    let data = stamps.len() + extension.len();
     let mut header = ArrayVec::new();
     if marks.long {
         append(&mut header, &pes_start_bytes(id, packet_length(39 + size)));
         append(&mut header, &[first, second, 36]);
         append(&mut header, stamps);
-        append(&mut header, stuffing);
+        append(&mut header, extension.as_slice());
+        append_stuffing(&mut header, 36 - data);
         return header;
     }
-    let data = stamps.len();
     append(
         &mut header,
         &pes_start_bytes(id, packet_length(3 + data + size)),
     );
     append(&mut header, &[first, second, data as u8]);
     append(&mut header, stamps);
+    append(&mut header, extension.as_slice());
     header
 }
 
@@ -119,7 +132,7 @@ fn pts_header(id: u8, size: usize, marks: Marks, pts: u64) -> ArrayVec<u8, 45>
     ensures { result.items ≡ pts_header id size marks pts }
 {
     let stamps = stamp_bytes(0b0010, pts);
-    header_with(id, size, marks, 0x80, &stamps, &[0xff; 31])
+    header_with(id, size, marks, 0x80, &stamps)
 }
 
 // A header with a PTS and a DTS.
@@ -133,5 +146,5 @@ fn pts_dts_header(id: u8, size: usize, marks: Marks, pts: u64, dts: u64) -> Arra
     let mut stamps = ArrayVec::<u8, 10>::new();
     append(&mut stamps, &stamp_bytes(0b0011, pts));
     append(&mut stamps, &stamp_bytes(0b0001, dts));
-    header_with(id, size, marks, 0xc0, stamps.as_slice(), &[0xff; 26])
+    header_with(id, size, marks, 0xc0, stamps.as_slice())
 }

@@ -7,3 +7,4 @@ pub mod OwnMarks
 pub mod Rounds
 pub mod SwitchGaps
 pub mod Leaks
+pub mod EmptyWalks

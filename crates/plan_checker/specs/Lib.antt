@@ -4,3 +4,4 @@ pub mod SwitchShares
 pub mod SentBytes
 pub mod Followed
 pub mod Failing
+pub mod EmptyWalks

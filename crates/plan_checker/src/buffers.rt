@@ -1,8 +1,15 @@
-//! Transport, system and multiplexing buffers never overflow (ISO/IEC 13818-1, 2.4.2.3).
+//! Transport, system and multiplexing buffers never overflow (ISO/IEC 13818-1, 2.4.2.3). The transport buffer and the
+//! multiplexing buffer of a stream that has both are empty at least once a second (2.4.2.6).
 
-ghost use Rattle.std.specs.Prelude.{◌≡◌, ◌<◌, ◌∷◌, [], length};
+ghost use Rattle.std.specs.Prelude.{◌≡◌, ◌^◌, ◌<◌, ◌≤◌, ◌∷◌, [], Some, length};
 ghost use Rattle.description.specs.Ranges.{IsStream};
+ghost use Rattle.unit_timing.specs.Buffers.{tb_size};
+ghost use Rattle.slot_plan.specs.Items.{marks};
+ghost use Rattle.slot_plan.specs.Claims.{stream_claim};
+ghost use Rattle.slot_plan.specs.declared.condition.Condition.TheVariants.{TransportBuffer};
+ghost use Rattle.slot_plan.specs.declared.slot.Item.TheVariants.{Stream};
 ghost use Rattle.slot_plan.specs.Entries.{at_most};
+ghost use Rattle.slot_plan.specs.Conditions.{buffer_entries, emptied_entries, stream_emptied_entries};
 ghost use Rattle.slot_plan.specs.Conditions.{stream_buffer_entries, transport_buffer_entries, system_buffer_entries};
 ghost use Rattle.slot_plan.specs.Conditions.{multiplexing_buffer_entries};
 ghost use Rattle.plan_checker.specs.Failing.{after, search_of};
@@ -10,12 +17,15 @@ ghost use Rattle.plan_checker.specs.Failing.{after, search_of};
 use crate::claims::{claim_of_multiplexing, claim_of_program, claim_of_stream};
 use crate::comparison::at_most;
 use crate::conditions::ItemCondition;
+use crate::empties::empty_slots;
 use crate::failure_search::FailureSearch;
 use crate::plans::ShapedPlan;
 use crate::work::{Work, work_of};
-use slot_plan::{Condition, Item, ProgramDescription, StreamDescription};
+use clock27::SLOT_SECONDS_AT_1BPS;
+use slot_plan::{Condition, Item, ProgramDescription, Slot, StreamDescription};
 use std::alloc::Allocator;
 use unit_timing::buffers::{BSYS_DRAIN, BSYS_SIZE, SYSTEM_TB_DRAIN, TB_SIZE};
+use unit_timing::multiplexing_buffer::MultiplexingBuffer;
 
 /// The three parts of a buffer: a packet finds `room`, the work after it is at most `peak`, and a period leaves at most
 /// the work `start` with which it began.
@@ -39,6 +49,31 @@ fn buffer(
     at_most(condition, 3, item, work.left as u128, start as u128, search);
 }
 
+/// Two parts more of the buffer of stream number `i`, if it has to be empty at least once a second: a period has a slot in
+/// which it becomes empty, and the longest time from one of them to the next is at most a second.
+fn emptied(
+    condition: Condition,
+    i: usize,
+    slots: &[Slot],
+    rate: u64,
+    drain: u64,
+    start: u64,
+    search: &mut FailureSearch,
+)
+    requires short { length slots.now ≤ 65536 }
+    requires small { i < 256 }
+    requires rate { rate ≤ 100000000 }
+    requires drain { drain ≤ 200000000 }
+    requires start { start < 10 ^ 18 }
+    ensures { search_of search.new ≡ after (search_of search.old)
+        (emptied_entries condition i rate drain start (marks (Stream i) slots.now)) }
+{
+    let empties = empty_slots(slots, Item::Stream(i as u8), rate, drain, start);
+    let longest = empties.gap as u128 * SLOT_SECONDS_AT_1BPS as u128;
+    at_most(condition, 4, i as u32, 1, empties.count as u128, search);
+    at_most(condition, 5, i as u32, longest, rate as u128, search);
+}
+
 /// The transport buffer of each stream.
 pub struct StreamBuffers;
 
@@ -54,21 +89,88 @@ impl<A: Allocator> ItemCondition<ShapedPlan<'_, A>> for StreamBuffers {
     }
 
     fn check_item(plans: &ShapedPlan<'_, A>, i: usize, search: &mut FailureSearch) {
-        let claim = claim_of_stream(plans.plan, i);
-        let rate = plans.description.rate().bits_per_second();
-        let drain = plans.description.streams()[i].rx as u64;
-        let item = Item::Stream(i as u8);
-        let work = work_of(plans.plan.slots(), item, rate, drain, claim.start);
-        buffer(
-            Condition::TransportBuffer,
-            i as u32,
-            work,
-            TB_SIZE * rate,
-            claim.start,
-            claim.peak,
-            search,
-        );
+        stream_buffer(plans, i, &plans.description.streams()[i], search);
     }
+}
+
+/// The transport buffer of one stream.
+fn stream_buffer<A: Allocator>(
+    plans: &ShapedPlan<'_, A>,
+    i: usize,
+    stream: &StreamDescription,
+    search: &mut FailureSearch,
+)
+    requires stream { i < length plans.now.description.now.streams }
+    requires small { i < 256 }
+    requires ranges { IsStream stream.now }
+    ensures { search_of search.new ≡ after (search_of search.old)
+        (stream_buffer_entries plans.now.description.now plans.now.plan.now i stream.now) }
+{
+    stream_overflow(plans, i, stream, search);
+    stream_emptied(plans, i, stream, search);
+}
+
+/// Whether it has room for each packet.
+fn stream_overflow<A: Allocator>(
+    plans: &ShapedPlan<'_, A>,
+    i: usize,
+    stream: &StreamDescription,
+    search: &mut FailureSearch,
+)
+    requires stream { i < length plans.now.description.now.streams }
+    requires small { i < 256 }
+    requires ranges { IsStream stream.now }
+    ensures { search_of search.new ≡ after (search_of search.old)
+        (buffer_entries TransportBuffer i plans.now.description.now.rate stream.now.rx tb_size
+        (stream_claim plans.now.plan.now i).start (stream_claim plans.now.plan.now i).peak
+        (marks (Stream i) plans.now.plan.now.slots)) }
+{
+    let claim = claim_of_stream(plans.plan, i);
+    let rate = plans.description.rate().bits_per_second();
+    let item = Item::Stream(i as u8);
+    let work = work_of(
+        plans.plan.slots(),
+        item,
+        rate,
+        stream.rx as u64,
+        claim.start,
+    );
+    buffer(
+        Condition::TransportBuffer,
+        i as u32,
+        work,
+        TB_SIZE * rate,
+        claim.start,
+        claim.peak,
+        search,
+    );
+}
+
+/// Whether it is empty at least once a second, if there is a multiplexing buffer after it.
+fn stream_emptied<A: Allocator>(
+    plans: &ShapedPlan<'_, A>,
+    i: usize,
+    stream: &StreamDescription,
+    search: &mut FailureSearch,
+)
+    requires stream { i < length plans.now.description.now.streams }
+    requires small { i < 256 }
+    requires ranges { IsStream stream.now }
+    ensures { search_of search.new ≡ after (search_of search.old) (stream_emptied_entries
+        plans.now.description.now plans.now.plan.now i stream.now stream.now.multiplexing) }
+{
+    let Some(_) = stream.multiplexing else {
+        return;
+    };
+    emptied(
+        Condition::TransportBuffer,
+        i,
+        plans.plan.slots(),
+        plans.description.rate().bits_per_second(),
+        stream.rx as u64,
+        claim_of_stream(plans.plan, i).start,
+        search,
+    );
 }
 
 /// The transport buffer of each program's system packets; programs are counted on after the streams.
@@ -158,7 +260,6 @@ impl<A: Allocator> ItemCondition<ShapedPlan<'_, A>> for MultiplexingBuffers {
 }
 
 /// The multiplexing buffer of one stream, where it has one.
-#[tactic(auto, using(crate::proofs::Leaks::leak_most, crate::proofs::Leaks::size_most))]
 fn multiplexing_buffer<A: Allocator>(
     plans: &ShapedPlan<'_, A>,
     i: usize,
@@ -174,6 +275,25 @@ fn multiplexing_buffer<A: Allocator>(
     let Some(buffered) = stream.multiplexing else {
         return;
     };
+    leaking_buffer(plans, i, stream, buffered, search);
+}
+
+/// A multiplexing buffer.
+#[tactic(auto, using(crate::proofs::Leaks::leak_most, crate::proofs::Leaks::size_most))]
+fn leaking_buffer<A: Allocator>(
+    plans: &ShapedPlan<'_, A>,
+    i: usize,
+    stream: &StreamDescription,
+    buffered: MultiplexingBuffer,
+    search: &mut FailureSearch,
+)
+    requires stream { i < length plans.now.description.now.streams }
+    requires small { i < 256 }
+    requires ranges { IsStream stream.now }
+    requires buffered { stream.now.multiplexing ≡ Some buffered }
+    ensures { search_of search.new ≡ after (search_of search.old) (multiplexing_buffer_entries
+        plans.now.description.now plans.now.plan.now i (Some buffered)) }
+{
     let claim = claim_of_multiplexing(plans.plan, i);
     let rate = plans.description.rate().bits_per_second();
     let drain = buffered.rbx as u64;
@@ -186,6 +306,16 @@ fn multiplexing_buffer<A: Allocator>(
         buffered.size as u64 * rate,
         claim.start,
         claim.peak,
+        search,
+    );
+    let slots = plans.plan.slots();
+    emptied(
+        Condition::MultiplexingBuffer,
+        i,
+        slots,
+        rate,
+        drain,
+        claim.start,
         search,
     );
 }

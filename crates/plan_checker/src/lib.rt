@@ -4,7 +4,7 @@
 //! - [`check`]: one plan, to a [`CheckedPlan`] or a [`Refusal`].
 //! - [`failing`]: every condition that one plan does not keep.
 //! - [`check_switch`]: a second plan after a checked one, to a [`CheckedSwitch`] or a [`Refusal`].
-//! - [`own_count`], [`greatest_gap`], [`spread_of`], [`work_of`]: the numbers of an item's own slots that the conditions compare, each in
+//! - [`own_count`], [`greatest_gap`], [`spread_of`], [`work_of`], [`empty_slots`]: the numbers of an item's own slots that the conditions compare, each in
 //!   one walk over a period.
 //! - [`steady_packets`], [`steady_time`], [`packets_in_row`], [`waiting_slots`], [`bytes_by_units`], [`ahead_of`],
 //!   [`left_of_unit`]: the numbers of a stream's declaration.
@@ -18,6 +18,7 @@ mod claims;
 mod comparison;
 mod condition_terms;
 mod conditions;
+mod empties;
 mod failure_search;
 mod frames;
 mod gap;
@@ -39,6 +40,7 @@ mod work;
 pub use checked_plan::CheckedPlan;
 pub use checked_switch::CheckedSwitch;
 pub use checking::{check, failing};
+pub use empties::{EmptySlots, empty_slots};
 pub use frames::{ahead_of, left_of_unit};
 pub use gap::greatest_gap;
 pub use leads::packets_in_row;

@@ -1,6 +1,7 @@
 //! A second plan after a first one: the conditions of the two together.
 
 pub mod across;
+pub mod continued;
 pub mod frames;
 pub mod leads;
 pub mod main_buffers;

@@ -23,6 +23,7 @@ use Rattle.unit_timing.specs.Plans.{StreamServed, ProgramServed}
 use Rattle.unit_timing.specs.Conditions.{IsProper, StreamClaim, ProgramClaim, rate_needed, rate_given, lead_needed, time_given, bytes_waiting, share_of, StreamConditions, ProgramConditions}
 use Rattle.unit_timing.specs.AccessUnits.{FramedConditions, framed_waiting}
 use Rattle.unit_timing.specs.VideoPlans.{LeakClaim, IsProperLeak, VideoConditions, VideoServed}
+use Rattle.unit_timing.specs.EmptyPlans.{StreamEmptied, VideoEmptied}
 use Rattle.unit_timing.proofs.PlanLemmas.{stream_law, program_law}
 use Rattle.unit_timing.proofs.AccessUnitLemmas.{framed_law}
 use Rattle.unit_timing.proofs.VideoLemmas.{video_law}
@@ -37,14 +38,17 @@ use Rattle.slot_plan.specs.Planned.{Planned}
 use Rattle.slot_plan.specs.Items.{is_own, marks}
 use Rattle.slot_plan.specs.declared.condition.Condition.TheVariants.{PcrGap, TableGap, Spread, StreamRate, TransportBuffer, StreamLead, MainBuffer, SystemBuffer, MultiplexingBuffer, ElementaryLead}
 use Rattle.slot_plan.specs.Claims.{declaration, stream_claim, program_claim, stream_share, multiplexing_claim, elementary_declaration, elementary_share}
-use Rattle.slot_plan.specs.Conditions.{entries_from, group_part, pcr_gap_entry, table_gap_entry, spread_entry, stream_rate_entry, stream_buffer_entries, transport_buffer_entries, stream_lead_entry, main_buffer_entry, frame_entry, frame_entries, system_buffer_entries, multiplexing_buffer_entries, elementary_lead_entry, elementary_lead_entries}
-use Rattle.slot_plan.specs.Schedule.{OwnedLaw}
+use Rattle.slot_plan.specs.Conditions.{buffer_entries, emptied_entries, entries_from, group_part, pcr_gap_entry, table_gap_entry, spread_entry, stream_rate_entry, stream_buffer_entries, stream_emptied_entries, transport_buffer_entries, stream_lead_entry, main_buffer_entry, frame_entry, frame_entries, system_buffer_entries, multiplexing_buffer_entries, elementary_lead_entry, elementary_lead_entries}
+use Rattle.slot_plan.specs.EmptySlots.{EmptiesEachSecond}
+use Rattle.slot_plan.specs.Schedule.{OwnedLaw, single, owned}
 use Rattle.slot_plan.specs.TableRounds.{first_packet}
 use Rattle.slot_plan.proofs.HeldConditions.{holds_both, holds_item, at_most_holds}
 use Rattle.slot_plan.proofs.ConditionLists.{Hold, ServingConditions, serves}
-use Rattle.slot_plan.proofs.ItemConditions.{holds_element, holds_count, holds_work}
+use Rattle.slot_plan.proofs.ItemConditions.{holds_element, holds_count, holds_work, holds_emptied}
 use Rattle.plan_timing.specs.Promised.{leak_of, PlanLaw}
 use Rattle.plan_timing.specs.FramesServed.{FramesServed}
+use Rattle.plan_timing.proofs.EmptyPlans.{stream_empties, video_empties}
+use Rattle.plan_timing.proofs.Waiting.{waits_law}
 
 pub length_marks : (item : Item) (slots : List Slot) → length (marks item slots) ≡ length slots
 length_marks item slots = length-map slots (is_own item)
@@ -62,6 +66,10 @@ proper d i s ranges is = let r = stream_ranges d i s ranges is in record {
   some_drain = omega (arith, r.least_rx);
   some_rows = omega (arith, rows_some s r);
 }
+
+-- it may be sent at most a second ahead
+pub lead_short : (d : Described) (i : ℕ) (s : DescribedStream) → IsInRange d → slice_get d.streams i ≡ Some s → s.lead ≤ 90000
+lead_short d i s ranges is = (stream_ranges d i s ranges is).most_lead
 
 -- ---- the slots of a stream
 
@@ -94,6 +102,15 @@ mains_hold : (d : Described) (p : Planned) (i : ℕ) (s : DescribedStream) → S
 mains_hold d p i s serves is = holds_both (main_buffer_entry d p i s ∷ []) (frame_entries d p i s s.framing)
     (holds_element (λ j t. main_buffer_entry d p j t ∷ frame_entries d p j t t.framing) d.streams i s serves.main_buffers is)
 
+-- the conditions of its transport buffer: that it has room, and that it is empty at least once a second if there is a multiplexing
+-- buffer after it
+buffers_hold : (d : Described) (p : Planned) (i : ℕ) (s : DescribedStream) → ServingConditions d p → slice_get d.streams i ≡ Some s →
+    Hold (buffer_entries TransportBuffer i d.rate s.rx tb_size (stream_claim p i).start (stream_claim p i).peak (marks (Stream i) p.slots))
+    × Hold (stream_emptied_entries d p i s s.multiplexing)
+buffers_hold d p i s serves is = let claim = stream_claim p i in
+    holds_both (buffer_entries TransportBuffer i d.rate s.rx tb_size claim.start claim.peak (marks (Stream i) p.slots)) (stream_emptied_entries d p i s s.multiplexing)
+    (holds_element (stream_buffer_entries d p) d.streams i s serves.stream_buffers is)
+
 pub stream_holds : (d : Described) (p : Planned) (i : ℕ) (s : DescribedStream) → ServingConditions d p → slice_get d.streams i ≡ Some s →
     StreamConditions d.rate (declaration s) (claim_of p i) (marks (Stream i) p.slots)
 stream_holds d p i s serves is =
@@ -109,7 +126,7 @@ stream_holds d p i s serves is =
       spread_claimed = at_most_holds Spread 0 i (spread (marks (Stream i) p.slots)) claim.spread (holds_item (λ j. spread_entry p j ∷ []) d.streams i serves.spreads lt);
       rate_serves = rw (length_marks (Stream i) p.slots) rate;
       work = holds_work TransportBuffer i d.rate s.rx tb_size claim.start claim.peak (marks (Stream i) p.slots)
-          (holds_element (stream_buffer_entries d p) d.streams i s serves.stream_buffers is);
+          (buffers_hold d p i s serves is).0;
       lead_serves = λ m some below. rw (length_marks (Stream i) p.slots) (lead m some below);
       main_fits = rw (length_marks (Stream i) p.slots) main;
     }
@@ -135,12 +152,32 @@ frames_hold d p i s f ranges serves is some = record {
   fits = λ k one below. rw (length_marks (Stream i) p.slots) (frame_holds d p i s f serves is some k one below);
 }
 
--- those of its multiplexing buffer, if it has one
+-- the conditions of its multiplexing buffer, if it has one: that it has room, and that it is empty at least once a second
+leak_buffers_hold : (d : Described) (p : Planned) (i : ℕ) (s : DescribedStream) (b : LeakingBuffer) → ServingConditions d p → slice_get d.streams i ≡ Some s →
+    s.multiplexing ≡ Some b →
+    Hold (buffer_entries MultiplexingBuffer i d.rate b.rbx b.size (multiplexing_claim p i).start (multiplexing_claim p i).peak (marks (Stream i) p.slots))
+    × Hold (emptied_entries MultiplexingBuffer i d.rate b.rbx (multiplexing_claim p i).start (marks (Stream i) p.slots))
+leak_buffers_hold d p i s b serves is some = let claim = multiplexing_claim p i in
+    holds_both (buffer_entries MultiplexingBuffer i d.rate b.rbx b.size claim.start claim.peak (marks (Stream i) p.slots))
+    (emptied_entries MultiplexingBuffer i d.rate b.rbx claim.start (marks (Stream i) p.slots))
+    (rw some at (holds_element (λ j t. multiplexing_buffer_entries d p j t.multiplexing) d.streams i s serves.multiplexing_buffers is))
+
 pub leak_holds : (d : Described) (p : Planned) (i : ℕ) (s : DescribedStream) (b : LeakingBuffer) → ServingConditions d p → slice_get d.streams i ≡ Some s →
     s.multiplexing ≡ Some b → HoldsWork d.rate b.rbx b.size (multiplexing_claim p i).start (multiplexing_claim p i).peak (marks (Stream i) p.slots)
 leak_holds d p i s b serves is some = let claim = multiplexing_claim p i in
     holds_work MultiplexingBuffer i d.rate b.rbx b.size claim.start claim.peak (marks (Stream i) p.slots)
-    (rw some at (holds_element (λ j t. multiplexing_buffer_entries d p j t.multiplexing) d.streams i s serves.multiplexing_buffers is))
+    (leak_buffers_hold d p i s b serves is some).0
+
+-- both buffers are empty at least once a second
+pub emptied_holds : (d : Described) (p : Planned) (i : ℕ) (s : DescribedStream) (b : LeakingBuffer) → ServingConditions d p → slice_get d.streams i ≡ Some s →
+    s.multiplexing ≡ Some b → EmptiesEachSecond d.rate s.rx (stream_claim p i).start (marks (Stream i) p.slots)
+emptied_holds d p i s b serves is some =
+    holds_emptied TransportBuffer i d.rate s.rx (stream_claim p i).start (marks (Stream i) p.slots) (rw some at (buffers_hold d p i s serves is).1)
+
+pub leak_emptied_holds : (d : Described) (p : Planned) (i : ℕ) (s : DescribedStream) (b : LeakingBuffer) → ServingConditions d p → slice_get d.streams i ≡ Some s →
+    s.multiplexing ≡ Some b → EmptiesEachSecond d.rate b.rbx (multiplexing_claim p i).start (marks (Stream i) p.slots)
+leak_emptied_holds d p i s b serves is some =
+    holds_emptied MultiplexingBuffer i d.rate b.rbx (multiplexing_claim p i).start (marks (Stream i) p.slots) (leak_buffers_hold d p i s b serves is some).1
 
 -- and those of its elementary stream buffer
 pub elementary_holds : (d : Described) (p : Planned) (i : ℕ) (s : DescribedStream) (b : LeakingBuffer) → ServingConditions d p → slice_get d.streams i ≡ Some s →
@@ -218,6 +255,15 @@ plan_law law d p ranges serving =
           subst (λ (o : ℕ → Bool). VideoServed o d.rate (declaration s) (leak_of b) units) (sym (law.alone p.slots (Stream i)))
           (video_law d.rate (declaration s) (leak_of b) (claim_of p i) (leak_claim_of p i) (marks (Stream i) p.slots) units
           (proper d i s ranges is) (proper_leak d i s b ranges is some) (video_holds d p i s b k is some) keeps);
+      emptied = λ i s b units is some. (
+        subst (λ (o : ℕ → Bool). StreamEmptied o d.rate (declaration s) units) (sym (law.alone p.slots (Stream i)))
+            (stream_empties d.rate (declaration s) (claim_of p i) (marks (Stream i) p.slots) units (proper d i s ranges is) (stream_holds d p i s k is)
+            (emptied_holds d p i s b k is some)),
+        subst (λ (o : ℕ → Bool). VideoEmptied o d.rate (declaration s) (leak_of b) units) (sym (law.alone p.slots (Stream i)))
+            (video_empties d.rate (declaration s) (leak_of b) (claim_of p i) (leak_claim_of p i) (marks (Stream i) p.slots) units
+            (proper d i s ranges is) (proper_leak d i s b ranges is some) (video_holds d p i s b k is some) (leak_emptied_holds d p i s b k is some)),
+      );
+      waits = λ i s units n is. waits_law (owned (single p.slots) (Stream i)) d.rate s.lead s.rx n units (lead_short d i s ranges is);
       frames = λ i s f packets is some cut keeps.
           subst (λ (o : ℕ → Bool). FramesServed o d.rate (declaration s) f packets) (sym (law.alone p.slots (Stream i)))
           (λ n x left late. framed_law.one_plan d.rate (declaration s) f (claim_of p i) (marks (Stream i) p.slots) packets n x left

@@ -1,2 +1,3 @@
 pub mod FramesServed
+pub mod Waits
 pub mod Promised

@@ -2,11 +2,17 @@
 use Rattle.std.specs.Prelude.{ℕ, zero, suc, ◌+◌, ◌*◌, ◌<◌, Bool, List, [], ◌∷◌, Some, slice_get}
 use Rattle.std.proofs.Common.{◌≡◌, arith}
 use Rattle.std.proofs.lemmas.Option.{get_or_from_slice_get, slice_get_within}
+use Rattle.clock27.specs.Units.{slot_seconds_at_1bps}
+use Rattle.own_slots.specs.Period.{per_period, position, back}
+use Rattle.own_slots.specs.Gaps.{gap}
 use Rattle.own_slots.specs.Work.{HoldsWork, most_before, most_after, work_left}
 use Rattle.slot_plan.specs.declared.condition.Condition.{Condition}
 use Rattle.slot_plan.specs.Numbered.{numbered}
+use Rattle.slot_plan.specs.EmptySlots.{empty_slots, EmptiesEachSecond, EmptiesAcross}
 use Rattle.slot_plan.specs.Entries.{Entry, at_most}
-use Rattle.slot_plan.specs.Conditions.{buffer_entries, entries_from}
+use Rattle.slot_plan.specs.declared.condition.Condition.TheVariants.{WorkSwitch}
+use Rattle.slot_plan.specs.Conditions.{buffer_entries, emptied_entries, entries_from}
+use Rattle.slot_plan.specs.SwitchConditions.{emptied_switch_entry}
 use Rattle.slot_plan.proofs.HeldConditions.{holds_both, holds_at, at_most_holds}
 use Rattle.slot_plan.proofs.ConditionLists.{Hold}
 
@@ -40,3 +46,23 @@ holds_work condition item rate drain room start peak marks hold =
       peaks = at_most_holds condition 2 item (most_after rate drain start marks) peak two.0;
       carries = at_most_holds condition 3 item (work_left rate drain start marks) start two.1;
     }
+
+-- two parts more of one that has to be empty at least once a second
+pub holds_emptied : (condition : Condition) (item rate drain start : ℕ) (marks : List Bool) → Hold (emptied_entries condition item rate drain start marks) →
+    EmptiesEachSecond rate drain start marks
+holds_emptied condition item rate drain start marks hold =
+    let some = at_most condition 4 item 1 (per_period (empty_slots rate drain start marks)) in
+    let often = at_most condition 5 item (gap (empty_slots rate drain start marks) 1 * slot_seconds_at_1bps) rate in
+    let both = holds_both (some ∷ []) (often ∷ []) hold in
+    record {
+      some = at_most_holds condition 4 item 1 (per_period (empty_slots rate drain start marks)) both.0;
+      often = at_most_holds condition 5 item (gap (empty_slots rate drain start marks) 1 * slot_seconds_at_1bps) rate both.1;
+    }
+
+-- and of two plans in turn
+pub holds_emptied_switch : (item rate drain start : ℕ) (first : List Bool) (next_start : ℕ) (second : List Bool) →
+    Hold (emptied_switch_entry item rate drain start first next_start second ∷ []) → EmptiesAcross rate drain start first next_start second
+holds_emptied_switch item rate drain start first next_start second hold = record {
+  often = at_most_holds WorkSwitch 1 item
+      ((position (empty_slots rate drain next_start second) 0 + back (empty_slots rate drain start first) 1) * slot_seconds_at_1bps) rate hold;
+}

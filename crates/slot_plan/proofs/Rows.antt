@@ -7,6 +7,7 @@ use Rattle.slot_plan.specs.declared.slot.Slot.{Slot}
 use Rattle.slot_plan.specs.declared.slot.Slot.TheVariants.{Stream, Pcr, Table, Null}
 use Rattle.slot_plan.specs.declared.condition.Condition.TheVariants.{Shape, PcrGap, Spread, StreamRate, TransportBuffer, StreamLead, MainBuffer, SystemBuffer, MultiplexingBuffer, ElementaryLead, LeadSwitch, MainSwitch, ElementarySwitch}
 use Rattle.slot_plan.specs.Planned.{Planned, Certified}
+use Rattle.slot_plan.specs.EmptySlots.{empty_slots}
 use Rattle.slot_plan.specs.Entries.{Entry, at_most, equal_counts, first_failing}
 use Rattle.slot_plan.specs.Conditions.{entries}
 use Rattle.slot_plan.specs.SwitchConditions.{switch_entries}
@@ -16,11 +17,11 @@ use Rattle.slot_plan.proofs.BaseService.{base, base_stream, base_plan, base_slot
 
 -- the first condition that fails
 answer : Described → Planned → Option Entry
-unfolding places greatest work_at
+unfolding places greatest work_at empty_slots
 answer d p = first_failing (entries d p)
 
 switch_answer : Described → Planned → Planned → Option Entry
-unfolding places greatest work_at
+unfolding places greatest work_at empty_slots
 switch_answer d p q = first_failing (switch_entries d p q)
 
 with_stream : DescribedStream → Described
@@ -185,15 +186,6 @@ no_room_in_turn : answer (framed 655) base_plan ≡ Some (at_most MainBuffer 1 0
 unfolding answer framed with_stream
 no_room_in_turn = refl
 
--- across a switch the whole next unit may have come
-removed_across : switch_answer (framed 883) base_plan base_plan ≡ None
-unfolding switch_answer framed with_stream
-removed_across = refl
-
-no_room_across : switch_answer (framed 882) base_plan base_plan ≡ Some (at_most MainSwitch 1 0 883 882)
-unfolding switch_answer framed with_stream
-no_room_across = refl
-
 -- each slot one place later, the last one first
 turned : Planned
 turned = with_slots (drop 119 base_slots ++ take 119 base_slots)
@@ -226,3 +218,25 @@ leak_to_turned : switch_answer (leaking 1756 188) (claiming 0 282752000 base_slo
     ≡ Some (at_most ElementarySwitch 0 0 2377029888000000000 2376921600000000000)
 unfolding switch_answer leaking with_stream claiming
 leak_to_turned = refl
+
+-- across a switch the whole next unit may have come
+removed_across : switch_answer (framed 883) turned base_plan ≡ None
+unfolding switch_answer framed turned with_slots with_stream
+removed_across = refl
+
+no_room_across : switch_answer (framed 882) turned base_plan ≡ Some (at_most MainSwitch 1 0 883 882)
+unfolding switch_answer framed turned with_slots with_stream
+no_room_across = refl
+
+-- but not if the stream's slots continue
+after_itself : switch_answer (framed 656) base_plan base_plan ≡ None
+unfolding switch_answer framed with_stream
+after_itself = refl
+
+-- a multiplexing buffer to which packets come as fast as it leaks is never empty
+leaking_slowly : Described
+leaking_slowly = with_stream (record base_stream { lead = 2700; multiplexing = Some (record { rbx = 376000; size = 235 }) })
+
+never_empty : answer leaking_slowly (claiming 70688000 282752000 base_slots) ≡ Some (at_most MultiplexingBuffer 4 0 1 0)
+unfolding answer leaking_slowly with_stream claiming
+never_empty = refl

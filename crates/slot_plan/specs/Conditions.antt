@@ -1,7 +1,7 @@
 -- The conditions under which a plan serves a service description: each compares two whole numbers. The first, code 1, is
 -- the shape of the plan; the others are asked only where it holds. Rates are in bits a second, a slot is 188 bytes.
 use Rattle.std.specs.Prelude.{◌≡◌, ℕ, zero, suc, ◌+◌, ◌-◌, ◌*◌, ◌==◌, Bool, None, List, [], ◌∷◌, ◌++◌, Option, Some, length, is_none, if◌then◌else◌}
-use Rattle.clock27.specs.Units.{slot_ms_at_1bps}
+use Rattle.clock27.specs.Units.{slot_ms_at_1bps, slot_seconds_at_1bps}
 use Rattle.own_slots.specs.Period.{per_period}
 use Rattle.own_slots.specs.Gaps.{gap}
 use Rattle.own_slots.specs.Spread.{spread}
@@ -22,6 +22,7 @@ use Rattle.slot_plan.specs.declared.condition.Condition.{Condition}
 use Rattle.slot_plan.specs.declared.condition.Condition.TheVariants.{Shape, PcrGap, TableGap, Spread, StreamRate, TransportBuffer, StreamLead, MainBuffer, SystemBuffer, MultiplexingBuffer, ElementaryLead}
 use Rattle.slot_plan.specs.Numbered.{numbered}
 use Rattle.slot_plan.specs.Planned.{Planned}
+use Rattle.slot_plan.specs.EmptySlots.{empty_slots}
 use Rattle.slot_plan.specs.Items.{marks}
 use Rattle.slot_plan.specs.Claims.{declaration, stream_claim, program_claim, stream_share, drained_declaration, multiplexing_claim, elementary_share}
 use Rattle.slot_plan.specs.Entries.{Entry, at_most, equal_counts, first_failing}
@@ -93,10 +94,24 @@ buffer_entries condition item rate drain room start peak own =
     ∷ at_most condition 2 item (most_after rate drain start own) peak
     ∷ at_most condition 3 item (work_left rate drain start own) start ∷ []
 
+-- two parts more of a buffer that has to be empty at least once a second (ISO/IEC 13818-1, 2.4.2.6): a period has a slot in
+-- which it becomes empty, and the longest time from one of them to the next, round the period's end, is at most a second
+abbrev pub emptied_entries : Condition → ℕ → ℕ → ℕ → ℕ → List Bool → List Entry
+emptied_entries condition item rate drain start own = let empties = empty_slots rate drain start own in
+    at_most condition 4 item 1 (per_period empties)
+    ∷ at_most condition 5 item (gap empties 1 * slot_seconds_at_1bps) rate ∷ []
+
+-- code 6, parts 4 and 5: the transport buffer of a stream, if there is a multiplexing buffer after it
+abbrev pub stream_emptied_entries : Described → Planned → ℕ → DescribedStream → Option LeakingBuffer → List Entry
+stream_emptied_entries d p i s None = []
+stream_emptied_entries d p i s (Some b) =
+    emptied_entries TransportBuffer i d.rate s.rx (stream_claim p i).start (marks (StreamItem i) p.slots)
+
 -- code 6: the transport buffer of a stream, of 512 bytes (ISO/IEC 13818-1, 2.4.2.3)
 abbrev pub stream_buffer_entries : Described → Planned → ℕ → DescribedStream → List Entry
 stream_buffer_entries d p i s = let claim = stream_claim p i in
     buffer_entries TransportBuffer i d.rate s.rx tb_size claim.start claim.peak (marks (StreamItem i) p.slots)
+    ++ stream_emptied_entries d p i s s.multiplexing
 
 -- code 6: the transport buffer of a program's system packets, drained at 1,000,000 bits a second
 abbrev pub transport_buffer_entries : Described → Planned → ℕ → List Entry
@@ -141,11 +156,13 @@ abbrev pub system_buffer_entries : Described → Planned → ℕ → List Entry
 system_buffer_entries d p i = let claim = program_claim p i in
     buffer_entries SystemBuffer i d.rate bsys_drain bsys_size claim.system_start claim.system_peak (marks (System i) p.slots)
 
--- code 10: the multiplexing buffer of a stream of video, if it has one, with its leak (ISO/IEC 13818-1, 2.4.2.3)
+-- code 10: the multiplexing buffer of a stream of video, if it has one, with its leak (ISO/IEC 13818-1, 2.4.2.3). It has to be
+-- empty at least once a second too
 abbrev pub multiplexing_buffer_entries : Described → Planned → ℕ → Option LeakingBuffer → List Entry
 multiplexing_buffer_entries d p i None = []
 multiplexing_buffer_entries d p i (Some b) = let claim = multiplexing_claim p i in
     buffer_entries MultiplexingBuffer i d.rate b.rbx b.size claim.start claim.peak (marks (StreamItem i) p.slots)
+    ++ emptied_entries MultiplexingBuffer i d.rate b.rbx claim.start (marks (StreamItem i) p.slots)
 
 -- code 11: the last of m units in a row has left the multiplexing buffer, and is in the elementary stream buffer, by its
 -- decoding time

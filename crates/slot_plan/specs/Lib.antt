@@ -9,6 +9,7 @@ pub mod Readers
 pub mod ReadResults
 pub mod Entries
 pub mod Claims
+pub mod EmptySlots
 pub mod Conditions
 pub mod Shape
 pub mod SwitchConditions

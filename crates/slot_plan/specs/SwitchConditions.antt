@@ -1,7 +1,9 @@
 -- The conditions under which a plan may be followed, at the end of one of its periods, by a second plan of the same
 -- description.
-use Rattle.std.specs.Prelude.{◌≡◌, ℕ, suc, ◌+◌, ◌-◌, ◌*◌, Bool, List, [], ◌∷◌, ◌++◌, length, is_none, Option, Some, None, if◌then◌else◌}
-use Rattle.clock27.specs.Units.{slot_ms_at_1bps}
+use Rattle.std.specs.Prelude.{◌≡◌, ℕ, suc, ◌+◌, ◌-◌, ◌*◌, ◌==◌, ◌&&◌, ◌||◌, Bool, List, [], ◌∷◌, ◌++◌, length, is_none, is_some, Option, Some, None, if◌then◌else◌}
+use Rattle.std.specs.Bool.{beq}
+use Rattle.std.specs.List.{list_any, list_all, zip}
+use Rattle.clock27.specs.Units.{slot_ms_at_1bps, slot_seconds_at_1bps}
 use Rattle.own_slots.specs.Period.{position, back}
 use Rattle.own_slots.specs.Extremes.{greatest}
 use Rattle.own_slots.specs.Work.{work_left}
@@ -14,12 +16,15 @@ use Rattle.unit_timing.specs.Conditions.{Share, lead_across, time_given, bytes_a
 use Rattle.unit_timing.specs.AccessUnits.{framed_across}
 use Rattle.description.specs.Described.{Described, DescribedProgram, DescribedStream}
 use Rattle.description.specs.Tables.{table_kinds, table_limit, round_packets}
+use Rattle.slot_plan.specs.declared.slot.Item.{Item}
+use Rattle.slot_plan.specs.declared.slot.Slot.{Slot}
 use Rattle.slot_plan.specs.declared.slot.Item.TheVariants.{Stream as StreamItem, Pcr as PcrItem, Table as TableItem, System}
 use Rattle.slot_plan.specs.declared.condition.Condition.{Condition}
 use Rattle.slot_plan.specs.declared.condition.Condition.TheVariants.{PcrSwitch, TableSwitch, WorkSwitch, LeadSwitch, MainSwitch, ElementarySwitch}
 use Rattle.slot_plan.specs.Numbered.{numbered}
 use Rattle.slot_plan.specs.Planned.{Planned}
-use Rattle.slot_plan.specs.Items.{marks}
+use Rattle.slot_plan.specs.EmptySlots.{empty_slots}
+use Rattle.slot_plan.specs.Items.{is_own, marks}
 use Rattle.slot_plan.specs.Entries.{Entry, at_most, first_failing}
 use Rattle.slot_plan.specs.Claims.{declaration, stream_claim, program_claim, stream_share, drained_declaration, multiplexing_claim, elementary_share}
 use Rattle.slot_plan.specs.Conditions.{group_part, entries_from, entries}
@@ -43,9 +48,25 @@ table_switch_entry d first second t =
 abbrev pub work_switch_entry : ℕ → ℕ → ℕ → ℕ → List Bool → ℕ → Entry
 work_switch_entry item rate drain start own next_start = at_most WorkSwitch 0 item (work_left rate drain start own) next_start
 
+-- code 14, part 1: a buffer that has to be empty at least once a second becomes empty in a slot of the second plan that comes
+-- within a second of the last such slot of the first
+abbrev pub emptied_switch_entry : ℕ → ℕ → ℕ → ℕ → List Bool → ℕ → List Bool → Entry
+emptied_switch_entry item rate drain start own next_start next =
+    at_most WorkSwitch 1 item ((position (empty_slots rate drain next_start next) 0 + back (empty_slots rate drain start own) 1) * slot_seconds_at_1bps) rate
+
 abbrev pub stream_work_entry : Described → Planned → Planned → ℕ → DescribedStream → Entry
 stream_work_entry d first second i s =
     work_switch_entry i d.rate s.rx (stream_claim first i).start (marks (StreamItem i) first.slots) (stream_claim second i).start
+
+abbrev pub stream_emptied_switch_entries : Described → Planned → Planned → ℕ → DescribedStream → Option LeakingBuffer → List Entry
+stream_emptied_switch_entries d first second i s None = []
+stream_emptied_switch_entries d first second i s (Some b) =
+    emptied_switch_entry i d.rate s.rx (stream_claim first i).start (marks (StreamItem i) first.slots)
+    (stream_claim second i).start (marks (StreamItem i) second.slots) ∷ []
+
+-- both parts of the transport buffer of a stream
+abbrev pub stream_work_entries : Described → Planned → Planned → ℕ → DescribedStream → List Entry
+stream_work_entries d first second i s = stream_work_entry d first second i s ∷ stream_emptied_switch_entries d first second i s s.multiplexing
 
 abbrev pub transport_work_entry : Described → Planned → Planned → ℕ → Entry
 transport_work_entry d first second i = work_switch_entry (length d.streams + i) d.rate system_tb_drain
@@ -57,9 +78,10 @@ system_work_entry d first second i = work_switch_entry (length d.streams + lengt
 
 abbrev pub multiplexing_work_entries : Described → Planned → Planned → ℕ → Option LeakingBuffer → List Entry
 multiplexing_work_entries d first second i None = []
-multiplexing_work_entries d first second i (Some b) =
-    work_switch_entry (length d.streams + 2 * length d.programs + i) d.rate b.rbx (multiplexing_claim first i).start (marks (StreamItem i) first.slots)
-    (multiplexing_claim second i).start ∷ []
+multiplexing_work_entries d first second i (Some b) = let item = length d.streams + 2 * length d.programs + i in
+    work_switch_entry item d.rate b.rbx (multiplexing_claim first i).start (marks (StreamItem i) first.slots) (multiplexing_claim second i).start
+    ∷ emptied_switch_entry item d.rate b.rbx (multiplexing_claim first i).start (marks (StreamItem i) first.slots)
+    (multiplexing_claim second i).start (marks (StreamItem i) second.slots) ∷ []
 
 -- the last of m units in a row, sent across the switch, has left a buffer with that drain by its decoding time; late is by
 -- how many slots the own slots of the second plan come later
@@ -98,6 +120,24 @@ abbrev pub elementary_switch_entries : Described → Planned → Planned → ℕ
 elementary_switch_entries d first second i s None = []
 elementary_switch_entries d first second i s (Some b) = entries_from (elementary_switch_entry d first second i s b) 1 (allowance_rows s.allowance)
 
+-- ---- streams whose own slots continue
+
+-- an item owns the same slots of both periods
+abbrev pub owns_same : Item → List Slot → List Slot → Bool
+owns_same item first second = (length first == length second) && list_all (λ p. beq (is_own item p.0) (is_own item p.1)) (zip first second)
+
+-- some stream declares its decoder as ISO/IEC 13818-1, 2.4.2.3 has it: a multiplexing buffer, or access units that leave one by one
+abbrev pub is_finer : Described → Bool
+is_finer d = list_any (λ s. is_some s.multiplexing || is_some s.framing) d.streams
+
+-- a stream of such a description owns the same slots in both plans: over the switch they continue as over the end of a period
+abbrev pub continues : Described → Planned → Planned → ℕ → Bool
+continues d first second i = is_finer d && owns_same (StreamItem i) first.slots second.slots
+
+-- what is asked of stream number i if its own slots change
+abbrev pub if_changed : Described → Planned → Planned → ℕ → List Entry → List Entry
+if_changed d first second i es = if continues d first second i then [] else es
+
 -- each code for all its items, in their order
 abbrev pub pcr_switches : Described → Planned → Planned → List Entry
 pcr_switches d first second = numbered (λ i program. pcr_switch_entry d first second i program ∷ []) 0 d.programs
@@ -106,7 +146,7 @@ abbrev pub table_switches : Described → Planned → Planned → List Entry
 table_switches d first second = numbered (λ t _. table_switch_entry d first second t ∷ []) 0 (table_kinds d)
 
 abbrev pub stream_works : Described → Planned → Planned → List Entry
-stream_works d first second = numbered (λ i s. stream_work_entry d first second i s ∷ []) 0 d.streams
+stream_works d first second = numbered (λ i s. stream_work_entries d first second i s) 0 d.streams
 
 abbrev pub transport_works : Described → Planned → Planned → List Entry
 transport_works d first second = numbered (λ i _. transport_work_entry d first second i ∷ []) 0 d.programs
@@ -118,13 +158,16 @@ abbrev pub multiplexing_works : Described → Planned → Planned → List Entry
 multiplexing_works d first second = numbered (λ i s. multiplexing_work_entries d first second i s.multiplexing) 0 d.streams
 
 abbrev pub lead_switches : Described → Planned → Planned → List Entry
-lead_switches d first second = numbered (λ i s. entries_from (lead_switch_entry d first second i s) 1 (allowance_rows s.allowance)) 0 d.streams
+lead_switches d first second =
+    numbered (λ i s. if_changed d first second i (entries_from (lead_switch_entry d first second i s) 1 (allowance_rows s.allowance))) 0 d.streams
 
 abbrev pub main_switches : Described → Planned → Planned → List Entry
-main_switches d first second = numbered (λ i s. main_switch_entry d first second i s ∷ frame_switch_entries d first second i s s.framing) 0 d.streams
+main_switches d first second =
+    numbered (λ i s. if_changed d first second i (main_switch_entry d first second i s ∷ frame_switch_entries d first second i s s.framing)) 0 d.streams
 
 abbrev pub elementary_switches : Described → Planned → Planned → List Entry
-elementary_switches d first second = numbered (λ i s. elementary_switch_entries d first second i s s.multiplexing) 0 d.streams
+elementary_switches d first second =
+    numbered (λ i s. if_changed d first second i (elementary_switch_entries d first second i s s.multiplexing)) 0 d.streams
 
 -- codes 12 to 17, by code, then item, then part
 abbrev pub joint_entries : Described → Planned → Planned → List Entry

@@ -3,3 +3,4 @@ pub mod RbspBytes
 pub mod Elements
 pub mod ScalingLists
 mod FrameWalks
+mod FrameParts

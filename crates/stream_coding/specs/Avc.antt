@@ -27,6 +27,16 @@ unfoldable pub profile : List ℕ → ℕ
 profile [] = 0
 profile (p ∷ rest) = p
 
+-- cpbBrNalFactor of a profile_idc, by which MaxBR and MaxCPB are bits a second and bits of NAL units (A.3.1, A.3.3, table A-2; annexes
+-- G, H and I): of High and the profiles that extend it, of High 10, of High 4:2:2, High 4:4:4 Predictive and CAVLC 4:4:4 Intra, with
+-- those of intra pictures alone; of Baseline, Main, Extended, and if the profile is not known
+unfoldable pub cpb_br_nal_factor : ℕ → ℕ
+cpb_br_nal_factor p =
+    if p == 100 || p == 83 || p == 86 || p == 118 || p == 128 || p == 138 || p == 139 || p == 134 || p == 135 then 1_500
+    else (if p == 110 then 3_600
+    else (if p == 122 || p == 244 || p == 44 then 4_800
+    else 1_200))
+
 -- 2. The sequence parameter set up to its VUI parameters (7.3.2.1.1)
 
 -- the profiles whose sets have chroma_format_idc
@@ -160,5 +170,6 @@ cpb_size bytes = vui_place bytes >>= hrd_place bytes >>= hrd_cpb_size bytes
 unfoldable pub avc_sequence : List ℕ → AvcSequence
 avc_sequence unit = record {
   level = level (bytes_of AvcParameters unit);
+  cpb_br_nal_factor = cpb_br_nal_factor (profile (bytes_of AvcParameters unit));
   cpb_size = unwrap_or (cpb_size (bytes_of AvcParameters unit)) 0;
 }

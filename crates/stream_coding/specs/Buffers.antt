@@ -1,10 +1,11 @@
 -- The buffers that a decoder has for a stream (ISO/IEC 13818-1, 2.4.2.3): the rate out of its transport buffer in bits a second, and
 -- its main buffer in bytes, which of video is the elementary stream buffer, behind a multiplexing buffer.
-use Rattle.std.specs.Prelude.{ℕ, ◌+◌, ◌/◌, ◌==◌, nat_le, nat_lt, min, if◌then◌else◌, List, find, Option, option_map}
+use Rattle.std.specs.Prelude.{ℕ, ◌+◌, ◌*◌, ◌/◌, ◌==◌, nat_le, nat_lt, min, max, if◌then◌else◌, List, find, Option, option_map}
 use Rattle.std.specs.Option.{option_map_or}
 use Rattle.unit_timing.specs.declared.multiplexing_buffer.MultiplexingBuffer.{MultiplexingBuffer}
 use Rattle.stream_coding.specs.declared.coding.Coding.{Coding}
-use Rattle.stream_coding.specs.declared.coding.Coding.TheVariants.{Mpeg, Avc, Hevc, Audio, Aac, Ac3, Subtitles, Teletext, Other}
+use Rattle.stream_coding.specs.declared.coding.Coding.TheVariants.{Mpeg, Avc, Hevc, Jpeg2000, Audio, Aac, Ac3, Pcm, Subtitles, Teletext, Other}
+use Rattle.stream_coding.specs.declared.coding.J2kLimits.{J2kLimits}
 use Rattle.stream_coding.specs.declared.buffers.Buffers.{Buffers}
 use Rattle.stream_coding.specs.declared.buffers.PidBuffers.{PidBuffers}
 use Rattle.stream_coding.specs.declared.video_buffers.VideoBuffers.{VideoBuffers}
@@ -29,13 +30,27 @@ aac_buffers channels =
     else (if nat_le channels 12 then record { rx = 8_294_400; main = 12_804 }
     else record { rx = 33_177_600; main = 51_216 }))
 
+-- SMPTE 302M: 1.2 times the rate of pairs of channels of 24 bits, 56 bits a sample with their flags at 48,000 samples a second
+abbrev pub pcm_buffers : ℕ → Buffers
+pcm_buffers pairs = record { rx = declared_rate (3_225_600 * pairs); main = 65_536 }
+
+-- JPEG 2000: 1.2 times its greatest rate, and the buffer that it says, in bytes; the greatest that a description can declare where it
+-- says none
+unfoldable pub j2k_buffers : J2kLimits → Buffers
+j2k_buffers l = record {
+  rx = if l.max_bit_rate == 0 then 200_000_000 else declared_rate (max (l.max_bit_rate * 12 / 10) 2_000_000);
+  main = if l.max_buffer_size == 0 then 10_000_000 else min l.max_buffer_size 10_000_000;
+}
+
 unfoldable pub buffers_of : Coding → Buffers
 buffers_of (Mpeg sequence) = elementary (mpeg_buffers sequence)
 buffers_of (Avc sequence) = elementary (avc_buffers sequence)
 buffers_of (Hevc sequence) = elementary (hevc_buffers sequence)
+buffers_of (Jpeg2000 limits) = j2k_buffers limits
 buffers_of Audio = record { rx = 2_000_000; main = 3_584 }
 buffers_of (Aac channels) = aac_buffers channels
 buffers_of Ac3 = record { rx = 2_000_000; main = 5_696 }
+buffers_of (Pcm pairs) = pcm_buffers pairs
 buffers_of Subtitles = record { rx = 400_000; main = 24_576 }
 buffers_of Teletext = record { rx = 6_750_000; main = 1_504 }
 buffers_of Other = record { rx = 2_000_000; main = 65_536 }
@@ -56,8 +71,8 @@ joined_buffers_of coding = record { rx = (buffers_of coding).rx; main = joined_s
 
 -- what is said of its coding by a stream that keeps to no size of a buffer: its level's greatest
 unfoldable pub without_size : Coding → Coding
-without_size (Mpeg s) = Mpeg (record { level = s.level; bit_rate = s.bit_rate; vbv_buffer_size = 0 })
-without_size (Avc s) = Avc (record { level = s.level; cpb_size = 0 })
+without_size (Mpeg s) = Mpeg (record { profile_and_level = s.profile_and_level; bit_rate = s.bit_rate; vbv_buffer_size = 0 })
+without_size (Avc s) = Avc (record { level = s.level; cpb_br_nal_factor = s.cpb_br_nal_factor; cpb_size = 0 })
 without_size coding = coding
 
 -- a stream with a unit of `size` bytes does not keep to a buffer that does not hold it

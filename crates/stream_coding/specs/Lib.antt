@@ -9,3 +9,5 @@ pub mod Video
 pub mod Buffers
 pub mod FrameHeaders
 pub mod Frames
+pub mod FrameWalks
+pub mod Stays

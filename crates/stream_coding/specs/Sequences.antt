@@ -1,5 +1,5 @@
 -- What the sequence header and the sequence extension of ISO/IEC 13818-2 say; each without its start code.
-use Rattle.std.specs.Prelude.{ℕ, ◌+◌, ◌*◌, ◌/◌, ◌%◌, ◌^◌, ◌==◌, if◌then◌else◌, List, ◌∷◌}
+use Rattle.std.specs.Prelude.{ℕ, ◌+◌, ◌*◌, ◌/◌, ◌%◌, ◌^◌, List, ◌∷◌}
 use Rattle.stream_coding.specs.Structures.{bytes_of}
 use Rattle.stream_coding.specs.declared.structures.Structure.TheVariants.{SequenceHeader, SequenceExtension}
 use Rattle.stream_coding.specs.declared.coding.MpegSequence.{MpegSequence}
@@ -19,10 +19,10 @@ vbv_buffer_size_value _ = 0
 -- progressive_sequence, chroma_format, horizontal_size_extension and vertical_size_extension of 2, bit_rate_extension of 12, a
 -- marker_bit, vbv_buffer_size_extension of 8
 
--- the last four bits of profile_and_level_indication, which are a level where the first of its bits, the escape bit, is 0 (8.1)
-unfoldable pub level : List ℕ → ℕ
-level (first ∷ second ∷ rest) = if first % 16 / 8 == 0 then second / 16 else 0
-level _ = 0
+-- profile_and_level_indication (8.1)
+unfoldable pub profile_and_level : List ℕ → ℕ
+profile_and_level (first ∷ second ∷ rest) = first % 16 * 16 + second / 16
+profile_and_level _ = 0
 
 unfoldable pub bit_rate_extension : List ℕ → ℕ
 bit_rate_extension (a ∷ b ∷ high ∷ low ∷ rest) = high % 32 * 128 + low / 2
@@ -36,7 +36,7 @@ vbv_buffer_size_extension _ = 0
 
 abbrev pub sequence_of : List ℕ → List ℕ → MpegSequence
 sequence_of header extension = record {
-  level = level extension;
+  profile_and_level = profile_and_level extension;
   bit_rate = bit_rate_extension extension * 2 ^ 18 + bit_rate_value header;
   vbv_buffer_size = vbv_buffer_size_extension extension * 2 ^ 10 + vbv_buffer_size_value header;
 }

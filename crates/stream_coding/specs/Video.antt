@@ -1,5 +1,5 @@
 -- The buffers that a decoder has for video (ISO/IEC 13818-1, 2.4.2.3), by its level and what it says of itself.
-use Rattle.std.specs.Prelude.{ℕ, ◌+◌, ◌-◌, ◌*◌, ◌/◌, ◌==◌, ◌&&◌, ◌||◌, nat_le, min, max, Bool, if◌then◌else◌, Option, Some, None}
+use Rattle.std.specs.Prelude.{ℕ, ◌+◌, ◌-◌, ◌*◌, ◌/◌, ◌%◌, ◌==◌, ◌&&◌, ◌||◌, nat_le, min, max, Bool, if◌then◌else◌, Option, Some, None}
 use Rattle.stream_coding.specs.declared.coding.Coding.{Coding}
 use Rattle.stream_coding.specs.declared.coding.Coding.TheVariants.{Mpeg, Avc, Hevc}
 use Rattle.stream_coding.specs.declared.coding.MpegSequence.{MpegSequence}
@@ -13,13 +13,35 @@ use Rattle.stream_coding.specs.declared.video_buffers.VideoBuffers.{VideoBuffers
 abbrev pub mux_bits : ℕ → ℕ
 mux_bits rate = 4 * rate / 1000 + rate / 750
 
--- Rmax in bits a second and VBVmax in bits of a level: ISO/IEC 13818-2, 8.3, tables 8-13 and 8-14
-unfoldable pub mpeg_limits : ℕ → ℕ × ℕ
-mpeg_limits level =
+-- Rmax in bits a second and VBVmax in bits by profile_and_level_indication: ISO/IEC 13818-2, 8.1 to 8.3, tables 8-13 and 8-14
+-- low, main, high-1440 and high level of the profiles without layers of another rate; main level where no table has the level
+unfoldable pub main_profile_limits : ℕ → ℕ × ℕ
+main_profile_limits level =
     if level == 10 then (4_000_000, 475_136)
     else (if level == 6 then (60_000_000, 7_340_032)
     else (if level == 4 then (80_000_000, 9_781_248)
     else (15_000_000, 1_835_008)))
+
+-- high profile, of all its layers
+unfoldable pub high_profile_limits : ℕ → ℕ × ℕ
+high_profile_limits level =
+    if level == 6 then (80_000_000, 9_781_248)
+    else (if level == 4 then (100_000_000, 12_222_464)
+    else (20_000_000, 2_441_216))
+
+-- with the escape bit: 4:2:2 profile at high and at main level
+unfoldable pub escaped_limits : ℕ → ℕ × ℕ
+escaped_limits indication =
+    if indication == 0x82 then (300_000_000, 47_185_920)
+    else (if indication == 0x85 then (50_000_000, 9_437_184)
+    else (15_000_000, 1_835_008))
+
+-- the escape bit is the first of eight, a profile, 1 for high profile, the three after it, a level the last four
+unfoldable pub mpeg_limits : ℕ → ℕ × ℕ
+mpeg_limits indication =
+    if nat_le 128 indication then escaped_limits indication
+    else (if indication / 16 == 1 then high_profile_limits (indication % 16)
+    else main_profile_limits (indication % 16))
 
 -- MaxBR and MaxCPB of a level: ISO/IEC 14496-10, table A-1
 unfoldable pub avc_limits : ℕ → ℕ × ℕ
@@ -92,22 +114,26 @@ shared_mbs rate greatest ebs = mux_bits rate + (greatest - ebs)
 -- MPEG-2: EBS is vbv_buffer_size, Rx 1.2 Rmax. At low and main level Rbx is Rmax, and MBS what is left of VBVmax, with BSmux and BSoh;
 -- at high-1440 and high level Rbx is 1.05 Res, Res the bit_rate that the stream says, at most Rmax, and MBS is BSmux and BSoh
 unfoldable pub is_high : ℕ → Bool
-is_high level = level == 6 || level == 4
+is_high indication =
+    if nat_le 128 indication then indication == 0x82 else (indication % 16 == 6 || indication % 16 == 4)
 
 abbrev pub mpeg_ebs : MpegSequence → ℕ
-mpeg_ebs s = said_or_greatest (16_384 * s.vbv_buffer_size) (mpeg_limits s.level).1
+mpeg_ebs s = said_or_greatest (16_384 * s.vbv_buffer_size) (mpeg_limits s.profile_and_level).1
 
 unfoldable pub mpeg_rbx : MpegSequence → ℕ
-mpeg_rbx s = if is_high s.level then said_or_greatest (420 * s.bit_rate) (mpeg_limits s.level).0 else (mpeg_limits s.level).0
+mpeg_rbx s =
+    if is_high s.profile_and_level then said_or_greatest (420 * s.bit_rate) (mpeg_limits s.profile_and_level).0
+    else (mpeg_limits s.profile_and_level).0
 
 unfoldable pub mpeg_mbs : MpegSequence → ℕ
 mpeg_mbs s =
-    if is_high s.level then mux_bits (mpeg_limits s.level).0 else shared_mbs (mpeg_limits s.level).0 (mpeg_limits s.level).1 (mpeg_ebs s)
+    if is_high s.profile_and_level then mux_bits (mpeg_limits s.profile_and_level).0
+    else shared_mbs (mpeg_limits s.profile_and_level).0 (mpeg_limits s.profile_and_level).1 (mpeg_ebs s)
 
 abbrev pub mpeg_buffers : MpegSequence → VideoBuffers
-mpeg_buffers s = record { rx = (mpeg_limits s.level).0 * 12 / 10; ebs = mpeg_ebs s; rbx = mpeg_rbx s; mbs = mpeg_mbs s }
+mpeg_buffers s = record { rx = (mpeg_limits s.profile_and_level).0 * 12 / 10; ebs = mpeg_ebs s; rbx = mpeg_rbx s; mbs = mpeg_mbs s }
 
--- AVC and HEVC: EBS is the CpbSize that is said, Rx the level's greatest rate, at least 2,000,000, and Rbx the same
+-- AVC and HEVC: EBS is the CpbSize that is said, Rx the level's greatest rate of its profile, at least 2,000,000, and Rbx the same
 abbrev pub least_rate : ℕ → ℕ
 least_rate rate = max rate 2_000_000
 
@@ -120,10 +146,10 @@ level_buffers rate greatest said = record {
 }
 
 abbrev pub avc_buffers : AvcSequence → VideoBuffers
-avc_buffers s = level_buffers (1_200 * (avc_limits s.level).0) (1_200 * (avc_limits s.level).1) s.cpb_size
+avc_buffers s = level_buffers (s.cpb_br_nal_factor * (avc_limits s.level).0) (s.cpb_br_nal_factor * (avc_limits s.level).1) s.cpb_size
 
 abbrev pub hevc_buffers : HevcSequence → VideoBuffers
-hevc_buffers s = level_buffers (1_100 * (hevc_limits s).0) (1_100 * (hevc_limits s).1) 0
+hevc_buffers s = level_buffers (s.br_nal_factor * (hevc_limits s).0) (s.cpb_nal_factor * (hevc_limits s).1) 0
 
 -- of a coding, if it is of video
 unfoldable pub video_buffers : Coding → Option VideoBuffers

@@ -28,8 +28,8 @@ fn element_count(bytes: &[u8]) -> u8
     }
 }
 
-// The bytes from a place on; none where they are fewer.
-fn bytes_from(place: usize, bytes: &[u8]) -> &[u8]
+/// Returns the bytes from a place on; none where they are fewer.
+pub(crate) fn bytes_from(place: usize, bytes: &[u8]) -> &[u8]
     ensures { result.now ≡ drop place bytes.now }
 {
     if bytes.len() < place {

@@ -42,6 +42,19 @@ fn profile(bytes: &[u8]) -> u8
     }
 }
 
+// cpbBrNalFactor of a profile.
+#[tactic(auto, unfolding(crate::specs::Avc::cpb_br_nal_factor))]
+fn cpb_br_nal_factor(profile: u8) -> u32
+    ensures { result ≡ spec.cpb_br_nal_factor profile }
+{
+    match profile {
+        100 | 83 | 86 | 118 | 128 | 138 | 139 | 134 | 135 => 1_500,
+        110 => 3_600,
+        122 | 244 | 44 => 4_800,
+        _ => 1_200,
+    }
+}
+
 #[tactic(auto, unfolding(crate::specs::Avc::has_chroma_format))]
 fn has_chroma_format(profile: u8) -> bool
     ensures { result ≡ spec.has_chroma_format profile }
@@ -277,6 +290,7 @@ pub(crate) fn avc_sequence(unit: &[u8]) -> AvcSequence
     let bytes = bytes_of(Structure::AvcParameters, unit);
     AvcSequence {
         level: level(bytes),
+        cpb_br_nal_factor: cpb_br_nal_factor(profile(bytes)),
         cpb_size: cpb_size(bytes).unwrap_or(0),
     }
 }

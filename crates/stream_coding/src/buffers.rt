@@ -3,7 +3,7 @@
 ghost use Rattle.std.specs.Prelude.{◌≡◌, option_map};
 ghost use Rattle.stream_coding.specs.Buffers as spec;
 
-use crate::coding::{AvcSequence, Coding, MpegSequence};
+use crate::coding::{AvcSequence, Coding, J2kLimits, MpegSequence};
 use crate::video_buffers::{VideoBuffers, avc_buffers, hevc_buffers, mpeg_buffers, video_buffers};
 use unit_timing::multiplexing_buffer::MultiplexingBuffer;
 
@@ -47,16 +47,41 @@ fn fixed(rx: u32, main: u32) -> Buffers
 }
 
 // Bits a second and bytes, at most what a description can declare.
-fn declared_rate(rate: u32) -> u32
+fn declared_rate(rate: u64) -> u32
     ensures { result ≡ spec.declared_rate rate }
 {
-    rate.min(200_000_000)
+    rate.min(200_000_000) as u32
 }
 
-fn declared_bytes(bits: u32) -> u32
+fn declared_bytes(bits: u64) -> u32
     ensures { result ≡ spec.declared_bytes bits }
 {
-    (bits / 8).min(10_000_000)
+    (bits / 8).min(10_000_000) as u32
+}
+
+// By the number of pairs of channels.
+fn pcm_buffers(pairs: u8) -> Buffers
+    ensures { result ≡ spec.pcm_buffers pairs }
+{
+    fixed(declared_rate(3_225_600 * u64::from(pairs)), 65_536)
+}
+
+// By what JPEG 2000 video says of itself.
+#[tactic(auto, unfolding(crate::specs::Buffers::j2k_buffers))]
+fn j2k_buffers(limits: J2kLimits) -> Buffers
+    ensures { result ≡ spec.j2k_buffers limits }
+{
+    let rx = if limits.max_bit_rate == 0 {
+        200_000_000
+    } else {
+        declared_rate((u64::from(limits.max_bit_rate) * 12 / 10).max(2_000_000))
+    };
+    let main = if limits.max_buffer_size == 0 {
+        10_000_000
+    } else {
+        limits.max_buffer_size.min(10_000_000)
+    };
+    fixed(rx, main)
 }
 
 // Of video the main buffer is the elementary stream buffer.
@@ -88,9 +113,11 @@ pub fn buffers_of(coding: Coding) -> Buffers
         Coding::Mpeg(sequence) => elementary(mpeg_buffers(sequence)),
         Coding::Avc(sequence) => elementary(avc_buffers(sequence)),
         Coding::Hevc(sequence) => elementary(hevc_buffers(sequence)),
+        Coding::Jpeg2000(limits) => j2k_buffers(limits),
         Coding::Audio => fixed(2_000_000, 3_584),
         Coding::Aac(channels) => aac_buffers(channels),
         Coding::Ac3 => fixed(2_000_000, 5_696),
+        Coding::Pcm(pairs) => pcm_buffers(pairs),
         Coding::Subtitles => fixed(400_000, 24_576),
         Coding::Teletext => fixed(6_750_000, 1_504),
         Coding::Other => fixed(2_000_000, 65_536),
@@ -130,12 +157,13 @@ fn without_size(coding: Coding) -> Coding
 {
     match coding {
         Coding::Mpeg(sequence) => Coding::Mpeg(MpegSequence {
-            level: sequence.level,
+            profile_and_level: sequence.profile_and_level,
             bit_rate: sequence.bit_rate,
             vbv_buffer_size: 0,
         }),
         Coding::Avc(sequence) => Coding::Avc(AvcSequence {
             level: sequence.level,
+            cpb_br_nal_factor: sequence.cpb_br_nal_factor,
             cpb_size: 0,
         }),
         _ => coding,

@@ -30,17 +30,13 @@ fn vbv_buffer_size_value(header: &[u8]) -> u32
     }
 }
 
-// The level of a sequence extension.
-#[tactic(auto, unfolding(crate::specs::Sequences::level))]
-fn level(extension: &[u8]) -> u8
-    ensures { result ≡ spec.level extension.now }
+// The profile_and_level_indication of a sequence extension.
+#[tactic(auto, unfolding(crate::specs::Sequences::profile_and_level))]
+fn profile_and_level(extension: &[u8]) -> u8
+    ensures { result ≡ spec.profile_and_level extension.now }
 {
     match extension {
-        [first, second, ..] => if *first % 16 / 8 == 0 {
-            *second / 16
-        } else {
-            0
-        },
+        [first, second, ..] => *first % 16 * 16 + *second / 16,
         _ => 0,
     }
 }
@@ -72,7 +68,7 @@ fn sequence_of(header: &[u8], extension: &[u8]) -> MpegSequence
 {
     let vbv_high = u32::from(vbv_buffer_size_extension(extension));
     MpegSequence {
-        level: level(extension),
+        profile_and_level: profile_and_level(extension),
         bit_rate: bit_rate_extension(extension) * 262_144 + bit_rate_value(header),
         vbv_buffer_size: vbv_high * 1024 + vbv_buffer_size_value(header),
     }

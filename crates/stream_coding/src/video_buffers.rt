@@ -1,6 +1,6 @@
 //! The buffers that a decoder has for video (ISO/IEC 13818-1, 2.4.2.3).
 
-ghost use Rattle.std.specs.Prelude.{◌≡◌, ◌≤◌};
+ghost use Rattle.std.specs.Prelude.{◌≡◌, ◌≤◌, ◌^◌};
 ghost use Rattle.stream_coding.specs.Video as spec;
 
 use crate::coding::{AvcSequence, Coding, HevcSequence, MpegSequence};
@@ -9,18 +9,18 @@ use crate::coding::{AvcSequence, Coding, HevcSequence, MpegSequence};
 /// elementary stream buffer and the multiplexing buffer, in bits.
 #[derive(Clone, Copy)]
 pub(crate) struct VideoBuffers {
-    pub rx: u32,
-    pub ebs: u32,
-    pub rbx: u32,
-    pub mbs: u32,
+    pub rx: u64,
+    pub ebs: u64,
+    pub rbx: u64,
+    pub mbs: u64,
 }
 
-// Rmax and VBVmax of a level, in bits.
-#[tactic(auto, unfolding(crate::specs::Video::mpeg_limits))]
-fn mpeg_limits(level: u8) -> (u32, u32)
-    ensures value { result ≡ spec.mpeg_limits level }
-    ensures rate { result.0 ≤ 80000000 }
-    ensures size { result.1 ≤ 9781248 }
+// Rmax and VBVmax in bits: of a level of main profile, and of the others without layers of another rate.
+#[tactic(auto, unfolding(crate::specs::Video::main_profile_limits))]
+fn main_profile_limits(level: u8) -> (u64, u64)
+    ensures value { result ≡ spec.main_profile_limits level }
+    ensures rate { result.0 ≤ 300000000 }
+    ensures size { result.1 ≤ 47185920 }
 {
     match level {
         10 => (4_000_000, 475_136),
@@ -30,9 +30,53 @@ fn mpeg_limits(level: u8) -> (u32, u32)
     }
 }
 
+// Of a level of high profile.
+#[tactic(auto, unfolding(crate::specs::Video::high_profile_limits))]
+fn high_profile_limits(level: u8) -> (u64, u64)
+    ensures value { result ≡ spec.high_profile_limits level }
+    ensures rate { result.0 ≤ 300000000 }
+    ensures size { result.1 ≤ 47185920 }
+{
+    match level {
+        6 => (80_000_000, 9_781_248),
+        4 => (100_000_000, 12_222_464),
+        _ => (20_000_000, 2_441_216),
+    }
+}
+
+// Of a profile_and_level_indication with the escape bit.
+#[tactic(auto, unfolding(crate::specs::Video::escaped_limits))]
+fn escaped_limits(indication: u8) -> (u64, u64)
+    ensures value { result ≡ spec.escaped_limits indication }
+    ensures rate { result.0 ≤ 300000000 }
+    ensures size { result.1 ≤ 47185920 }
+{
+    match indication {
+        0x82 => (300_000_000, 47_185_920),
+        0x85 => (50_000_000, 9_437_184),
+        _ => (15_000_000, 1_835_008),
+    }
+}
+
+// Of a profile_and_level_indication.
+#[tactic(auto, unfolding(crate::specs::Video::mpeg_limits))]
+fn mpeg_limits(indication: u8) -> (u64, u64)
+    ensures value { result ≡ spec.mpeg_limits indication }
+    ensures rate { result.0 ≤ 300000000 }
+    ensures size { result.1 ≤ 47185920 }
+{
+    if indication >= 128 {
+        escaped_limits(indication)
+    } else if indication / 16 == 1 {
+        high_profile_limits(indication % 16)
+    } else {
+        main_profile_limits(indication % 16)
+    }
+}
+
 // MaxBR and MaxCPB of a level.
 #[tactic(auto, unfolding(crate::specs::Video::avc_limits))]
-fn avc_limits(level: u8) -> (u32, u32)
+fn avc_limits(level: u8) -> (u64, u64)
     ensures value { result ≡ spec.avc_limits level }
     ensures rate { result.0 ≤ 800000 }
     ensures size { result.1 ≤ 800000 }
@@ -63,7 +107,7 @@ fn avc_limits(level: u8) -> (u32, u32)
 
 // The same in the high tier of ISO/IEC 23008-2.
 #[tactic(auto, unfolding(crate::specs::Video::high_tier_limits))]
-fn high_tier_limits(level: u8) -> (u32, u32)
+fn high_tier_limits(level: u8) -> (u64, u64)
     ensures value { result ≡ spec.high_tier_limits level }
     ensures rate { result.0 ≤ 800000 }
     ensures size { result.1 ≤ 800000 }
@@ -82,7 +126,7 @@ fn high_tier_limits(level: u8) -> (u32, u32)
 
 // The same in the main tier.
 #[tactic(auto, unfolding(crate::specs::Video::main_tier_limits))]
-fn main_tier_limits(level: u8) -> (u32, u32)
+fn main_tier_limits(level: u8) -> (u64, u64)
     ensures value { result ≡ spec.main_tier_limits level }
     ensures rate { result.0 ≤ 240000 }
     ensures size { result.1 ≤ 240000 }
@@ -106,7 +150,7 @@ fn main_tier_limits(level: u8) -> (u32, u32)
 
 // By level and tier.
 #[tactic(auto, unfolding(crate::specs::Video::hevc_limits))]
-fn hevc_limits(sequence: HevcSequence) -> (u32, u32)
+fn hevc_limits(sequence: HevcSequence) -> (u64, u64)
     ensures value { result ≡ spec.hevc_limits sequence }
     ensures rate { result.0 ≤ 800000 }
     ensures size { result.1 ≤ 800000 }
@@ -120,31 +164,31 @@ fn hevc_limits(sequence: HevcSequence) -> (u32, u32)
 }
 
 // The bits of 4 ms for multiplexing and of a 750th of a second for headers.
-fn mux_bits(rate: u32) -> u32
-    requires { rate ≤ 960000000 }
+fn mux_bits(rate: u64) -> u64
+    requires { rate ≤ 2 ^ 53 }
     ensures value { result ≡ spec.mux_bits rate }
-    ensures bound { result ≤ 5120000 }
+    ensures bound { result ≤ 2 ^ 54 }
 {
     4 * rate / 1000 + rate / 750
 }
 
 // What is said, at most the greatest; that where nothing is said.
 #[tactic(auto, unfolding(crate::specs::Video::said_or_greatest))]
-fn said_or_greatest(said: u64, greatest: u32) -> u32
+fn said_or_greatest(said: u64, greatest: u64) -> u64
     ensures value { result ≡ spec.said_or_greatest said greatest }
     ensures bound { result ≤ greatest }
 {
     if said == 0 {
         greatest
     } else {
-        said.min(u64::from(greatest)) as u32
+        said.min(greatest)
     }
 }
 
 // What is left of a level's video buffer, with the bits for multiplexing and headers.
-fn shared_mbs(rate: u32, greatest: u32, ebs: u32) -> u32
-    requires rate { rate ≤ 960000000 }
-    requires greatest { greatest ≤ 960000000 }
+fn shared_mbs(rate: u64, greatest: u64, ebs: u64) -> u64
+    requires rate { rate ≤ 2 ^ 53 }
+    requires greatest { greatest ≤ 2 ^ 53 }
     requires ebs { ebs ≤ greatest }
     ensures { result ≡ spec.shared_mbs rate greatest ebs }
 {
@@ -152,37 +196,41 @@ fn shared_mbs(rate: u32, greatest: u32, ebs: u32) -> u32
 }
 
 #[tactic(auto, unfolding(crate::specs::Video::is_high))]
-fn is_high(level: u8) -> bool
-    ensures { result ≡ spec.is_high level }
+fn is_high(indication: u8) -> bool
+    ensures { result ≡ spec.is_high indication }
 {
-    level == 6 || level == 4
+    if indication >= 128 {
+        indication == 0x82
+    } else {
+        indication % 16 == 6 || indication % 16 == 4
+    }
 }
 
 #[tactic(auto, unfolding(crate::specs::Video::mpeg_rbx))]
-fn mpeg_rbx(sequence: MpegSequence) -> u32
+fn mpeg_rbx(sequence: MpegSequence) -> u64
     ensures { result ≡ spec.mpeg_rbx sequence }
 {
-    let (rate, _) = mpeg_limits(sequence.level);
-    if is_high(sequence.level) {
+    let (rate, _) = mpeg_limits(sequence.profile_and_level);
+    if is_high(sequence.profile_and_level) {
         said_or_greatest(420 * u64::from(sequence.bit_rate), rate)
     } else {
         rate
     }
 }
 
-fn mpeg_ebs(sequence: MpegSequence) -> u32
+fn mpeg_ebs(sequence: MpegSequence) -> u64
     ensures value { result ≡ spec.mpeg_ebs sequence }
 {
-    let (_, greatest) = mpeg_limits(sequence.level);
+    let (_, greatest) = mpeg_limits(sequence.profile_and_level);
     said_or_greatest(16_384 * u64::from(sequence.vbv_buffer_size), greatest)
 }
 
 #[tactic(auto, unfolding(crate::specs::Video::mpeg_mbs))]
-fn mpeg_mbs(sequence: MpegSequence) -> u32
+fn mpeg_mbs(sequence: MpegSequence) -> u64
     ensures { result ≡ spec.mpeg_mbs sequence }
 {
-    let (rate, greatest) = mpeg_limits(sequence.level);
-    if is_high(sequence.level) {
+    let (rate, greatest) = mpeg_limits(sequence.profile_and_level);
+    if is_high(sequence.profile_and_level) {
         mux_bits(rate)
     } else {
         let ebs = said_or_greatest(16_384 * u64::from(sequence.vbv_buffer_size), greatest);
@@ -193,7 +241,7 @@ fn mpeg_mbs(sequence: MpegSequence) -> u32
 pub(crate) fn mpeg_buffers(sequence: MpegSequence) -> VideoBuffers
     ensures { result ≡ spec.mpeg_buffers sequence }
 {
-    let (rate, _) = mpeg_limits(sequence.level);
+    let (rate, _) = mpeg_limits(sequence.profile_and_level);
     VideoBuffers {
         rx: rate * 12 / 10,
         ebs: mpeg_ebs(sequence),
@@ -203,9 +251,9 @@ pub(crate) fn mpeg_buffers(sequence: MpegSequence) -> VideoBuffers
 }
 
 // By a level's rate and its buffer in bits, and the buffer that is said.
-fn level_buffers(rate: u32, greatest: u32, said: u64) -> VideoBuffers
-    requires rate { rate ≤ 960000000 }
-    requires greatest { greatest ≤ 960000000 }
+fn level_buffers(rate: u64, greatest: u64, said: u64) -> VideoBuffers
+    requires rate { rate ≤ 2 ^ 53 }
+    requires greatest { greatest ≤ 2 ^ 53 }
     ensures { result ≡ spec.level_buffers rate greatest said }
 {
     let rate = if rate < 2_000_000 { 2_000_000 } else { rate };
@@ -222,14 +270,16 @@ pub(crate) fn avc_buffers(sequence: AvcSequence) -> VideoBuffers
     ensures { result ≡ spec.avc_buffers sequence }
 {
     let (rate, size) = avc_limits(sequence.level);
-    level_buffers(1_200 * rate, 1_200 * size, sequence.cpb_size)
+    let factor = u64::from(sequence.cpb_br_nal_factor);
+    level_buffers(factor * rate, factor * size, sequence.cpb_size)
 }
 
 pub(crate) fn hevc_buffers(sequence: HevcSequence) -> VideoBuffers
     ensures { result ≡ spec.hevc_buffers sequence }
 {
     let (rate, size) = hevc_limits(sequence);
-    level_buffers(1_100 * rate, 1_100 * size, 0)
+    let rate = u64::from(sequence.br_nal_factor) * rate;
+    level_buffers(rate, u64::from(sequence.cpb_nal_factor) * size, 0)
 }
 
 /// Returns the buffers of a stream of this coding, if it is of video.

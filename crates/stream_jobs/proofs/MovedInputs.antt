@@ -10,7 +10,7 @@ use Rattle.stream_jobs.specs.declared.refusal.JobRefusal.TheVariants as refusals
 use Rattle.stream_jobs.specs.Answers.{and_then, unless}
 use Rattle.stream_jobs.specs.ClockBases.{base0_of}
 use Rattle.stream_jobs.specs.declared.declarations.StreamChoice.{StreamChoice}
-use Rattle.stream_jobs.specs.Declarations.{UnitCountsView, too_many, too_long, all_unit_counts, choices}
+use Rattle.stream_jobs.specs.Declarations.{UnitCountsView, too_many, too_long, all_measured, all_unit_counts, choices}
 use Rattle.stream_jobs.specs.BufferWarnings.{buffer_warnings}
 use Rattle.stream_jobs.specs.JobInput.{JobInputView, job_input, with_association, with_programs, with_pids, with_found, with_streams, with_moved, with_unit_counts, job_warnings, named_of, nothing_carried, tables_of}
 use Rattle.stream_jobs.specs.Information.{JobInformationView, information_of}
@@ -45,12 +45,12 @@ made options information base programs tables warnings streams input is =
       unit_counts = all;
       choices = chosen;
       tables = tables;
-      warnings = warnings ++ buffer_warnings options.buffers streams all chosen;
+      warnings = warnings ++ buffer_warnings options.buffers (all_measured streams) all chosen;
     } in i) in
     let counted = granted (too_long streams) (with_unit_counts options finish streams) input
     (granted (too_many (length programs) (length streams)) (unless (too_long streams) (with_unit_counts options finish streams)) input is) in
-    let all = comes (λ all. and_then (λ chosen. Ok (finish all chosen)) (choices options.declare_by options.lead streams all)) (all_unit_counts options.buffers streams) input counted in
-    let chosen = comes (λ chosen. Ok (finish all.value chosen)) (choices options.declare_by options.lead streams all.value) input all.last_is in
+    let all = comes (λ all. and_then (λ chosen. Ok (finish all chosen)) (choices options.declare_by options.lead (all_measured streams) all)) (all_unit_counts options.buffers (all_measured streams)) input counted in
+    let chosen = comes (λ chosen. Ok (finish all.value chosen)) (choices options.declare_by options.lead (all_measured streams) all.value) input all.last_is in
     let same : finish all.value chosen.value ≡ input = same_value (finish all.value chosen.value) input chosen.last_is in
     record {
       information_is = sym (ap (λ (i : JobInputView). i.information) same);
@@ -88,7 +88,7 @@ moved_of options count findings input is =
     let due = earliest programs tables streams in
     let base = base0_of options.base (first_base due programs streams) in
     let timed = comes (with_moved options information base programs tables warnings) (moved_streams findings due programs streams) input
-    (granted (nothing_carried warnings streams) (and_then (with_moved options information base programs tables warnings) (moved_streams findings due programs streams))
+    (granted (nothing_carried options.strict warnings streams) (and_then (with_moved options information base programs tables warnings) (moved_streams findings due programs streams))
     input assigned.last_is) in
     let done = made options information base programs tables warnings timed.value input timed.last_is in
     record {

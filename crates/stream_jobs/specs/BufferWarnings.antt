@@ -7,29 +7,27 @@ use Rattle.stream_choice.specs.Frames.{keeps_framing}
 use Rattle.stream_choice.specs.declared.choice.Choice.{Choice}
 use Rattle.stream_coding.specs.Buffers.{buffers_of, given_buffers}
 use Rattle.stream_coding.specs.declared.buffers.PidBuffers.{PidBuffers}
-use Rattle.es_units.specs.Declaration.{max_unit_size}
 use Rattle.stream_jobs.specs.declared.declarations.StreamChoice.{StreamChoice}
 use Rattle.stream_jobs.specs.declared.warning.Warning.{Warning}
 use Rattle.stream_jobs.specs.declared.warning.Warning.TheVariants as warning
-use Rattle.stream_jobs.specs.Declarations.{UnitCountsView, said_coding, coding_for}
-use Rattle.stream_jobs.specs.JobStreams.{TimedStreamView}
+use Rattle.stream_jobs.specs.Declarations.{MeasuredView, UnitCountsView, said_coding, coding_for}
 
 -- 1. A buffer that a stream says of itself
 
 -- the size of the buffer that a stream says by its first unit, and the one that counts in its place
-abbrev pub said_size : TimedStreamView → ℕ
-said_size s = (buffers_of (said_coding s)).main
+abbrev pub said_size : MeasuredView → ℕ
+said_size m = (buffers_of (said_coding m)).main
 
-abbrev pub counted_size : TimedStreamView → ℕ
-counted_size s = (buffers_of (coding_for s)).main
+abbrev pub counted_size : MeasuredView → ℕ
+counted_size m = (buffers_of (coding_for m)).main
 
 -- they differ, and no buffers are asked for
-unfoldable pub header_warning : List PidBuffers → TimedStreamView → List Warning
-header_warning given s =
-    if is_some (given_buffers given s.pid) || said_size s == counted_size s then []
-    else warning.HeaderBuffer s.pid (said_size s) (max_unit_size s.units) (counted_size s) ∷ []
+unfoldable pub header_warning : List PidBuffers → MeasuredView → List Warning
+header_warning given m =
+    if is_some (given_buffers given m.pid) || said_size m == counted_size m then []
+    else warning.HeaderBuffer m.pid (said_size m) m.units.largest (counted_size m) ∷ []
 
-abbrev pub header_warnings : List PidBuffers → List TimedStreamView → List Warning
+abbrev pub header_warnings : List PidBuffers → List MeasuredView → List Warning
 header_warnings given streams = flat_map (header_warning given) streams
 
 -- 2. A multiplexing buffer that nothing keeps
@@ -44,13 +42,13 @@ unkept_leak None kept = None
 unkept_leak (Some buffer) (Some other) = None
 unkept_leak (Some buffer) None = Some buffer.rbx
 
-unfoldable pub leak_warning : TimedStreamView × (UnitCountsView × StreamChoice) → Option Warning
+unfoldable pub leak_warning : MeasuredView × (UnitCountsView × StreamChoice) → Option Warning
 leak_warning s = option_map (λ leak. warning.Leak s.0.pid (asked_rate s.1.1.choice) leak) (unkept_leak s.1.0.multiplexing s.1.1.multiplexing)
 
-unfoldable pub leak_warnings_of : TimedStreamView × (UnitCountsView × StreamChoice) → List Warning
+unfoldable pub leak_warnings_of : MeasuredView × (UnitCountsView × StreamChoice) → List Warning
 leak_warnings_of s = option_to_list (leak_warning s)
 
-abbrev pub leak_warnings : List TimedStreamView → List UnitCountsView → List StreamChoice → List Warning
+abbrev pub leak_warnings : List MeasuredView → List UnitCountsView → List StreamChoice → List Warning
 leak_warnings streams all chosen = flat_map leak_warnings_of (zip streams (zip all chosen))
 
 -- 3. Access units that a main buffer does not hold one by one
@@ -62,17 +60,17 @@ unkept_frames c choice = elim c.framing [
   | Some f ↦ if keeps_framing c.needs f choice.lead choice.share then None else (if nat_lt 1 f.frames then Some f.frames else None)
 ]
 
-unfoldable pub frame_warning : TimedStreamView × (UnitCountsView × StreamChoice) → Option Warning
+unfoldable pub frame_warning : MeasuredView × (UnitCountsView × StreamChoice) → Option Warning
 frame_warning s = option_map (warning.Frames s.0.pid) (unkept_frames s.1.0 s.1.1.choice)
 
-unfoldable pub frame_warnings_of : TimedStreamView × (UnitCountsView × StreamChoice) → List Warning
+unfoldable pub frame_warnings_of : MeasuredView × (UnitCountsView × StreamChoice) → List Warning
 frame_warnings_of s = option_to_list (frame_warning s)
 
-abbrev pub frame_warnings : List TimedStreamView → List UnitCountsView → List StreamChoice → List Warning
+abbrev pub frame_warnings : List MeasuredView → List UnitCountsView → List StreamChoice → List Warning
 frame_warnings streams all chosen = flat_map frame_warnings_of (zip streams (zip all chosen))
 
 -- 4. All of them
 
-abbrev pub buffer_warnings : List PidBuffers → List TimedStreamView → List UnitCountsView → List StreamChoice → List Warning
+abbrev pub buffer_warnings : List PidBuffers → List MeasuredView → List UnitCountsView → List StreamChoice → List Warning
 buffer_warnings given streams all chosen =
     (header_warnings given streams ++ leak_warnings streams all chosen) ++ frame_warnings streams all chosen

@@ -24,7 +24,8 @@ use Rattle.stream_coding.specs.declared.coding.Coding.{Coding}
 use Rattle.stream_coding.specs.declared.buffers.Buffers.{Buffers}
 use Rattle.stream_coding.specs.declared.buffers.PidBuffers.{PidBuffers}
 use Rattle.es_units.specs.UnitRuns.{UnitRunsView, runs_burst}
-use Rattle.es_units.specs.Declaration.{min_interval, max_unit_size, group_packets, burst_packets}
+use Rattle.es_units.specs.CountedUnits.{CountedUnitsView, counted_units, row_packets}
+use Rattle.es_units.specs.Declaration.{CountedPacketsView}
 use Rattle.stream_jobs.specs.declared.declarations.StreamChoice.{StreamChoice}
 use Rattle.stream_jobs.specs.declared.refusal.GreaterBuffers.{GreaterBuffers}
 use Rattle.stream_jobs.specs.declared.refusal.JobRefusal.{JobRefusal}
@@ -49,38 +50,24 @@ is_too_long s = nat_lt 1_048_576 (length s.units)
 unfoldable pub units_refusal : TimedStreamView → JobRefusal
 units_refusal s = refusals.Units s.pid (length s.units)
 
-unfoldable pub length_refusal : TimedStreamView → Option JobRefusal
-length_refusal s = if is_too_long s then Some (units_refusal s) else None
-
 unfoldable pub too_long : List TimedStreamView → Option JobRefusal
 too_long streams = option_map units_refusal (find is_too_long streams)
 
--- 2. Buffers: those that are asked for, else those of the coding and what the stream says of them
+-- 2. The measures of a stream: what its entry in the program map says, the bytes of its first unit, the access units of its units, and
+-- what is counted of these
+
+pub record MeasuredView : Type 0 where
+  pub pid : ℕ
+  pub stream_id : ℕ
+  pub stream_type : ℕ
+  pub descriptors : List ℕ
+  pub first : List ℕ
+  pub framing : Option Framing
+  pub units : CountedUnitsView
 
 unfoldable pub first_bytes : List AccessUnit → List ℕ
 first_bytes [] = []
 first_bytes (u ∷ us) = u.bytes
-
--- by the first unit
-abbrev pub said_coding : TimedStreamView → Coding
-said_coding s = coding_of s.stream_type s.descriptors (first_bytes s.units)
-
--- a buffer that does not hold the greatest one is none that the stream keeps to
-unfoldable pub coding_for : TimedStreamView → Coding
-coding_for s = coding_holding (max_unit_size s.units) (said_coding s)
-
-unfoldable pub buffers_for : List PidBuffers → TimedStreamView → Buffers
-buffers_for given s = unwrap_or (given_buffers given s.pid) (buffers_of (coding_for s))
-
--- the size of MB as it is declared (2.4.2.3): by the standard the bytes of a PES packet header leave MB at no cost of time, with the first byte of
--- payload after them; here they leave it as payload does. So by the standard MB may hold one header more than is promised of it, of
--- 19 bytes at most in a job, and room for that is left
-unfoldable pub without_header : MultiplexingBuffer → MultiplexingBuffer
-without_header b = record { rbx = b.rbx; size = if nat_lt 19 b.size then b.size - 19 else b.size }
-
--- MB of video; there is none beside buffers that are asked for, which are one main buffer
-unfoldable pub multiplexing_for : List PidBuffers → TimedStreamView → Option MultiplexingBuffer
-multiplexing_for given s = if is_some (given_buffers given s.pid) then None else option_map without_header (multiplexing_of (coding_for s))
 
 -- the access units of a stream's units, if it is sound whose units are whole frames
 unfoldable pub framing_of : UnitFrames → Option Framing
@@ -92,7 +79,48 @@ framing_for s = elim (frame_kind s.stream_type s.descriptors) [
   | Some kind ↦ option_and_then framing_of (all_frames kind no_frames (map (λ u. u.bytes) s.units))
 ]
 
--- 3. What is counted of a stream's units: what they need, and the greatest number of packets of 1, 2, .. of them in a row
+unfoldable pub measured : TimedStreamView → MeasuredView
+measured s = record {
+  pid = s.pid;
+  stream_id = s.stream_id;
+  stream_type = s.stream_type;
+  descriptors = s.descriptors;
+  first = first_bytes s.units;
+  framing = framing_for s;
+  units = counted_units s.units;
+}
+
+abbrev pub all_measured : List TimedStreamView → List MeasuredView
+all_measured streams = map measured streams
+
+-- more units than a multiplexer may hold
+unfoldable pub length_refusal : MeasuredView → Option JobRefusal
+length_refusal m = if nat_lt 1_048_576 m.units.count then Some (refusals.Units m.pid m.units.count) else None
+
+-- 3. Buffers: those that are asked for, else those of the coding and what the stream says of them
+
+-- by the first unit
+abbrev pub said_coding : MeasuredView → Coding
+said_coding m = coding_of m.stream_type m.descriptors m.first
+
+-- a buffer that does not hold the greatest one is none that the stream keeps to
+unfoldable pub coding_for : MeasuredView → Coding
+coding_for m = coding_holding m.units.largest (said_coding m)
+
+unfoldable pub buffers_for : List PidBuffers → MeasuredView → Buffers
+buffers_for given m = unwrap_or (given_buffers given m.pid) (buffers_of (coding_for m))
+
+-- the size of MB as it is declared (2.4.2.3): by the standard the bytes of a PES packet header leave MB at no cost of time, with the first byte of
+-- payload after them; here they leave it as payload does. So by the standard MB may hold one header more than is promised of it, of
+-- 19 bytes at most in a job, and room for that is left
+unfoldable pub without_header : MultiplexingBuffer → MultiplexingBuffer
+without_header b = record { rbx = b.rbx; size = if nat_lt 19 b.size then b.size - 19 else b.size }
+
+-- MB of video; there is none beside buffers that are asked for, which are one main buffer
+unfoldable pub multiplexing_for : List PidBuffers → MeasuredView → Option MultiplexingBuffer
+multiplexing_for given m = if is_some (given_buffers given m.pid) then None else option_map without_header (multiplexing_of (coding_for m))
+
+-- 4. What is counted of a stream's units: what they need, and the greatest number of packets of 1, 2, .. of them in a row
 
 pub record UnitCountsView : Type 0 where
   pub needs : Needs
@@ -100,32 +128,32 @@ pub record UnitCountsView : Type 0 where
   pub framing : Option Framing
   pub max_group_packets : List ℕ
 
-unfoldable pub needs_of : List PidBuffers → TimedStreamView → Needs
-needs_of given s = record {
-  interval = min_interval s.units;
-  size = max_unit_size s.units;
-  rx = (buffers_for given s).rx;
-  main = (buffers_for given s).main;
+unfoldable pub needs_of : List PidBuffers → MeasuredView → Needs
+needs_of given m = record {
+  interval = m.units.interval;
+  size = m.units.largest;
+  rx = (buffers_for given m).rx;
+  main = (buffers_for given m).main;
 }
 
 -- of groups of up to 64 units, as numbers of 32 bits
-unfoldable pub packets_of_group : List AccessUnit → ℕ → ℕ
-packets_of_group units group = min (group_packets 0 0 group units) (2 ^ 32 - 1)
+unfoldable pub packets_of_group : CountedPacketsView → ℕ → ℕ
+packets_of_group packets group = min (row_packets group packets) (2 ^ 32 - 1)
 
-unfoldable pub max_group_packets : TimedStreamView → List ℕ
-max_group_packets s = map (λ before. packets_of_group s.units (before + 1)) (range_with_len 0 (min (length s.units) 64))
+unfoldable pub max_group_packets : MeasuredView → List ℕ
+max_group_packets m = map (λ before. packets_of_group m.units.packets (before + 1)) (range_with_len 0 (min m.units.count 64))
 
-unfoldable pub size_refusal : TimedStreamView → Option JobRefusal
-size_refusal s = if nat_lt (greatest_size s.stream_id) (max_unit_size s.units) then Some (refusals.Size s.pid (max_unit_size s.units)) else None
+unfoldable pub size_refusal : MeasuredView → Option JobRefusal
+size_refusal m = if nat_lt (greatest_size m.stream_id) m.units.largest then Some (refusals.Size m.pid m.units.largest) else None
 
-unfoldable pub unit_counts : List PidBuffers → TimedStreamView → Result UnitCountsView JobRefusal
-unit_counts given s =
-    unless (size_refusal s) (Ok (record { needs = needs_of given s; multiplexing = multiplexing_for given s; framing = framing_for s; max_group_packets = max_group_packets s }))
+unfoldable pub unit_counts : List PidBuffers → MeasuredView → Result UnitCountsView JobRefusal
+unit_counts given m =
+    unless (size_refusal m) (Ok (record { needs = needs_of given m; multiplexing = multiplexing_for given m; framing = m.framing; max_group_packets = max_group_packets m }))
 
-abbrev pub all_unit_counts : List PidBuffers → List TimedStreamView → Result (List UnitCountsView) JobRefusal
+abbrev pub all_unit_counts : List PidBuffers → List MeasuredView → Result (List UnitCountsView) JobRefusal
 all_unit_counts given streams = each (unit_counts given) streams
 
--- 4. What each stream declares: the best of what is tried
+-- 5. What each stream declares: the best of what is tried
 
 -- a group and a lead can be looked for
 unfoldable pub is_countable : Needs → List ℕ → Bool
@@ -156,27 +184,23 @@ asked_groups by.Groups lead sum buffer c = groups_of lead sum buffer c
 asked_groups by.Either lead sum buffer c = groups_of lead sum buffer c
 
 -- the burst of units at a pace, as a number of 64 bits
-abbrev pub burst_of : List AccessUnit → ℕ → ℕ
-burst_of units pace = min (burst_packets 0 0 pace units) (2 ^ 64 - 1)
+abbrev pub burst_of : UnitRunsView → ℕ → ℕ
+burst_of units pace = min (runs_burst pace units) (2 ^ 64 - 1)
 
--- the same of units of which those that come alike are counted together
-abbrev pub burst_of_runs : UnitRunsView → ℕ → ℕ
-burst_of_runs runs pace = min (runs_burst pace runs) (2 ^ 64 - 1)
-
-unfoldable pub pace_of : ℕ → ℕ → Option MultiplexingBuffer → List AccessUnit → UnitCountsView → Option Choice
+unfoldable pub pace_of : ℕ → ℕ → Option MultiplexingBuffer → UnitRunsView → UnitCountsView → Option Choice
 pace_of lead sum buffer units c =
     if is_needs (leaking_needs buffer c.needs)
     then pace_choice (leaking_needs buffer c.needs) (burst_of units) (delay_before buffer (leaking_needs buffer c.needs) sum) (min lead 90_000)
     else None
 
 -- the one that is asked for, else the preferred of both
-abbrev pub choice_of : DeclareBy → ℕ → ℕ → Option MultiplexingBuffer → List AccessUnit → UnitCountsView → Option Choice
+abbrev pub choice_of : DeclareBy → ℕ → ℕ → Option MultiplexingBuffer → UnitRunsView → UnitCountsView → Option Choice
 choice_of by.Groups lead sum buffer units c = groups_of lead sum buffer c
 choice_of by.Pace lead sum buffer units c = pace_of lead sum buffer units c
 choice_of by.Either lead sum buffer units c = preferred (groups_of lead sum buffer c) (pace_of lead sum buffer units c)
 
 -- it, with the multiplexing buffer that it keeps
-abbrev pub kept : DeclareBy → ℕ → ℕ → Option MultiplexingBuffer → List AccessUnit → UnitCountsView → Option StreamChoice
+abbrev pub kept : DeclareBy → ℕ → ℕ → Option MultiplexingBuffer → UnitRunsView → UnitCountsView → Option StreamChoice
 kept declare_by lead sum buffer units c = option_map (λ choice. record { choice = choice; multiplexing = buffer }) (choice_of declare_by lead sum buffer units c)
 
 unfoldable pub first_kept : Option StreamChoice → Option StreamChoice → Option StreamChoice
@@ -184,7 +208,7 @@ first_kept (Some choice) other = Some choice
 first_kept None other = other
 
 -- something lets its units into one main buffer
-unfoldable pub is_declared : DeclareBy → ℕ → ℕ → List AccessUnit → UnitCountsView → Bool
+unfoldable pub is_declared : DeclareBy → ℕ → ℕ → UnitRunsView → UnitCountsView → Bool
 is_declared by.Groups lead sum units c = is_some (groups_of lead sum None c)
 is_declared by.Pace lead sum units c = is_some (pace_of lead sum None units c)
 is_declared by.Either lead sum units c = is_some (pace_of lead sum None units c) || is_some (groups_of lead sum None c)
@@ -206,23 +230,23 @@ medium_buffers = record { rx = 40_000_000; main = 1_000_000 }
 abbrev pub large_buffers : GreaterBuffers
 large_buffers = record { rx = 200_000_000; main = 10_000_000 }
 
-unfoldable pub way_out : DeclareBy → ℕ → ℕ → List AccessUnit → UnitCountsView → Option GreaterBuffers
+unfoldable pub way_out : DeclareBy → ℕ → ℕ → UnitRunsView → UnitCountsView → Option GreaterBuffers
 way_out declare_by lead sum units c =
     if is_declared declare_by lead sum units (with_buffers small_buffers c) then Some small_buffers
     else (if is_declared declare_by lead sum units (with_buffers medium_buffers c) then Some medium_buffers
     else (if is_declared declare_by lead sum units (with_buffers large_buffers c) then Some large_buffers else None))
 
-unfoldable pub buffers_refusal : DeclareBy → ℕ → ℕ → TimedStreamView → UnitCountsView → JobRefusal
-buffers_refusal declare_by lead sum s c = refusals.Buffers s.pid c.needs.size c.needs.rx c.needs.main (way_out declare_by lead sum s.units c)
+unfoldable pub buffers_refusal : DeclareBy → ℕ → ℕ → MeasuredView → UnitCountsView → JobRefusal
+buffers_refusal declare_by lead sum m c = refusals.Buffers m.pid c.needs.size c.needs.rx c.needs.main (way_out declare_by lead sum m.units.runs c)
 
 -- with the stream's multiplexing buffer, if a choice keeps it; else with one main buffer. A stream of its level's greatest rate is of the
 -- second kind: its packets come faster than the leak by their headers, which the leak is counted with here
-unfoldable pub chosen : DeclareBy → ℕ → ℕ → TimedStreamView × UnitCountsView → Result StreamChoice JobRefusal
+unfoldable pub chosen : DeclareBy → ℕ → ℕ → MeasuredView × UnitCountsView → Result StreamChoice JobRefusal
 chosen declare_by lead sum s =
-    ok_or (first_kept (kept declare_by lead sum s.1.multiplexing s.0.units s.1) (kept declare_by lead sum None s.0.units s.1))
+    ok_or (first_kept (kept declare_by lead sum s.1.multiplexing s.0.units.runs s.1) (kept declare_by lead sum None s.0.units.runs s.1))
     (buffers_refusal declare_by lead sum s.0 s.1)
 
-unfoldable pub choices : DeclareBy → ℕ → List TimedStreamView → List UnitCountsView → Result (List StreamChoice) JobRefusal
+unfoldable pub choices : DeclareBy → ℕ → List MeasuredView → List UnitCountsView → Result (List StreamChoice) JobRefusal
 choices declare_by lead streams all = each (chosen declare_by lead (shares_of all)) (zip streams all)
 
 -- the access units that a stream declares: none if its choice does not keep them, so that no stream is refused for them

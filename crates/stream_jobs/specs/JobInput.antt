@@ -1,5 +1,5 @@
 -- What a job is made of: the programs and streams of a transport stream, and what is declared of their units.
-use Rattle.std.specs.Prelude.{ℕ, ◌==◌, Bool, if◌then◌else◌, List, [], ◌∷◌, ◌++◌, length, map, filter, flat_map, ok_or, Option, Some, None, Result, Ok}
+use Rattle.std.specs.Prelude.{ℕ, ◌==◌, ◌&&◌, not, Bool, true, false, if◌then◌else◌, List, [], ◌∷◌, ◌++◌, length, map, filter, flat_map, ok_or, Option, Some, None, Result, Ok}
 use Rattle.std.specs.List.{list_any}
 use Rattle.std.specs.Option.{option_or}
 use Rattle.psi_tables.specs.declared.pat.programs.Program.{Program}
@@ -17,7 +17,7 @@ use Rattle.stream_jobs.specs.declared.warning.Warning.TheVariants as warnings
 use Rattle.stream_jobs.specs.Answers.{and_then, unless}
 use Rattle.stream_jobs.specs.ClockBases.{base0_of}
 use Rattle.stream_jobs.specs.declared.declarations.StreamChoice.{StreamChoice}
-use Rattle.stream_jobs.specs.Declarations.{UnitCountsView, too_many, too_long, all_unit_counts, choices}
+use Rattle.stream_jobs.specs.Declarations.{UnitCountsView, too_many, too_long, all_measured, all_unit_counts, choices}
 use Rattle.stream_jobs.specs.BufferWarnings.{buffer_warnings}
 use Rattle.stream_jobs.specs.JobPrograms.{JobProgramView, job_programs, all_program_warnings, text_warnings}
 use Rattle.stream_jobs.specs.ProgramClocks.{is_clock_on}
@@ -92,7 +92,8 @@ job_warnings options count findings a named found assigned streams =
 -- streams with their units at moments, and the counts of their units
 unfoldable pub with_unit_counts : JobOptionsView → (List UnitCountsView → List StreamChoice → JobInputView) → List TimedStreamView → Result JobInputView JobRefusal
 with_unit_counts options finish streams =
-    and_then (λ all. and_then (λ chosen. Ok (finish all chosen)) (choices options.declare_by options.lead streams all)) (all_unit_counts options.buffers streams)
+    and_then (λ all. and_then (λ chosen. Ok (finish all chosen)) (choices options.declare_by options.lead (all_measured streams) all))
+    (all_unit_counts options.buffers (all_measured streams))
 
 -- the last warnings are about their buffers
 unfoldable pub with_moved : JobOptionsView → JobInformationView → ℕ → List JobProgramView → List JobTableView → List Warning → List TimedStreamView → Result JobInputView JobRefusal
@@ -107,28 +108,30 @@ with_moved options information base programs tables all_warnings streams =
       unit_counts = all;
       choices = chosen;
       tables = tables;
-      warnings = all_warnings ++ buffer_warnings options.buffers streams all chosen;
+      warnings = all_warnings ++ buffer_warnings options.buffers (all_measured streams) all chosen;
     }) streams))
 
--- why no stream is carried: the first warning of a stream_id that can't be written, of a stream that is left out for a reason, or of
--- scrambled packets
-unfoldable pub why_nothing : Warning → Option JobRefusal
-why_nothing (warnings.StreamId program pid packet id) = Some (refusals.StreamId packet pid id)
-why_nothing (warnings.LeftOut pid why) = Some why
-why_nothing (warnings.Units pid warning) = if is_scrambled warning.cause then Some refusals.Scrambled else None
-why_nothing _ = None
+-- why a stream is not carried: the first warning of a stream_id that can't be written, or of a stream that is left out for a reason; and
+-- if no stream is carried, of scrambled packets
+unfoldable pub why_nothing : Bool → Warning → Option JobRefusal
+why_nothing some (warnings.StreamId program pid packet id) = Some (refusals.StreamId packet pid id)
+why_nothing some (warnings.LeftOut pid why) = Some why
+why_nothing some (warnings.Units pid warning) = if not some && is_scrambled warning.cause then Some refusals.Scrambled else None
+why_nothing some _ = None
 
-unfoldable pub first_why : List Warning → Option JobRefusal
-first_why [] = None
-first_why (w ∷ ws) = option_or (why_nothing w) (first_why ws)
+unfoldable pub first_why : Bool → List Warning → Option JobRefusal
+first_why some [] = None
+first_why some (w ∷ ws) = option_or (why_nothing some w) (first_why some ws)
 
-unfoldable pub nothing_carried : List Warning → List WireStreamView → Option JobRefusal
-nothing_carried all_warnings streams = if length streams == 0 then first_why all_warnings else None
+-- the refusal if no stream is carried; if that is asked for, also if one is not carried
+unfoldable pub nothing_carried : Bool → List Warning → List WireStreamView → Option JobRefusal
+nothing_carried strict all_warnings streams =
+    if length streams == 0 then first_why false all_warnings else (if strict then first_why true all_warnings else None)
 
 -- streams with their units as on the wire
 unfoldable pub with_streams : JobOptionsView → List FindingView → ℕ → List JobProgramView → List JobTableView → List Warning → List WireStreamView → Result JobInputView JobRefusal
 with_streams options findings id programs tables all_warnings streams =
-    unless (nothing_carried all_warnings streams)
+    unless (nothing_carried options.strict all_warnings streams)
     (and_then (with_moved options (information_of options id findings programs) (base0_of options.base (first_base (earliest programs tables streams) programs streams)) programs tables all_warnings)
     (moved_streams findings (earliest programs tables streams) programs streams))
 

@@ -9,8 +9,8 @@ use Rattle.given_values.specs.declared.declare_by.DeclareBy.{DeclareBy}
 use Rattle.stream_coding.specs.declared.buffers.PidBuffers.{PidBuffers}
 
 -- the rate in bits a second, if one is asked for; the moment of the first slot as its characters, if it is given; limits in ms and in units
--- of 90 kHz; by what the packets of units are declared; what the
--- system clock shows as the run begins; the network and the names of services in place of those of the stream; the programs that are taken, none for all; PIDs that are left out; and buffers in place of those by coding
+-- of 90 kHz; by what the packets of units are declared; whether DTS are made from PTS; whether a stream that can't be carried refuses the
+-- input; what the system clock shows as the run begins; the network and the names of services in place of those of the stream; the programs that are taken, none for all; PIDs that are left out; and buffers in place of those by coding
 pub record JobOptionsView : Type 0 where
   pub rate : Option ℕ
   pub start : Option (List ℕ)
@@ -18,6 +18,7 @@ pub record JobOptionsView : Type 0 where
   pub lead : ℕ
   pub declare_by : DeclareBy
   pub make_dts : Bool
+  pub strict : Bool
   pub base : ClockBase
   pub network : Option NetworkNameView
   pub names : List ServiceNameView

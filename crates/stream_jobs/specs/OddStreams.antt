@@ -1,12 +1,13 @@
 -- Streams with units that are left out: a job can't carry them.
-use Rattle.std.specs.Prelude.{◌≡◌, ⊤, ℕ, ◌-◌, ◌%◌, ◌^◌, nat_lt, if◌then◌else◌, List, None, Some, Option, option_map, Result, Ok, Err}
+use Rattle.std.specs.Prelude.{◌≡◌, ⊤, ℕ, ◌-◌, ◌%◌, ◌^◌, if◌then◌else◌, List, [], ◌∷◌, None, Some, Option, option_map, Result, Ok, Err}
 use Rattle.demux.specs.Views.{FindingView}
 use Rattle.given_values.specs.declared.declare_by.DeclareBy.{DeclareBy}
+use Rattle.es_units.specs.CarriedUnits.{CarriedUnit}
 use Rattle.es_units.specs.Stamps.{first_fault}
 use Rattle.stream_jobs.specs.declared.refusal.JobError.{JobError}
 use Rattle.stream_jobs.specs.declared.refusal.JobError.TheVariants.{Memory, Refused}
 use Rattle.stream_jobs.specs.declared.refusal.JobRefusal.{JobRefusal}
-use Rattle.stream_jobs.specs.Declarations.{UnitCountsView, buffers_refusal, is_declared, length_refusal, unit_counts}
+use Rattle.stream_jobs.specs.Declarations.{MeasuredView, UnitCountsView, buffers_refusal, is_declared, length_refusal, measured, unit_counts}
 use Rattle.stream_jobs.specs.JobOptions.{JobOptionsView}
 use Rattle.stream_jobs.specs.JobStreams.{TimedStreamView, WireStreamView}
 use Rattle.stream_jobs.specs.Moments.{first_dts, stamps_refusal, wire_of, with_moments}
@@ -31,29 +32,34 @@ odd_stamps findings w = option_map (stamps_refusal findings w.pid) (first_fault 
 unfoldable pub alone : WireStreamView → TimedStreamView
 alone w = with_moments (own_base w) w
 
+-- the bytes of its first unit
+unfoldable pub first_carried : List CarriedUnit → List ℕ
+first_carried [] = []
+first_carried (u ∷ us) = u.unit.bytes
+
 abbrev pub greatest_sum : ℕ
 greatest_sum = 2 ^ 64 - 1
 
-unfoldable pub odd_buffers : DeclareBy → ℕ → TimedStreamView → UnitCountsView → Option JobRefusal
-odd_buffers declare_by lead t c =
-    if is_declared declare_by lead greatest_sum t.units c then None else Some (buffers_refusal declare_by lead greatest_sum t c)
+unfoldable pub odd_buffers : DeclareBy → ℕ → MeasuredView → UnitCountsView → Option JobRefusal
+odd_buffers declare_by lead m c =
+    if is_declared declare_by lead greatest_sum m.units.runs c then None else Some (buffers_refusal declare_by lead greatest_sum m c)
 
-unfoldable pub odd_counts : JobOptionsView → TimedStreamView → Result UnitCountsView JobRefusal → Option JobRefusal
-odd_counts options t (Ok c) = odd_buffers options.declare_by options.lead t c
-odd_counts options t (Err why) = Some why
+unfoldable pub odd_counts : JobOptionsView → MeasuredView → Result UnitCountsView JobRefusal → Option JobRefusal
+odd_counts options m (Ok c) = odd_buffers options.declare_by options.lead m c
+odd_counts options m (Err why) = Some why
 
 -- the first of two
 unfoldable pub first_odd : Option JobRefusal → Option JobRefusal → Option JobRefusal
 first_odd (Some why) later = Some why
 first_odd None later = later
 
-unfoldable pub odd_units : JobOptionsView → TimedStreamView → Option JobRefusal
-odd_units options t = first_odd (length_refusal t) (odd_counts options t (unit_counts options.buffers t))
+unfoldable pub odd_units : JobOptionsView → MeasuredView → Option JobRefusal
+odd_units options m = first_odd (length_refusal m) (odd_counts options m (unit_counts options.buffers m))
 
--- 3. Why a stream with units is left out, if it is: video, of stream_id 0xE0 and more, for its stamps alone, so that its bytes stay where they are found
+-- 3. Why a stream with units is left out, if it is
 
 unfoldable pub odd_bytes : JobOptionsView → WireStreamView → Option JobRefusal
-odd_bytes options w = if nat_lt w.stream_id 0xE0 then odd_units options (alone w) else None
+odd_bytes options w = odd_units options (measured (alone w))
 
 unfoldable pub odd_stream : JobOptionsView → List FindingView → WireStreamView → Option JobRefusal
 odd_stream options findings w = first_odd (odd_stamps findings w) (odd_bytes options w)

@@ -1,11 +1,16 @@
 -- The streams of a job, their units with the stamps on the wire.
 use Rattle.std.specs.Prelude.{ℕ, Bool, true, false, is_some, if◌then◌else◌, List, [], ◌∷◌, slice_get, filter, flat_map, ok_or, Option, Some, None, option_map, option_and_then, option_to_list, Result, Ok, Err}
+use Rattle.std.specs.List.{list_any}
 use Rattle.demux.specs.Views.{FindingView}
 use Rattle.stream_coding.specs.Codings.{is_ac3}
 use Rattle.stream_programs.specs.Streams.{FoundStreamView}
 use Rattle.es_units.specs.CarriedUnits.{CarriedUnit, carried_units}
 use Rattle.es_units.specs.MadeDts.{dts_fault, made_units, pts_of}
 use Rattle.es_units.specs.StreamIds.{first_other_at, written_id}
+use Rattle.es_units.specs.UnitWarnings.{unit_warnings}
+use Rattle.es_units.specs.declared.unit_warning.UnitWarning.{UnitWarning}
+use Rattle.es_units.specs.declared.unit_warning.UnitWarningCause.{UnitWarningCause}
+use Rattle.es_units.specs.declared.unit_warning.UnitWarningCause.TheVariants as causes
 use Rattle.stream_jobs.specs.declared.refusal.JobRefusal.{JobRefusal}
 use Rattle.stream_jobs.specs.declared.refusal.JobRefusal.TheVariants as refusals
 use Rattle.stream_jobs.specs.declared.warning.Warning.{Warning}
@@ -99,9 +104,21 @@ wire_streams options findings streams = carried_streams options findings (select
 
 -- 5. The warnings about a stream that can't be carried
 
+-- a PES packet that has no PTS, and no unit before it
+unfoldable pub is_unstamped_cause : UnitWarningCause → Bool
+is_unstamped_cause (causes.NoUnitBefore size) = true
+is_unstamped_cause _ = false
+
+unfoldable pub is_unstamped : UnitWarning → Bool
+is_unstamped w = is_unstamped_cause w.cause
+
+-- no PES packet comes on the PID, or none that has a PTS: then something is lost
+unfoldable pub no_unit_warning : ℕ → ℕ → List UnitWarning → Warning
+no_unit_warning program pid found = if list_any is_unstamped found then warnings.LeftOut pid (refusals.NoStamps pid) else warnings.NoUnit program pid
+
 -- it has no unit, or a stream_id that can't be written
 unfoldable pub why_not_carried : ℕ → List FindingView → ℕ → ℕ → List CarriedUnit → List Warning
-why_not_carried count findings program pid [] = warnings.NoUnit program pid ∷ pid_warnings count findings pid
+why_not_carried count findings program pid [] = no_unit_warning program pid (unit_warnings pid count findings) ∷ pid_warnings count findings pid
 why_not_carried count findings program pid (u ∷ us) = warnings.StreamId program pid u.packet u.stream_id ∷ []
 
 -- or it is left out for a reason

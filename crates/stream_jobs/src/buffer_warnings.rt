@@ -4,10 +4,9 @@ ghost use Rattle.std.specs.Prelude.{◌≡◌, ◌++◌, OnOk, option_to_list};
 ghost use Rattle.stream_jobs.specs.BufferWarnings as spec;
 
 use crate::declarations::{StreamChoice, UnitCounts, coding_for, said_coding};
-use crate::job_stream::TimedStream;
+use crate::stream_measures::StreamMeasures;
 use crate::warning::Warning;
 use clock27::SLOT_UNITS_AT_1BPS;
-use es_units::max_unit_size;
 use std::alloc::AllocError;
 use stream_choice::{Choice, keeps_framing};
 use stream_coding::{PidBuffers, buffers_of, given_buffers};
@@ -16,7 +15,7 @@ use unit_timing::shares::PARTS;
 
 // The warning about the buffer that a stream says.
 #[tactic(auto, unfolding(crate::specs::BufferWarnings::header_warning))]
-fn header_warning(given: &[PidBuffers], stream: &TimedStream) -> Option<Warning>
+fn header_warning(given: &[PidBuffers], stream: &StreamMeasures) -> Option<Warning>
     ensures { option_to_list result ≡ spec.header_warning given.now stream.now }
 {
     if given_buffers(given, stream.pid).is_some() {
@@ -30,7 +29,7 @@ fn header_warning(given: &[PidBuffers], stream: &TimedStream) -> Option<Warning>
     Some(Warning::HeaderBuffer {
         pid: stream.pid,
         said,
-        unit: max_unit_size(&stream.units),
+        unit: stream.units.largest,
         counted,
     })
 }
@@ -38,7 +37,7 @@ fn header_warning(given: &[PidBuffers], stream: &TimedStream) -> Option<Warning>
 // Appends the warning about the buffer that a stream says.
 fn push_header_warning(
     given: &[PidBuffers],
-    stream: &TimedStream,
+    stream: &StreamMeasures,
     warnings: &mut Vec<Warning>,
 ) -> Result<(), AllocError>
     ensures { OnOk result (warnings.new.items ≡ warnings.old.items ++ spec.header_warning given.now stream.now) }
@@ -52,7 +51,7 @@ fn push_header_warning(
 // Appends the warnings about the buffers that streams say.
 fn push_header_warnings(
     given: &[PidBuffers],
-    streams: &[TimedStream],
+    streams: &[StreamMeasures],
     warnings: &mut Vec<Warning>,
 ) -> Result<(), AllocError>
     ensures { OnOk result (warnings.new.items ≡ warnings.old.items ++ spec.header_warnings given.now streams.now) }
@@ -88,7 +87,7 @@ fn unkept_leak(found: Option<MultiplexingBuffer>, kept: Option<MultiplexingBuffe
 // The warning about a multiplexing buffer that nothing keeps.
 #[tactic(auto, unfolding(crate::specs::BufferWarnings::leak_warning))]
 fn leak_warning(
-    stream: &TimedStream,
+    stream: &StreamMeasures,
     unit_counts: &UnitCounts,
     choice: StreamChoice,
 ) -> Option<Warning>
@@ -107,7 +106,7 @@ fn leak_warning(
 // Appends the warning about a multiplexing buffer that nothing keeps.
 #[tactic(auto, unfolding(crate::specs::BufferWarnings::leak_warnings_of))]
 fn push_leak_warning(
-    stream: &TimedStream,
+    stream: &StreamMeasures,
     unit_counts: &UnitCounts,
     choice: StreamChoice,
     warnings: &mut Vec<Warning>,
@@ -123,7 +122,7 @@ fn push_leak_warning(
 
 // Appends the warnings about multiplexing buffers that nothing keeps.
 fn push_leak_warnings(
-    streams: &[TimedStream],
+    streams: &[StreamMeasures],
     unit_counts: &[UnitCounts],
     choices: &[StreamChoice],
     warnings: &mut Vec<Warning>,
@@ -167,7 +166,7 @@ fn unkept_frames(unit_counts: &UnitCounts, choice: Choice) -> Option<u8>
 // The warning about access units that a choice does not keep.
 #[tactic(auto, unfolding(crate::specs::BufferWarnings::frame_warning))]
 fn frame_warning(
-    stream: &TimedStream,
+    stream: &StreamMeasures,
     unit_counts: &UnitCounts,
     choice: StreamChoice,
 ) -> Option<Warning>
@@ -185,7 +184,7 @@ fn frame_warning(
 // Appends the warning about access units that a choice does not keep.
 #[tactic(auto, unfolding(crate::specs::BufferWarnings::frame_warnings_of))]
 fn push_frame_warning(
-    stream: &TimedStream,
+    stream: &StreamMeasures,
     unit_counts: &UnitCounts,
     choice: StreamChoice,
     warnings: &mut Vec<Warning>,
@@ -201,7 +200,7 @@ fn push_frame_warning(
 
 // Appends the warnings about access units that no choice keeps.
 fn push_frame_warnings(
-    streams: &[TimedStream],
+    streams: &[StreamMeasures],
     unit_counts: &[UnitCounts],
     choices: &[StreamChoice],
     warnings: &mut Vec<Warning>,
@@ -231,7 +230,7 @@ fn push_frame_warnings(
 /// multiplexing buffers that nothing keeps, then about access units that a main buffer does not hold one by one.
 pub(crate) fn push_buffer_warnings(
     given: &[PidBuffers],
-    streams: &[TimedStream],
+    streams: &[StreamMeasures],
     unit_counts: &[UnitCounts],
     choices: &[StreamChoice],
     warnings: &mut Vec<Warning>,

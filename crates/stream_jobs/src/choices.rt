@@ -8,13 +8,12 @@ ghost use Rattle.stream_jobs.specs.Declarations as spec;
 use crate::alike::is_alike;
 use crate::declarations::{StreamChoice, UnitCounts};
 use crate::greater_buffers::buffers_refusal;
-use crate::job_stream::TimedStream;
 use crate::refusal::JobError;
+use crate::stream_measures::StreamMeasures;
 use clock27::{LEAST_RATE, SLOT_UNITS_AT_1BPS};
 use es_units::UnitRuns;
 use given_values::DeclareBy;
-use pes_packet::Unit;
-use std::alloc::{AllocError, Global};
+use std::alloc::Global;
 use stream_choice::{
     Choice, Needs, PacedUnits, are_max_packets, choose_groups, choose_pace, delay_before,
     leaking_needs, least_share, preferred,
@@ -70,13 +69,13 @@ pub(crate) fn shares_of(all: &[UnitCounts]) -> u64
 }
 
 // The units of a stream, whose bursts are known at any pace.
-#[derive(Drop)]
-struct StreamBursts {
-    runs: UnitRuns,
+#[derive(Clone, Copy)]
+struct StreamBursts<'a> {
+    runs: &'a UnitRuns,
 }
 
-impl PacedUnits for StreamBursts {
-    ghost burst = { λ s. spec.burst_of_runs s.runs };
+impl<'a> PacedUnits for StreamBursts<'a> {
+    ghost burst = { λ s. spec.burst_of s.runs.now };
 
     fn burst_at(&self, pace: u32) -> u64 {
         self.runs.burst_packets(pace)
@@ -107,24 +106,22 @@ pub(crate) fn groups_of(
 /// Returns what it declares by pace.
 #[tactic(auto, unfolding(crate::specs::Declarations::pace_of))]
 pub(crate) fn pace_of(
-    alloc: Global,
     greatest_lead: u32,
     sum: u64,
     buffer: Option<MultiplexingBuffer>,
-    units: &[Unit],
+    units: &UnitRuns,
     unit_counts: &UnitCounts,
-) -> Result<Option<Choice>, AllocError>
+) -> Option<Choice>
     requires { 2 ^ 17 ≤ sum }
-    ensures { IfOk result (λ choice. choice ≡ spec.pace_of greatest_lead sum buffer units.now unit_counts.now) }
+    ensures { result ≡ spec.pace_of greatest_lead sum buffer units.now unit_counts.now }
 {
     let needs = leaking_needs(buffer, unit_counts.needs);
     if !needs.is_in_range() {
-        return Ok(None);
+        return None;
     }
     let lead = greatest_lead.min(90_000);
     let delay = delay_before(buffer, needs, sum);
-    let runs = UnitRuns::of_units(alloc, 0, units)?;
-    Ok(choose_pace(needs, &StreamBursts { runs }, delay, lead))
+    choose_pace(needs, &StreamBursts { runs: units }, delay, lead)
 }
 
 // What a stream that is counted so declares by groups, where that is asked for, with its multiplexing buffer.
@@ -179,46 +176,43 @@ fn asked_groups(
 // What it declares, where by groups it declares this.
 #[tactic(auto, unfolding(crate::specs::Declarations::asked_groups))]
 fn choice_of(
-    alloc: Global,
     declare_by: DeclareBy,
     by_groups: Option<Choice>,
     greatest_lead: u32,
     sum: u64,
     buffer: Option<MultiplexingBuffer>,
-    units: &[Unit],
+    units: &UnitRuns,
     unit_counts: &UnitCounts,
-) -> Result<Option<Choice>, AllocError>
+) -> Option<Choice>
     requires sum { 2 ^ 17 ≤ sum }
     requires groups { by_groups ≡ spec.asked_groups declare_by greatest_lead sum buffer unit_counts.now }
-    ensures { IfOk result (λ choice. choice ≡ spec.choice_of declare_by greatest_lead sum buffer units.now unit_counts.now) }
+    ensures { result ≡ spec.choice_of declare_by greatest_lead sum buffer units.now unit_counts.now }
 {
     match declare_by {
-        DeclareBy::Groups => Ok(by_groups),
-        DeclareBy::Pace => pace_of(alloc, greatest_lead, sum, buffer, units, unit_counts),
+        DeclareBy::Groups => by_groups,
+        DeclareBy::Pace => pace_of(greatest_lead, sum, buffer, units, unit_counts),
         DeclareBy::Either => {
-            let by_pace = pace_of(alloc, greatest_lead, sum, buffer, units, unit_counts)?;
-            Ok(preferred(by_groups, by_pace))
+            let by_pace = pace_of(greatest_lead, sum, buffer, units, unit_counts);
+            preferred(by_groups, by_pace)
         }
     }
 }
 
 // It, with the multiplexing buffer that it keeps.
 fn kept(
-    alloc: Global,
     declare_by: DeclareBy,
     by_groups: Option<Choice>,
     greatest_lead: u32,
     sum: u64,
     buffer: Option<MultiplexingBuffer>,
-    units: &[Unit],
+    units: &UnitRuns,
     unit_counts: &UnitCounts,
-) -> Result<Option<StreamChoice>, AllocError>
+) -> Option<StreamChoice>
     requires sum { 2 ^ 17 ≤ sum }
     requires groups { by_groups ≡ spec.asked_groups declare_by greatest_lead sum buffer unit_counts.now }
-    ensures { IfOk result (λ k. k ≡ spec.kept declare_by greatest_lead sum buffer units.now unit_counts.now) }
+    ensures { result ≡ spec.kept declare_by greatest_lead sum buffer units.now unit_counts.now }
 {
     match choice_of(
-        alloc,
         declare_by,
         by_groups,
         greatest_lead,
@@ -226,35 +220,33 @@ fn kept(
         buffer,
         units,
         unit_counts,
-    )? {
-        None => Ok(None),
-        Some(choice) => Ok(Some(StreamChoice {
+    ) {
+        None => None,
+        Some(choice) => Some(StreamChoice {
             choice,
             multiplexing: buffer,
-        })),
+        }),
     }
 }
 
 // What a stream declares with its multiplexing buffer, where by groups it declares this; else with one main buffer.
 #[tactic(auto, unfolding(crate::specs::Declarations::first_kept))]
 fn first_kept(
-    alloc: Global,
     declare_by: DeclareBy,
     by_groups: Option<Choice>,
     greatest_lead: u32,
     sum: u64,
-    units: &[Unit],
+    units: &UnitRuns,
     unit_counts: &UnitCounts,
-) -> Result<Option<StreamChoice>, AllocError>
+) -> Option<StreamChoice>
     requires sum { 2 ^ 17 ≤ sum }
     requires groups { by_groups ≡ spec.asked_groups declare_by greatest_lead sum unit_counts.now.multiplexing unit_counts.now }
-    ensures { IfOk result (λ k. k ≡ spec.first_kept
+    ensures { result ≡ spec.first_kept
         (spec.kept declare_by greatest_lead sum unit_counts.now.multiplexing units.now unit_counts.now)
-        (spec.kept declare_by greatest_lead sum None units.now unit_counts.now)) }
+        (spec.kept declare_by greatest_lead sum None units.now unit_counts.now) }
 {
     let buffer = unit_counts.multiplexing;
     let first = kept(
-        alloc,
         declare_by,
         by_groups,
         greatest_lead,
@@ -262,13 +254,12 @@ fn first_kept(
         buffer,
         units,
         unit_counts,
-    )?;
+    );
     if first.is_some() {
-        return Ok(first);
+        return first;
     }
     let others = groups_if_asked(declare_by, greatest_lead, sum, None, unit_counts);
     kept(
-        alloc,
         declare_by,
         others,
         greatest_lead,
@@ -287,23 +278,22 @@ fn chosen(
     by_groups: Option<Choice>,
     greatest_lead: u32,
     sum: u64,
-    stream: &TimedStream,
+    stream: &StreamMeasures,
     unit_counts: &UnitCounts,
 ) -> Result<StreamChoice, JobError>
     requires sum { 2 ^ 17 ≤ sum }
     requires groups { by_groups ≡ spec.asked_groups declare_by greatest_lead sum unit_counts.now.multiplexing unit_counts.now }
     ensures { Answers (spec.chosen declare_by greatest_lead sum (stream.now, unit_counts.now)) result }
 {
-    let units = stream.units.as_slice();
+    let units = &stream.units.runs;
     match first_kept(
-        alloc,
         declare_by,
         by_groups,
         greatest_lead,
         sum,
         units,
         unit_counts,
-    )? {
+    ) {
         Some(choice) => Ok(choice),
         None => {
             let refusal = buffers_refusal(
@@ -326,7 +316,7 @@ fn each_choice(
     declare_by: DeclareBy,
     greatest_lead: u32,
     sum: u64,
-    streams: &[TimedStream],
+    streams: &[StreamMeasures],
     all: &[UnitCounts],
 ) -> Result<Vec<StreamChoice>, JobError>
     requires { 2 ^ 17 ≤ sum }
@@ -369,7 +359,7 @@ pub(crate) fn choices(
     alloc: Global,
     declare_by: DeclareBy,
     greatest_lead: u32,
-    streams: &[TimedStream],
+    streams: &[StreamMeasures],
     all: &[UnitCounts],
 ) -> Result<Vec<StreamChoice>, JobError>
     ensures chosen { IfOk result (λ chosen. spec.choices declare_by greatest_lead streams.now all.now ≡ Ok chosen.items) }

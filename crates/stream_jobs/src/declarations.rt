@@ -1,23 +1,21 @@
 //! The counts of a stream's units.
 
-ghost use Rattle.std.specs.Prelude.{◌≡◌, ◌≤◌, map, IfErr, IfNone, IfOk, List, Ok, All};
-ghost use Rattle.pes_packet.specs.AccessUnits.{AccessUnit};
-ghost use Rattle.es_units.specs.Declaration.{counted_packets, max_unit_size};
-ghost use Rattle.stream_coding.specs.Frames.{no_frames, all_frames};
+ghost use Rattle.std.specs.Prelude.{◌≡◌, ◌≤◌, IfErr, IfNone, IfOk, Ok, All};
 ghost use Rattle.stream_jobs.specs.Answers.{Answers, Refuses};
 ghost use Rattle.stream_jobs.specs.Declarations as spec;
 ghost use Rattle.stream_jobs.specs.Jobs.{FitsQueue};
 
 use crate::job_stream::TimedStream;
 use crate::refusal::{JobError, JobRefusal};
-use es_units::{CountedPackets, max_unit_size, min_interval};
-use pes_packet::{Unit, greatest_size};
+use crate::stream_measures::StreamMeasures;
+use es_units::CountedPackets;
+use pes_packet::greatest_size;
 use std::alloc::{AllocError, Global};
 use std::marker::Model;
 use stream_choice::{Choice, Needs};
 use stream_coding::{
-    Buffers, Coding, FrameKind, PidBuffers, UnitFrames, buffers_of, coding_holding, coding_of,
-    frame_kind, given_buffers, multiplexing_of, unit_frames,
+    Buffers, Coding, PidBuffers, buffers_of, coding_holding, coding_of, given_buffers,
+    multiplexing_of,
 };
 use unit_timing::framing::Framing;
 use unit_timing::multiplexing_buffer::MultiplexingBuffer;
@@ -96,12 +94,15 @@ fn units_refusal(stream: &TimedStream) -> JobRefusal
 }
 
 /// Returns the refusal of a stream that has more units than a job may have.
-#[tactic(auto, unfolding(crate::specs::Declarations::length_refusal, crate::specs::Declarations::is_too_long))]
-pub(crate) fn units_fault(stream: &TimedStream) -> Option<JobRefusal>
+#[tactic(auto, unfolding(crate::specs::Declarations::length_refusal))]
+pub(crate) fn units_fault(stream: &StreamMeasures) -> Option<JobRefusal>
     ensures { result ≡ spec.length_refusal stream.now }
 {
-    if stream.units.len() > MAX_UNITS {
-        Some(units_refusal(stream))
+    if stream.units.count > MAX_UNITS {
+        Some(JobRefusal::Units {
+            pid: stream.pid,
+            count: stream.units.count,
+        })
     } else {
         None
     }
@@ -119,35 +120,24 @@ pub(crate) fn too_long(streams: &[TimedStream]) -> Option<JobRefusal>
     }
 }
 
-// The bytes of the first unit.
-#[tactic(auto, unfolding(crate::specs::Declarations::first_bytes))]
-fn first_bytes(stream: &TimedStream) -> &[u8]
-    ensures { result.now ≡ spec.first_bytes stream.now.units }
-{
-    match stream.units.first() {
-        Some(unit) => unit.bytes.as_slice(),
-        None => &[],
-    }
-}
-
 /// Returns how a stream is coded by its first unit.
-pub(crate) fn said_coding(stream: &TimedStream) -> Coding
+pub(crate) fn said_coding(stream: &StreamMeasures) -> Coding
     ensures { result ≡ spec.said_coding stream.now }
 {
-    coding_of(stream.stream_type, &stream.descriptors, first_bytes(stream))
+    coding_of(stream.stream_type, &stream.descriptors, &stream.first)
 }
 
 /// Returns how a stream is coded: by its first unit, and by a buffer that holds its greatest one.
 #[tactic(auto, unfolding(crate::specs::Declarations::coding_for))]
-pub(crate) fn coding_for(stream: &TimedStream) -> Coding
+pub(crate) fn coding_for(stream: &StreamMeasures) -> Coding
     ensures { result ≡ spec.coding_for stream.now }
 {
-    coding_holding(max_unit_size(&stream.units), said_coding(stream))
+    coding_holding(stream.units.largest, said_coding(stream))
 }
 
 // The buffers of a stream: those that the options give, or those of its coding.
 #[tactic(auto, unfolding(crate::specs::Declarations::buffers_for))]
-fn buffers_for(given: &[PidBuffers], stream: &TimedStream) -> Buffers
+fn buffers_for(given: &[PidBuffers], stream: &StreamMeasures) -> Buffers
     ensures { result ≡ spec.buffers_for given.now stream.now }
 {
     match given_buffers(given, stream.pid) {
@@ -174,7 +164,7 @@ fn without_header(buffer: MultiplexingBuffer) -> MultiplexingBuffer
 
 // The multiplexing buffer of video whose buffers the options don't give.
 #[tactic(auto, unfolding(crate::specs::Declarations::multiplexing_for))]
-fn multiplexing_for(given: &[PidBuffers], stream: &TimedStream) -> Option<MultiplexingBuffer>
+fn multiplexing_for(given: &[PidBuffers], stream: &StreamMeasures) -> Option<MultiplexingBuffer>
     ensures { result ≡ spec.multiplexing_for given.now stream.now }
 {
     if given_buffers(given, stream.pid).is_some() {
@@ -186,50 +176,11 @@ fn multiplexing_for(given: &[PidBuffers], stream: &TimedStream) -> Option<Multip
     }
 }
 
-// The access units of a unit as a description declares them.
-#[tactic(auto, unfolding(crate::specs::Declarations::framing_of))]
-fn framing_of(frames: UnitFrames) -> Option<Framing>
-    ensures { result ≡ spec.framing_of frames }
-{
-    if frames.count <= 64 && frames.time < 1 << 32 {
-        Some(Framing {
-            frames: frames.count as u8,
-            frame: frames.time as u32,
-            frame_size: frames.largest,
-        })
-    } else {
-        None
-    }
-}
-
-// The frames of all units; none if a unit is not whole frames.
-fn all_frames(kind: FrameKind, units: &[Unit]) -> Option<UnitFrames>
-    ensures { result ≡ all_frames kind no_frames (map (λ u. u.bytes) units.now) }
-{
-    let mut frames = UnitFrames::none();
-    let mut left = units;
-    while let Some((unit, later)) = left.split_first() {
-        let others = unit_frames(kind, unit.bytes.as_slice())?;
-        frames = frames.joined(others);
-        left = later;
-    }
-    Some(frames)
-}
-
-// The access units of a stream's units, if it is sound whose units are whole frames.
-#[tactic(auto, unfolding(crate::specs::Declarations::framing_for))]
-fn framing_for(stream: &TimedStream) -> Option<Framing>
-    ensures { result ≡ spec.framing_for stream.now }
-{
-    let kind = frame_kind(stream.stream_type, &stream.descriptors)?;
-    framing_of(all_frames(kind, &stream.units)?)
-}
-
 // The greatest number of packets of `group` units in a row, as a number of 32 bits.
 #[tactic(auto, unfolding(crate::specs::Declarations::packets_of_group))]
 fn packets_of_group(packets: &CountedPackets, group: usize) -> u32
     requires { group ≤ 64 }
-    ensures { (us : List AccessUnit) → packets.now ≡ counted_packets 0 0 us → result ≡ spec.packets_of_group us group }
+    ensures { result ≡ spec.packets_of_group packets.now group }
 {
     let most = packets.of_group(group as u8);
     most.min(u64::from(u32::MAX)) as u32
@@ -237,23 +188,23 @@ fn packets_of_group(packets: &CountedPackets, group: usize) -> u32
 
 // The greatest number of packets of 1, 2, .. units in a row.
 #[tactic(auto, unfolding(crate::specs::Declarations::max_group_packets))]
-fn max_group_packets(alloc: Global, stream: &TimedStream) -> Result<Vec<u32>, AllocError>
+fn max_group_packets(alloc: Global, stream: &StreamMeasures) -> Result<Vec<u32>, AllocError>
     ensures { IfOk result (λ packets. packets.items ≡ spec.max_group_packets stream.now) }
 {
-    let packets = CountedPackets::of_units(alloc, 0, &stream.units)?;
-    let groups = stream.units.len().min(MAX_GROUP);
+    let packets = &stream.units.packets;
+    let groups = stream.units.count.min(MAX_GROUP);
     (0..groups)
-        .map(|before| packets_of_group(&packets, before + 1))
+        .map(|before| packets_of_group(packets, before + 1))
         .collect(alloc)
 }
 
 // The refusal of a stream with a unit that is too large whatever its buffers.
 #[tactic(auto, unfolding(crate::specs::Declarations::size_refusal))]
-fn size_refusal(stream: &TimedStream) -> Option<JobRefusal>
+fn size_refusal(stream: &StreamMeasures) -> Option<JobRefusal>
     ensures value { result ≡ spec.size_refusal stream.now }
-    ensures bound { IfNone result (max_unit_size stream.now.units ≤ 4000000) }
+    ensures bound { IfNone result (stream.now.units.largest ≤ 4000000) }
 {
-    let size = max_unit_size(&stream.units);
+    let size = stream.units.largest;
     if size > greatest_size(stream.stream_id) {
         Some(JobRefusal::Size {
             pid: stream.pid,
@@ -266,14 +217,14 @@ fn size_refusal(stream: &TimedStream) -> Option<JobRefusal>
 
 // What the units of a stream need.
 #[tactic(auto, unfolding(crate::specs::Declarations::needs_of))]
-fn needs_of(given: &[PidBuffers], stream: &TimedStream) -> Needs
-    requires { max_unit_size stream.now.units ≤ 4000000 }
+fn needs_of(given: &[PidBuffers], stream: &StreamMeasures) -> Needs
+    requires { stream.now.units.largest ≤ 4000000 }
     ensures { result ≡ spec.needs_of given.now stream.now }
 {
     let buffers = buffers_for(given, stream);
     Needs {
-        interval: min_interval(&stream.units),
-        size: max_unit_size(&stream.units) as u32,
+        interval: stream.units.interval,
+        size: stream.units.largest as u32,
         rx: buffers.rx,
         main: buffers.main,
     }
@@ -284,7 +235,7 @@ fn needs_of(given: &[PidBuffers], stream: &TimedStream) -> Needs
 pub(crate) fn count_stream(
     alloc: Global,
     given: &[PidBuffers],
-    stream: &TimedStream,
+    stream: &StreamMeasures,
 ) -> Result<UnitCounts, JobError>
     ensures { Answers (spec.unit_counts given.now stream.now) result }
 {
@@ -293,7 +244,7 @@ pub(crate) fn count_stream(
     }
     let needs = needs_of(given, stream);
     let multiplexing = multiplexing_for(given, stream);
-    let framing = framing_for(stream);
+    let framing = stream.framing;
     let max_group_packets = max_group_packets(alloc, stream)?;
     Ok(UnitCounts {
         needs,
@@ -308,7 +259,7 @@ pub(crate) fn count_stream(
 pub(crate) fn count_units(
     alloc: Global,
     given: &[PidBuffers],
-    streams: &[TimedStream],
+    streams: &[StreamMeasures],
 ) -> Result<Vec<UnitCounts>, JobError>
     ensures unit_counts { IfOk result (λ all. spec.all_unit_counts given.now streams.now ≡ Ok all.items) }
     ensures refused { IfErr result (Refuses (spec.all_unit_counts given.now streams.now)) }

@@ -6,10 +6,10 @@ ghost use Rattle.stream_jobs.specs.OddStreams as odd;
 
 use crate::choices::{groups_of, pace_of};
 use crate::declarations::UnitCounts;
-use crate::job_stream::TimedStream;
 use crate::refusal::{GreaterBuffers, JobRefusal};
+use crate::stream_measures::StreamMeasures;
+use es_units::UnitRuns;
 use given_values::DeclareBy;
-use pes_packet::Unit;
 use std::alloc::{AllocError, Global};
 use stream_choice::Needs;
 
@@ -44,25 +44,21 @@ fn large_buffers() -> GreaterBuffers
 // Whether something lets units into one main buffer.
 #[tactic(auto, unfolding(crate::specs::Declarations::is_declared))]
 fn is_declared(
-    alloc: Global,
     declare_by: DeclareBy,
     greatest_lead: u32,
     sum: u64,
-    units: &[Unit],
+    units: &UnitRuns,
     unit_counts: &UnitCounts,
-) -> Result<bool, AllocError>
+) -> bool
     requires { 2 ^ 17 ≤ sum }
-    ensures { IfOk result (λ is. is ≡ spec.is_declared declare_by greatest_lead sum units.now unit_counts.now) }
+    ensures { result ≡ spec.is_declared declare_by greatest_lead sum units.now unit_counts.now }
 {
     match declare_by {
-        DeclareBy::Groups => Ok(groups_of(greatest_lead, sum, None, unit_counts).is_some()),
-        DeclareBy::Pace => {
-            let by_pace = pace_of(alloc, greatest_lead, sum, None, units, unit_counts)?;
-            Ok(by_pace.is_some())
-        }
+        DeclareBy::Groups => groups_of(greatest_lead, sum, None, unit_counts).is_some(),
+        DeclareBy::Pace => pace_of(greatest_lead, sum, None, units, unit_counts).is_some(),
         DeclareBy::Either => {
-            let by_pace = pace_of(alloc, greatest_lead, sum, None, units, unit_counts)?;
-            Ok(by_pace.is_some() || groups_of(greatest_lead, sum, None, unit_counts).is_some())
+            pace_of(greatest_lead, sum, None, units, unit_counts).is_some()
+                || groups_of(greatest_lead, sum, None, unit_counts).is_some()
         }
     }
 }
@@ -96,7 +92,7 @@ fn is_way_out(
     declare_by: DeclareBy,
     greatest_lead: u32,
     sum: u64,
-    units: &[Unit],
+    units: &UnitRuns,
     unit_counts: &UnitCounts,
     buffers: GreaterBuffers,
 ) -> Result<bool, AllocError>
@@ -105,7 +101,7 @@ fn is_way_out(
         (spec.with_buffers buffers unit_counts.now)) }
 {
     let greater = with_buffers(alloc, buffers, unit_counts)?;
-    is_declared(alloc, declare_by, greatest_lead, sum, units, &greater)
+    Ok(is_declared(declare_by, greatest_lead, sum, units, &greater))
 }
 
 // The first of the buffers that are tried into which something lets units.
@@ -115,7 +111,7 @@ fn way_out(
     declare_by: DeclareBy,
     greatest_lead: u32,
     sum: u64,
-    units: &[Unit],
+    units: &UnitRuns,
     unit_counts: &UnitCounts,
 ) -> Result<Option<GreaterBuffers>, AllocError>
     requires { 2 ^ 17 ≤ sum }
@@ -144,13 +140,13 @@ pub(crate) fn buffers_refusal(
     declare_by: DeclareBy,
     greatest_lead: u32,
     sum: u64,
-    stream: &TimedStream,
+    stream: &StreamMeasures,
     unit_counts: &UnitCounts,
 ) -> Result<JobRefusal, AllocError>
     requires { 2 ^ 17 ≤ sum }
     ensures { IfOk result (λ why. why ≡ spec.buffers_refusal declare_by greatest_lead sum stream.now unit_counts.now) }
 {
-    let units = stream.units.as_slice();
+    let units = &stream.units.runs;
     let way_out = way_out(alloc, declare_by, greatest_lead, sum, units, unit_counts)?;
     Ok(JobRefusal::Buffers {
         pid: stream.pid,
@@ -167,14 +163,14 @@ pub(crate) fn alone_refusal(
     alloc: Global,
     declare_by: DeclareBy,
     greatest_lead: u32,
-    stream: &TimedStream,
+    stream: &StreamMeasures,
     unit_counts: &UnitCounts,
 ) -> Result<Option<JobRefusal>, AllocError>
     ensures { IfOk result (λ why. why ≡ odd.odd_buffers declare_by greatest_lead stream.now unit_counts.now) }
 {
     let sum = u64::MAX;
-    let units = stream.units.as_slice();
-    if is_declared(alloc, declare_by, greatest_lead, sum, units, unit_counts)? {
+    let units = &stream.units.runs;
+    if is_declared(declare_by, greatest_lead, sum, units, unit_counts) {
         return Ok(None);
     }
     let why = buffers_refusal(alloc, declare_by, greatest_lead, sum, stream, unit_counts)?;

@@ -19,6 +19,7 @@ use crate::job_stream::TimedStream;
 use crate::job_tables::JobTable;
 use crate::program_clock::is_clock_on;
 use crate::refusal::JobError;
+use crate::stream_measures::all_measured;
 use crate::timed_streams::timed_streams;
 use crate::warning::Warning;
 use demux::Finding;
@@ -106,18 +107,19 @@ fn with_moved(
     if let Some(refusal) = too_long(&streams) {
         return Err(JobError::Refused(refusal));
     }
-    let unit_counts = count_units(alloc, options.buffers, &streams)?;
+    let measures = all_measured(alloc, &streams)?;
+    let unit_counts = count_units(alloc, options.buffers, &measures)?;
     let choices = choices(
         alloc,
         options.declare_by,
         options.lead,
-        &streams,
+        &measures,
         &unit_counts,
     )?;
     let mut warnings = warnings;
     push_buffer_warnings(
         options.buffers,
-        &streams,
+        &measures,
         &unit_counts,
         &choices,
         &mut warnings,

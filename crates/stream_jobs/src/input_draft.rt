@@ -157,7 +157,7 @@ fn with_streams(
     ensures streams { IfOk result (λ d. All (IsMoved options.now.make_dts (map finding_view findings.now))
         (map (drafts.timed_stream (map finding_view findings.now)) d.streams)) }
 {
-    if let Some(refusal) = nothing_carried(&warnings, &streams) {
+    if let Some(refusal) = nothing_carried(options.strict, &warnings, &streams) {
         return Err(JobError::Refused(refusal));
     }
     let earliest = earliest_of(&programs, &tables, &streams);

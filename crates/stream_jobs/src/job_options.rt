@@ -22,6 +22,8 @@ pub struct JobOptions<'a> {
     pub declare_by: DeclareBy,
     /// Whether DTS are made from the PTS.
     pub make_dts: bool,
+    /// Whether a stream that can't be carried refuses the input.
+    pub strict: bool,
     /// What the system clock shows as the run begins.
     pub base: ClockBase,
     /// The network, in place of the stream's network.
@@ -51,6 +53,7 @@ impl<'a> Model for JobOptions<'a> {
       lead = o.lead;
       declare_by = o.declare_by;
       make_dts = o.make_dts;
+      strict = o.strict;
       base = o.base;
       network = option_map network_name_view o.network;
       names = o.names.now;

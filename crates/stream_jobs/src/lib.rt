@@ -44,6 +44,7 @@ mod program_clock;
 mod rates;
 mod refusal;
 mod renumbered_inputs;
+mod stream_measures;
 mod table_check;
 mod table_lines;
 mod timed_streams;

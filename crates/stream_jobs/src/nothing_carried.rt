@@ -1,4 +1,4 @@
-//! Why no stream is carried.
+//! Why no stream is carried, or a stream is not.
 
 ghost use Rattle.std.specs.Prelude.{◌≡◌};
 ghost use Rattle.stream_jobs.specs.JobInput as spec;
@@ -7,10 +7,10 @@ use crate::job_stream::WireStream;
 use crate::refusal::JobRefusal;
 use crate::warning::Warning;
 
-// The refusal for a warning, if there is one.
+// The refusal for a warning, if there is one; `some` if streams are carried.
 #[tactic(auto, unfolding(crate::specs::JobInput::why_nothing))]
-fn why_nothing(warning: Warning) -> Option<JobRefusal>
-    ensures { result ≡ spec.why_nothing warning }
+fn why_nothing(some: bool, warning: Warning) -> Option<JobRefusal>
+    ensures { result ≡ spec.why_nothing some warning }
 {
     match warning {
         Warning::StreamId {
@@ -21,7 +21,7 @@ fn why_nothing(warning: Warning) -> Option<JobRefusal>
         } => Some(JobRefusal::StreamId { packet, pid, id }),
         Warning::LeftOut { why, .. } => Some(why),
         Warning::Units { warning, .. } => {
-            if warning.cause.is_scrambled() {
+            if !some && warning.cause.is_scrambled() {
                 Some(JobRefusal::Scrambled)
             } else {
                 None
@@ -32,27 +32,31 @@ fn why_nothing(warning: Warning) -> Option<JobRefusal>
 }
 
 // That for the first one that has one.
-fn first_why(warnings: &[Warning]) -> Option<JobRefusal>
-    ensures { result ≡ spec.first_why warnings.now }
+fn first_why(some: bool, warnings: &[Warning]) -> Option<JobRefusal>
+    ensures { result ≡ spec.first_why some warnings.now }
 {
     for warning in warnings {
-        if let Some(refusal) = why_nothing(*warning) {
+        if let Some(refusal) = why_nothing(some, *warning) {
             return Some(refusal);
         }
     }
     None
 }
 
-/// The refusal of a transport stream of which no stream is carried, since none can be written, is clear, or fits a job.
+/// Returns the refusal of a transport stream of which no stream is carried, since none can be written, is clear, or fits a
+/// job; if `strict`, also if one stream is not carried.
 #[tactic(auto, unfolding(crate::specs::JobInput::nothing_carried))]
 pub(crate) fn nothing_carried(
+    strict: bool,
     warnings: &[Warning],
     streams: &[WireStream<'_>],
 ) -> Option<JobRefusal>
-    ensures { result ≡ spec.nothing_carried warnings.now streams.now }
+    ensures { result ≡ spec.nothing_carried strict warnings.now streams.now }
 {
     if streams.is_empty() {
-        first_why(warnings)
+        first_why(false, warnings)
+    } else if strict {
+        first_why(true, warnings)
     } else {
         None
     }

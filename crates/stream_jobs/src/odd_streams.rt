@@ -4,6 +4,7 @@ ghost use Rattle.std.specs.Prelude.{◌≡◌, ◌<◌, ◌^◌, IfOk, IfErr, On
 ghost use Rattle.demux.specs.Shown.{finding_view};
 ghost use Rattle.es_units.specs.Stamps.{moved};
 ghost use Rattle.es_units.specs.UnitMoments.{moment_of};
+ghost use Rattle.stream_jobs.specs.Declarations.{measured};
 ghost use Rattle.stream_jobs.specs.Moments.{wire_of};
 ghost use Rattle.stream_jobs.specs.OddStreams as spec;
 
@@ -13,14 +14,13 @@ use crate::job_options::JobOptions;
 use crate::job_stream::{TimedStream, WireStream};
 use crate::moved_streams::stamps_refusal;
 use crate::refusal::{JobError, JobRefusal};
+use crate::stream_measures::{StreamMeasures, found_measured, measured};
 use clock27::STAMP_MODULUS;
 use demux::Finding;
 use es_units::{FoundUnit, StampError, UnitMoment, WireUnit, found_moments, units_at};
 use pes_packet::Unit;
 use std::alloc::{AllocError, Global};
-
-/// The least stream_id of video (ISO/IEC 13818-1, table 2-22).
-const FIRST_VIDEO: u8 = 0xe0;
+use stream_coding::frame_kind;
 
 // What the clock shows if the first unit is due at once.
 #[tactic(auto, unfolding(crate::specs::OddStreams::own_base, crate::specs::Moments::first_dts))]
@@ -121,12 +121,28 @@ fn alone(
     })
 }
 
+// The measures of a stream at these moments; its bytes are copied only if they may be frames of sound.
+fn odd_measures(
+    alloc: Global,
+    stream: &WireStream<'_>,
+    moments: &[UnitMoment],
+) -> Result<StreamMeasures, AllocError>
+    requires { moments.now ≡ map moment_of (moved (spec.own_base stream.now) None (wire_of stream.now)) }
+    ensures { IfOk result (λ m. m ≡ measured (spec.alone stream.now)) }
+{
+    if frame_kind(stream.stream_type, &stream.descriptors).is_none() {
+        return found_measured(alloc, stream, moments);
+    }
+    let copy = alone(alloc, stream, moments)?;
+    measured(alloc, &copy)
+}
+
 // The refusal of a stream whose units nothing declares.
 #[tactic(auto, unfolding(crate::specs::OddStreams::odd_units, crate::specs::OddStreams::odd_counts, crate::specs::OddStreams::first_odd, crate::specs::Answers::Answers, crate::specs::Answers::Refuses))]
 fn odd_units(
     alloc: Global,
     options: &JobOptions<'_>,
-    stream: &TimedStream,
+    stream: &StreamMeasures,
 ) -> Result<Option<JobRefusal>, AllocError>
     ensures { IfOk result (λ odd. odd ≡ spec.odd_units options.now stream.now) }
 {
@@ -146,7 +162,7 @@ fn odd_units(
     }
 }
 
-// The same of a stream on the wire, unless it is video.
+// The same of a stream on the wire.
 #[tactic(auto, unfolding(crate::specs::OddStreams::odd_bytes))]
 fn odd_bytes(
     alloc: Global,
@@ -157,12 +173,8 @@ fn odd_bytes(
     requires { moments.now ≡ map moment_of (moved (spec.own_base stream.now) None (wire_of stream.now)) }
     ensures { IfOk result (λ odd. odd ≡ spec.odd_bytes options.now stream.now) }
 {
-    if stream.stream_id < FIRST_VIDEO {
-        let stream = alone(alloc, stream, moments)?;
-        odd_units(alloc, options, &stream)
-    } else {
-        Ok(None)
-    }
+    let measures = odd_measures(alloc, stream, moments)?;
+    odd_units(alloc, options, &measures)
 }
 
 /// Returns why a stream with units is left out, if it is: its stamps, or units that nothing declares.

@@ -38,6 +38,8 @@ pub enum JobRefusal {
     Programs(usize),
     /// A description has at most 32 streams.
     Streams(usize),
+    /// The PES packets of a PID have no PTS.
+    NoStamps(u16),
     /// The units of a PID have two stream_ids.
     OtherStreamId {
         packet: u64,

@@ -1,6 +1,7 @@
 //! The streams of a transport stream, their units with the stamps on the wire.
 
 ghost use Rattle.std.specs.Prelude.{◌≡◌, ◌++◌, IfOk, IfErr, OnOk, Ok, All, flat_map, map, option_to_list};
+ghost use Rattle.std.specs.List.{list_any};
 ghost use Rattle.demux.specs.Shown.{finding_view};
 ghost use Rattle.stream_jobs.specs.Answers.{Answers, Refuses};
 ghost use Rattle.stream_jobs.specs.Jobs.{IsCarried};
@@ -16,7 +17,10 @@ use crate::refusal::{JobError, JobRefusal};
 use crate::warning::Warning;
 use crate::warnings::push_pid_warnings;
 use demux::Finding;
-use es_units::{DtsError, FoundUnit, first_other, found_units, units_with_made_dts, written_id};
+use es_units::{
+    DtsError, FoundUnit, UnitWarning, UnitWarningCause, first_other, found_units, unit_warnings,
+    units_with_made_dts, written_id,
+};
 use std::alloc::{AllocError, Global};
 use stream_coding::is_ac3;
 use stream_programs::FoundStream;
@@ -144,6 +148,37 @@ pub(crate) fn is_selected_stream(without: &[u16], stream: &FoundStream) -> bool
     !is_among(stream.pid, without)
 }
 
+// Whether it is about a PES packet that has no PTS, and no unit before it.
+#[tactic(auto, unfolding(crate::specs::WireStreams::is_unstamped, crate::specs::WireStreams::is_unstamped_cause))]
+fn is_unstamped(warning: &UnitWarning) -> bool
+    ensures { result ≡ spec.is_unstamped warning.now }
+{
+    match warning.cause {
+        UnitWarningCause::NoUnitBefore(_) => true,
+        _ => false,
+    }
+}
+
+// Whether one of these is such a warning.
+fn has_unstamped(found: &[UnitWarning]) -> bool
+    ensures { result ≡ list_any spec.is_unstamped found.now }
+{
+    found.iter().any(|warning| is_unstamped(warning))
+}
+
+// The warning about a stream without a unit: no PES packet comes, or none that has a PTS.
+#[tactic(auto, unfolding(crate::specs::WireStreams::no_unit_warning))]
+fn no_unit_warning(program: u16, pid: u16, found: &[UnitWarning]) -> Warning
+    ensures { result ≡ spec.no_unit_warning program pid found.now }
+{
+    if has_unstamped(found) {
+        let why = JobRefusal::NoStamps(pid);
+        Warning::LeftOut { pid, why }
+    } else {
+        Warning::NoUnit { program, pid }
+    }
+}
+
 // Appends the warnings about a stream that can't be carried.
 #[tactic(auto, unfolding(crate::specs::WireStreams::why_not_carried))]
 fn push_empty_stream_warnings(
@@ -170,7 +205,8 @@ fn push_empty_stream_warnings(
             Ok(())
         }
         None => {
-            warnings.push(Warning::NoUnit { program, pid })?;
+            let found = unit_warnings(alloc, pid, count, findings)?;
+            warnings.push(no_unit_warning(program, pid, &found))?;
             push_pid_warnings(alloc, pid, count, findings, warnings)
         }
     }

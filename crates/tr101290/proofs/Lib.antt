@@ -7,3 +7,4 @@ pub mod Entries
 mod LastPackets
 pub mod IntervalExamples
 pub mod Members
+pub mod Judging

@@ -14,3 +14,7 @@ pub mod Parts
 pub mod References
 pub mod Packets
 pub mod ReferenceLaws
+pub mod Homes
+pub mod Distances
+pub mod Stamps
+pub mod RateJudges

@@ -1,5 +1,5 @@
 -- Laws of the measured values, over the definitions alone.
-use Rattle.std.specs.Prelude.{◌≡◌, ◌↔◌, ℕ, ◌+◌, ◌-◌, ◌*◌, ◌/◌, ◌<◌, ◌≤◌, List, [], ◌∷◌}
+use Rattle.std.specs.Prelude.{◌≡◌, ◌↔◌, ℕ, ◌+◌, ◌-◌, ◌*◌, ◌/◌, ◌<◌, ◌≤◌, List, [], ◌∷◌, ◌++◌}
 use Rattle.clock27.specs.Units.{byte_ticks_at_1bps}
 use Rattle.arrival.specs.declared.clock.PcrSample.{PcrSample}
 use Rattle.arrival.specs.declared.line.Line.{Line}
@@ -7,7 +7,9 @@ use Rattle.arrival.specs.Clock.{state_of}
 use Rattle.arrival.specs.Lines.{parts_at}
 use Rattle.tr101290.specs.declared.watch.PcrTiming.{PcrTiming}
 use Rattle.tr101290.specs.Measures.{rounded_up, time_of_bytes, parts_off, nanoseconds_off}
+use Rattle.tr101290.specs.RateJudges.{JudgeState, after_all, all_errors, errors_all, if_constant, last_errors, no_rate}
 use Rattle.tr101290.specs.Watches.{PcrState, no_reference, taken}
+use Rattle.tr101290.specs.declared.report.PcrReport.{PcrReport}
 
 -- a value that is rounded up is beyond a whole limit exactly where the exact one is
 abbrev pub RoundedUpLaw : Type 0
@@ -43,3 +45,11 @@ watch_of timing (sample ∷ earlier) = taken (watch_of timing earlier) sample
 -- the clock that is kept is the one that the references give: so the report on each is that beside all before it
 abbrev pub ClockLaw : Type 0
 ClockLaw = (timing : PcrTiming) (samples : List PcrSample) → ((watch_of timing samples).clock ≡ state_of samples) × ((watch_of timing samples).timing ≡ timing)
+
+-- what is given of accuracy errors, with what is given at the end: all that were held and all later ones, or none where the rate varies
+abbrev pub JudgedFrom : JudgeState → List (ℕ × PcrReport) → Type 0
+JudgedFrom s rs = errors_all s rs ++ last_errors (after_all s rs) ≡ if_constant (after_all s rs) (s.held ++ all_errors rs)
+
+-- so of a whole stream all accuracy errors are given, or none: peaks are not lost, and where the rate varies no error is given
+abbrev pub JudgeLaw : Type 0
+JudgeLaw = (rs : List (ℕ × PcrReport)) → JudgedFrom no_rate rs

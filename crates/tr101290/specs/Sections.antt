@@ -1,10 +1,11 @@
 -- Where sections begin, by what is found in a stream: in the packet that has their table_id, whether or not they become whole. Which part of
 -- their table they are is known once they are whole.
-use Rattle.std.specs.Prelude.{ℕ, Option, Some, None}
+use Rattle.std.specs.Prelude.{ℕ, ◌+◌, ◌*◌, nat_lt, if◌then◌else◌, List, slice_index, Option, Some, None}
 use Rattle.demux.specs.declared.finding.Kind.{Kind}
 use Rattle.demux.specs.declared.finding.Kind.TheVariants.{Table, Pes}
-use Rattle.demux.specs.Views.{FindingView, WhatView}
+use Rattle.demux.specs.Views.{FindingView, WhatView, IsDuplicate, BreaksCounter, IsScrambled, IsTruncated, IsSection, IsBadSection, IsPes, IsBadPes, IsBadPacket, IsErrored}
 use Rattle.tr101290.specs.Parts.{part_of}
+use Rattle.tr101290.specs.declared.distances.WholeSection.{WholeSection}
 use Rattle.tr101290.specs.declared.intervals.SectionBegin.{SectionBegin}
 
 unfoldable pub begin_of : ℕ → ℕ → Kind → WhatView → Option SectionBegin
@@ -18,3 +19,27 @@ section_by (Some pid) (Some begun) what = begin_of pid begun.0 begun.1 what
 
 abbrev pub section_begin : FindingView → Option SectionBegin
 section_begin finding = section_by finding.pid finding.begun finding.what
+
+-- a section that is whole, with its table_id_extension, bytes 3 and 4, where section_syntax_indicator is 1 (ISO/IEC 13818-1, 2.4.4.11)
+abbrev pub extension_in : List ℕ → ℕ
+extension_in bytes = if nat_lt (slice_index bytes 1) 128 then 0 else slice_index bytes 3 * 256 + slice_index bytes 4
+
+unfoldable pub extension_of : WhatView → Option ℕ
+extension_of (IsSection bytes) = Some (extension_in bytes)
+extension_of IsDuplicate = None
+extension_of (BreaksCounter expected found) = None
+extension_of IsScrambled = None
+extension_of (IsTruncated bytes) = None
+extension_of (IsBadSection error) = None
+extension_of (IsPes header unended body) = None
+extension_of (IsBadPes error) = None
+extension_of (IsBadPacket error) = None
+extension_of IsErrored = None
+
+unfoldable pub whole_by : Option SectionBegin → Option ℕ → ℕ → Option WholeSection
+whole_by None extension end = None
+whole_by (Some begin) None end = None
+whole_by (Some begin) (Some extension) end = Some (record { begin = begin; extension = extension; end = end })
+
+abbrev pub whole_section : FindingView → Option WholeSection
+whole_section finding = whole_by (section_begin finding) (extension_of finding.what) finding.packet

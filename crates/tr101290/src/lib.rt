@@ -6,6 +6,7 @@
 //! - [`PcrWatches`]: takes the packets of a stream, and gives a report on each reference: one [`PcrWatch`] a PID is kept.
 //! - [`PcrReport`]: where the clock continues or restarts, the rate that two references give, the time between them, how
 //!   far one lies from where it ought to; and which of these is an error. [`PcrCounts`]: reports counted, with their greatest values.
+//! - [`RateJudge`]: whether the references say that the rate is constant; without it their accuracy says nothing.
 //! - [`pcr_laws`]: there is an error exactly where the exact value is beyond its limit.
 //!
 //! Tables (also ETSI TR 101 211, 4.4): the greatest time from one section of a table_id on a PID to the next, and which of these
@@ -14,6 +15,8 @@
 //! - [`TableIntervals`]: takes where sections begin ([`section_begin`]); keeps one entry for each PID and table_id, and one for each
 //!   part of a table whose parts have to come again by themselves ([`has_parts`]), whatever the length of the stream.
 //! - [`limit_of`]: the time within which a table has to come again.
+//! - [`SectionDistances`]: takes whole sections ([`whole_section`]), and finds those that begin within 25 ms after the one before.
+//! - [`belongs`]: which tables may be on a PID.
 //! - [`interval_laws`]: an entry describes all sections of its PID and table_id.
 //!
 //! PIDs that the tables of a stream name, beside the PIDs that have packets:
@@ -25,12 +28,16 @@
 //!   table 2-3; ETSI EN 300 468, table 1), and 8,191 null packets: no table has to name them. PIDs that CA descriptors or the CAT
 //!   alone name are not counted as named.
 //!
+//! Presentation time stamps (2.5): [`PtsWatch`] finds those that come more than 700 ms after the one before.
+//!
 //! Times are ticks of 27 MHz, of tables also packets (a packet lasts 40,608,000,000 / R ticks at R bits a second), inaccuracies
 //! nanoseconds. They are rounded up, so that a value is beyond a whole limit exactly where the exact one is; a rate is rounded down.
 #![tactic(auto)]
 
 mod continuity;
 mod counts;
+mod distances;
+mod homes;
 pub mod interval_laws;
 mod intervals;
 mod limits;
@@ -38,16 +45,20 @@ mod measures;
 mod packets;
 mod parts;
 pub mod pcr_laws;
+mod rate_judge;
 pub mod reference_laws;
 mod references;
 mod report;
 mod sample;
 mod sections;
+mod stamps;
 mod watch;
 mod watches;
 
 pub use continuity::{ContinuityError, ContinuityWatch};
 pub use counts::PcrCounts;
+pub use distances::{LEAST_DISTANCE, SectionDistances, WholeSection, time_within};
+pub use homes::belongs;
 pub use intervals::{
     SectionBegin, SectionPlaces, TableEntries, TableError, TableIntervals, TableTiming, key_of,
     pid_of, table_id_of, time_between,
@@ -55,9 +66,11 @@ pub use intervals::{
 pub use limits::limit_of;
 pub use packets::{missing_pids, unreferenced_pids};
 pub use parts::has_parts;
+pub use rate_judge::{PAIRS, PidError, RateJudge};
 pub use references::referenced_pids;
 pub use report::{GREATEST_INACCURACY, GREATEST_INTERVAL, Inaccuracy, PcrError, PcrReport};
 pub use sample::pcr_sample;
-pub use sections::section_begin;
+pub use sections::{section_begin, whole_section};
+pub use stamps::{GREATEST_PTS_INTERVAL, PtsError, PtsWatch};
 pub use watch::{PcrTiming, PcrWatch};
 pub use watches::{PcrEntries, PcrWatches};

@@ -20,8 +20,8 @@ pub fn has_parts(pid: u16, table_id: u8) -> bool
     is_map(table_id) || (pid == 0x12 && (table_id == 0x4E || table_id == 0x4F))
 }
 
-// A byte; 0 past the end.
-fn byte_at(bytes: &[u8], at: usize) -> u8
+/// Returns a byte, or 0 past the end.
+pub(crate) fn byte_at(bytes: &[u8], at: usize) -> u8
     ensures { result ≡ slice_index bytes.now at }
 {
     match bytes.get(at) {

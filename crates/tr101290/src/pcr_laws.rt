@@ -1,6 +1,6 @@
 //! Laws of the measured values. Each is a function that does nothing: its contract is the law, over the definitions of `specs/`
 //! alone, and a caller may cite it.
-ghost use Rattle.tr101290.specs.PcrLaws.{RoundedUpLaw, IntervalLaw, InaccuracyLaw, PlaceLaw, WholeTicksLaw, ClockLaw};
+ghost use Rattle.tr101290.specs.PcrLaws.{RoundedUpLaw, IntervalLaw, InaccuracyLaw, PlaceLaw, WholeTicksLaw, ClockLaw, JudgeLaw};
 
 /// States that a value is beyond its limit exactly where the exact one is.
 pub fn rounding()
@@ -18,4 +18,9 @@ pub fn places()
 /// States that the watches keep the references.
 pub fn references()
     ensures { ClockLaw }
+{}
+
+/// States that of a whole stream all accuracy errors are given if the rate is not said to vary, and none if it is.
+pub fn judged()
+    ensures { JudgeLaw }
 {}

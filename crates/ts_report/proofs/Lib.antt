@@ -3,5 +3,8 @@ pub mod Packets
 pub mod ClockedPackets
 pub mod Tables
 pub mod Sections
+pub mod HeaderTables
 pub mod TablePackets
 pub mod Videos
+pub mod Frames
+pub mod Framings

@@ -2,6 +2,8 @@
 use Rattle.std.specs.Prelude.{ℕ, ◌==◌, ◌||◌, is_some, min, Bool, if◌then◌else◌, List, length, Option, Some, None}
 use Rattle.std.specs.List.{list_any}
 use Rattle.stream_coding.specs.declared.coding.Coding.{Coding}
+use Rattle.stream_coding.specs.declared.frame_headers.FrameKind.{FrameKind}
+use Rattle.stream_coding.specs.FrameHeaders.{frame_kind}
 use Rattle.stream_coding.specs.declared.buffers.Buffers.{Buffers}
 use Rattle.stream_coding.specs.declared.buffers.PidBuffers.{PidBuffers}
 use Rattle.stream_coding.specs.Buffers.{buffers_of, given_buffers, joined_buffers_of, multiplexing_of}
@@ -51,3 +53,7 @@ rates_if (Some m) elementary = Some (record { rbx = m.rbx; multiplexing = m.size
 
 abbrev pub rates_for : ChoiceView → ℕ → Coding → Option VideoRates
 rates_for choice pid coding = if is_some (given_buffers choice.buffers pid) then None else rates_if (multiplexing_of coding) (buffers_of coding).main
+
+-- which frames the sound of a stream has whose main buffer is viewed by access units: none is viewed so where the PID's buffers are given
+abbrev pub frames_for : ChoiceView → ℕ → ℕ → List ℕ → Option FrameKind
+frames_for choice pid stream_type descriptors = if is_some (given_buffers choice.buffers pid) then None else frame_kind stream_type descriptors

@@ -3,12 +3,15 @@ use Rattle.std.specs.Prelude.{ℕ, ◌+◌, ◌/◌, is_some, unwrap_or, Bool, i
 use Rattle.tr101290.specs.declared.report.PcrError.{PcrError}
 use Rattle.tr101290.specs.declared.report.PcrReport.{PcrReport}
 use Rattle.tr101290.specs.Counts.{rate_of}
-use Rattle.tr101290.specs.Errors.{accuracy_error, discontinuity_error, repetition_error}
+use Rattle.tr101290.specs.Errors.{discontinuity_error, repetition_error}
 use Rattle.tr101290.specs.PidWatches.{WatchesState}
+use Rattle.tr101290.specs.RateJudges.{JudgeState}
 use Rattle.tr101290.specs.Watches.{PcrState}
+use Rattle.tr101290.specs.declared.rate_judge.PidError.{PidError}
 use Rattle.events.specs.declared.event.ClockFault.{ClockFault}
 use Rattle.events.specs.declared.event.Event.{Event}
 use Rattle.events.specs.declared.event.Event.TheVariants as found
+use Rattle.events.specs.declared.rule_event.RuleEvent.TheVariants as rules
 use Rattle.ts_report.specs.declared.clock_events.ClockRule.{ClockRule}
 use Rattle.ts_report.specs.declared.clock_events.ClockRule.TheVariants.{Repetition, Discontinuity, Accuracy}
 
@@ -29,20 +32,28 @@ error_events rule pid (Some e) = error_event rule pid e ∷ []
 
 abbrev pub report_events : ℕ → PcrReport → List Event
 report_events pid report =
-    error_events Repetition pid (repetition_error report)
-    ++ (error_events Discontinuity pid (discontinuity_error report) ++ error_events Accuracy pid (accuracy_error report))
+    error_events Repetition pid (repetition_error report) ++ error_events Discontinuity pid (discontinuity_error report)
 
 unfoldable pub report_events_if : ℕ → Option PcrReport → List Event
 report_events_if pid None = []
 report_events_if pid (Some report) = report_events pid report
 
--- their number
+-- its accuracy, where that says something
+abbrev pub inaccuracy_events : List PidError → List Event
+inaccuracy_events errors = map (λ e. error_event Accuracy e.pid e.error) errors
+
+-- and where it is decided that it does not
+abbrev pub variable_events : Bool → ℕ → JudgeState → List Event
+variable_events varies packet judge =
+    if varies then found.Rule (rules.VariableRate (record { packet = packet; pairs = judge.pairs; apart = judge.apart })) ∷ [] else []
+
+-- their number, without that of accuracy
 abbrev pub one_if : Bool → ℕ
 one_if there = if there then 1 else 0
 
 unfoldable pub errors_in : Option PcrReport → ℕ
 errors_in None = 0
-errors_in (Some report) = one_if (is_some (repetition_error report)) + one_if (is_some (discontinuity_error report)) + one_if (is_some (accuracy_error report))
+errors_in (Some report) = one_if (is_some (repetition_error report)) + one_if (is_some (discontinuity_error report))
 
 -- 2. At the end, of each PID with references
 

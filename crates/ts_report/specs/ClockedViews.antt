@@ -7,6 +7,7 @@ use Rattle.clocked_packets.specs.declared.packet_queue.ClockPid.{ClockPid}
 use Rattle.clocked_packets.specs.declared.packet_queue.ClockPid.TheVariants.{OfFirst, OfProgram}
 use Rattle.events.specs.declared.event.Event.{Event}
 use Rattle.ts_report.specs.Choices.{RequestView}
+use Rattle.ts_report.specs.Moments.{has_moments, moment_at}
 use Rattle.ts_report.specs.Seen.{arrival_events}
 use Rattle.ts_report.specs.Views.{IsView, ViewState, arriving}
 use Rattle.ts_report.specs.Views as views
@@ -94,8 +95,22 @@ unfoldable pub last_events : ViewState → Option QueueState → List Event
 last_events v None = []
 last_events v (Some q) = events_with v q (last_arrival q)
 
+unfoldable pub queue_ended : Option QueueState → Option QueueState
+queue_ended None = None
+queue_ended (Some q) = Some (with_held q [])
+
+abbrev pub ended : ClockedState → ClockedState
+ended s = record { view = last_view s.view s.queue; queue = queue_ended s.queue }
+
 abbrev pub end_events : ClockedState → ℕ → List Event
 end_events s left = last_events s.view s.queue ++ views.end_events (last_view s.view s.queue) left
+
+-- when the packet at an index arrives, as packets arrive now
+abbrev pub moment_in : ClockedState → ℕ → Option ℕ
+moment_in s index = moment_at s.view.seen.options index
+
+abbrev pub is_clocked : ClockedState → Bool
+is_clocked s = has_moments s.view.seen.options.arrival
 
 -- nothing is wrong
 abbrev pub is_good : ClockedState → ℕ → Bool

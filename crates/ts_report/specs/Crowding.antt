@@ -7,7 +7,7 @@ use Rattle.ts_report.specs.declared.view.View.{View}
 
 -- the units of a stream before the one under way whose bytes wait in its main buffer, and the most of them
 abbrev pub units_waiting : StreamEntry → ℕ
-units_waiting entry = length entry.buffers.view.main.earlier.items
+units_waiting entry = length entry.seen.buffers.view.main.earlier.items
 
 abbrev pub most_waiting : ℕ
 most_waiting = 4096

@@ -14,6 +14,7 @@ use Rattle.system_tables.specs.Programs.{ProgramState}
 use Rattle.system_tables.specs.Programs as programs
 use Rattle.tr101290.specs.PidWatches.{WatchesState, report_at}
 use Rattle.tr101290.specs.PidWatches as watching
+use Rattle.tr101290.specs.RateJudges.{JudgeState}
 use Rattle.tr101290.specs.declared.report.PcrReport.{PcrReport}
 use Rattle.tr101290.specs.declared.watch.PcrTiming.{PcrTiming}
 use Rattle.tr101290.specs.declared.watch.PcrTiming.TheVariants.{ConstantRate, References}
@@ -33,14 +34,16 @@ use Rattle.ts_report.specs.Clocks.{ClockEntries, clocks_after, no_clocks}
 use Rattle.ts_report.specs.ClockEvents.{clock_events, errors_in, report_events_if}
 use Rattle.ts_report.specs.Choices.{ChoiceView}
 use Rattle.ts_report.specs.ReferenceEvents.{reference_events}
+use Rattle.ts_report.specs.RuleEvents.{RuleState, accuracy_count, accuracy_events, judge_after, no_rule, packet_events, with_judge}
+use Rattle.ts_report.specs.RuleEvents as rules
 use Rattle.ts_report.specs.SystemEvents.{excess_events}
-use Rattle.ts_report.specs.TableEvents.{TablesState, no_tables, table_events}
+use Rattle.ts_report.specs.TableEvents.{TablesState, has_table, no_tables, table_events}
 use Rattle.ts_report.specs.TableEvents as tables
 use Rattle.ts_report.specs.WindowEvents.{pid_events, window_of}
 
 -- the number of packets, and of those that are refused or have transport_error_indicator; the window of the last packet that is
 -- not; the packets of each PID; the last clock reference of each, and what all of them came to, by the rate, with the number of
--- their errors; the sections of tables; the buffers of programs' tables; the streams that are named; and the names of their services
+-- their errors; time stamps, scrambled packets and the judge of the rate; the sections of tables; the buffers of programs' tables; the streams that are named; and the names of their services
 pub record SeenState : Type 0 where
   pub options : ViewOptions
   pub packets : ℕ
@@ -51,6 +54,7 @@ pub record SeenState : Type 0 where
   pub clocks : ClockEntries
   pub watches : WatchesState
   pub errors : ℕ
+  pub rules : RuleState
   pub tables : TablesState
   pub systems : Option (List ProgramState)
   pub named : NamedView
@@ -80,6 +84,7 @@ nothing_seen options = record {
   clocks = no_clocks;
   watches = watching.no_packet (timing_of options.arrival);
   errors = 0;
+  rules = no_rule (table_timing options.arrival);
   tables = no_tables (table_timing options.arrival);
   systems = None;
   named = none_taken;
@@ -131,19 +136,32 @@ without s = record s { packets = one_more s.packets; refused = one_more s.refuse
 abbrev pub refused_events : SeenState → RefusalCause → List Event
 refused_events s cause = found.Refused (record { packet = s.packets; cause = cause }) ∷ []
 
--- one that can: its clock reference, with its errors, and then it enters the buffers of programs' tables and its PID is counted
+-- one that can: its clock reference, with its errors, its time stamp and whether it is scrambled, and then it enters the buffers of programs' tables and its PID is counted
 abbrev pub report_on : SeenState → PacketView → Option PcrReport
 report_on s packet = report_at s.watches s.packets packet
+
+-- what the reference leaves of the judge of the rate, and how many errors of accuracy count with it
+abbrev pub with_accuracy : SeenState → ℕ → Option PcrReport → SeenState
+with_accuracy s pid report = record s { rules = with_judge s.rules (judge_after (timing_of s.options.arrival) s.rules.judge pid report) }
+
+abbrev pub judge_on : SeenState → PacketView → JudgeState
+judge_on s packet = judge_after (timing_of s.options.arrival) s.rules.judge packet.header.pid (report_on s packet)
+
+abbrev pub inaccurate_on : SeenState → PacketView → ℕ
+inaccurate_on s packet = accuracy_count (timing_of s.options.arrival) s.rules.judge packet.header.pid (report_on s packet)
 
 abbrev pub with_clock : SeenState → PacketView → SeenState
 with_clock s packet = record s {
   clocks = clocks_after s.clocks s.options.arrival s.packets packet;
   watches = watching.taken s.watches s.packets packet;
-  errors = min (s.errors + errors_in (report_on s packet)) (2 ^ 64 - 1);
+  rules = rules.taken (with_judge s.rules (judge_on s packet)) s.options.arrival s.packets packet;
+  errors = min (min (s.errors + errors_in (report_on s packet)) (2 ^ 64 - 1) + inaccurate_on s packet) (2 ^ 64 - 1);
 }
 
 abbrev pub clock_errors : SeenState → PacketView → List Event
 clock_errors s packet = report_events_if packet.header.pid (report_on s packet)
+    ++ (accuracy_events (timing_of s.options.arrival) s.rules.judge s.packets packet.header.pid (report_on s packet)
+    ++ packet_events s.rules s.options.arrival s.packets s.named packet)
 
 abbrev pub next_window : SeenState → ℕ
 next_window s = window_of s.options s.packets
@@ -194,9 +212,10 @@ counter_events s bytes (Ok packet) = if packet.header.transport_error_indicator 
 abbrev pub with_named : SeenState → List ℕ → SeenState
 with_named s bytes = record s { named = naming.taken s.named bytes; services = naming_services.taken s.services (naming.taken s.named bytes) bytes }
 
--- at the end: clock references by PID, tables, all packets by PID, and which of these are not named or have none
+-- at the end: clock references by PID, tables, all packets by PID, which of these are not named or have none, and what is held of accuracy
 abbrev pub pid_ends : SeenState → List Event
-pid_ends s = clock_events s.watches ++ (table_events s.tables ++ (pid_events s.totals ++ reference_events s.named s.totals))
+pid_ends s = clock_events s.watches ++ (table_events s.tables ++ (pid_events s.totals ++ (reference_events s.named s.totals
+    ++ rules.end_events s.rules s.packets (has_table s.tables 0x01 0x01))))
 
 -- the end, with the bytes that are left after the last whole packet
 abbrev pub end_event : SeenState → ℕ → Event

@@ -1,5 +1,5 @@
 -- The streams whose buffers have begun.
-use Rattle.std.specs.Prelude.{◌≡◌, ℕ, ◌+◌, ◌&&◌, not, nat_eq, is_some, unwrap_or, Bool, if◌then◌else◌, List, [], ◌∷◌, ◌++◌, drop, length, set, slice_get, flat_map, Option, Some, None}
+use Rattle.std.specs.Prelude.{◌≡◌, ℕ, ◌+◌, ◌*◌, ◌&&◌, not, nat_eq, is_some, unwrap_or, Bool, if◌then◌else◌, List, [], ◌∷◌, ◌++◌, drop, length, set, slice_get, flat_map, Option, Some, None}
 use Rattle.std.specs.List.{list_all}
 use Rattle.std.specs.Map.{lookup}
 use Rattle.indexmap.specs.IndexMap.{insert_entry}
@@ -11,19 +11,24 @@ use Rattle.stream_coding.specs.Codings.{coding_of}
 use Rattle.stream_programs.specs.Streams.{FoundStreamView}
 use Rattle.ts_tables.specs.NamedStreams.{NamedView, stream_of}
 use Rattle.ts_tables.specs.NamedStreams as naming
-use Rattle.tstd_rows.specs.Held.{empty}
+use Rattle.tstd_rows.specs.Held.{Held, empty}
 use Rattle.events.specs.declared.event.Event.{Event}
 use Rattle.ts_report.specs.declared.stream_entry.StreamEntry.{StreamEntry}
 use Rattle.ts_report.specs.declared.stream_table.StreamTable.{StreamTable}
 use Rattle.ts_report.specs.declared.view_options.ViewOptions.{ViewOptions}
-use Rattle.ts_report.specs.Choices.{ChoiceView, buffers_for, chosen, rates_for}
+use Rattle.ts_report.specs.Choices.{ChoiceView, buffers_for, chosen, frames_for, rates_for}
 use Rattle.ts_report.specs.Clocks.{ClockEntries, clock_of}
-use Rattle.ts_report.specs.Entries.{EntryState, IsEntry, end_events, entry_after, entry_events, units_of}
+use Rattle.ts_report.specs.Entries.{EntryState, Framed, IsEntry, end_events, entry_after, entry_events, units_of}
+use Rattle.ts_report.specs.EntryFrames.{unit_in}
+use Rattle.stream_coding.specs.declared.frame_headers.FrameKind.{FrameKind}
+use Rattle.stream_coding.specs.FrameWalks.{no_walk}
+use Rattle.stream_coding.specs.Stays.{longest_stay}
 use Rattle.ts_report.specs.Entries.{is_good as entry_is_good}
 use Rattle.ts_report.specs.EntryEvents.{stream_event}
 use Rattle.ts_report.specs.Tallies.{none_counted}
 use Rattle.ts_report.specs.VideoFigures.{sizes_if}
 use Rattle.ts_report.specs.VideoTallies.{none_of_video}
+use Rattle.ts_report.specs.MarkTallies.{none_marked}
 use Rattle.tstd_rows.specs.declared.video_buffers.VideoRates.{VideoRates}
 
 -- which streams are viewed, the place of each PID, and the streams
@@ -49,15 +54,6 @@ pub record IsTable (table : StreamTable) (t : TableState) : Type 0 where
 
 -- 1. Where buffers begin
 
--- the bytes of a payload after the header of the PES packet that it begins: PES_header_data_length is its byte 8 (ISO/IEC
--- 13818-1, 2.4.3.6)
-unfoldable pub unit_after : List ℕ → Option ℕ → List ℕ
-unit_after payload None = []
-unit_after payload (Some length) = drop (9 + length) payload
-
-abbrev pub unit_in : List ℕ → List ℕ
-unit_in payload = unit_after payload (slice_get payload 8)
-
 -- the coding of a stream by its entry in the map and by the packet in which its first PES packet begins
 abbrev pub coding_by : FoundStreamView → PacketView → Coding
 coding_by stream packet = coding_of stream.stream_type stream.descriptors (unit_in (unwrap_or packet.payload []))
@@ -75,8 +71,20 @@ abbrev pub beginning : NamedView → TableState → PacketView → Option FoundS
 beginning named t packet =
     if packet.header.payload_unit_start_indicator && not (is_some (lookup (nat_eq packet.header.pid) t.places)) then chosen t.choice (stream_of named packet.header.pid) else None
 
-abbrev pub new_entry : ViewOptions → ℕ → ℕ → Buffers → Option VideoRates → EntryState
-new_entry options pid clock_pid buffers rates = record {
+-- of sound its frames, if its main buffer is viewed by access units
+abbrev pub stream_frames : TableState → FoundStreamView → PacketView → Option FrameKind
+stream_frames t stream packet = frames_for t.choice packet.header.pid stream.stream_type stream.descriptors
+
+-- how long its bytes may stay, in ticks
+abbrev pub stream_limit : FoundStreamView → ℕ
+stream_limit stream = longest_stay stream.stream_type stream.descriptors * 27000000
+
+unfoldable pub new_framed : Held → Option FrameKind → Option Framed
+new_framed held None = None
+new_framed held (Some kind) = Some (record { walk = no_walk kind; tick = 0; held = held; tally = none_counted })
+
+abbrev pub new_entry : ViewOptions → ℕ → ℕ → Buffers → Option VideoRates → Option FrameKind → ℕ → EntryState
+new_entry options pid clock_pid buffers rates kind limit = record {
   pid = pid;
   clock_pid = clock_pid;
   counter = None;
@@ -84,6 +92,10 @@ new_entry options pid clock_pid buffers rates = record {
   tally = none_counted;
   video = sizes_if (step_of options.arrival) buffers.rx rates;
   video_tally = none_of_video;
+  mark_tally = none_marked;
+  framed = new_framed (empty (step_of options.arrival) buffers.rx buffers.main) kind;
+  limit = limit;
+  delayed = 0;
 }
 
 abbrev pub with_entry : TableState → ℕ → EntryState → TableState
@@ -92,7 +104,8 @@ with_entry t pid e = record t { places = insert_entry nat_eq t.places pid (lengt
 unfoldable pub begun_if : ViewOptions → NamedView → TableState → PacketView → Option FoundStreamView → TableState
 begun_if options named t packet None = t
 begun_if options named t packet (Some stream) =
-    with_entry t packet.header.pid (new_entry options packet.header.pid (naming.clock_of named stream.program) (stream_buffers t stream packet) (stream_rates t stream packet))
+    with_entry t packet.header.pid (new_entry options packet.header.pid (naming.clock_of named stream.program) (stream_buffers t stream packet) (stream_rates t stream packet)
+    (stream_frames t stream packet) (stream_limit stream))
 
 abbrev pub begun : ViewOptions → NamedView → TableState → PacketView → TableState
 begun options named t packet = begun_if options named t packet (beginning named t packet)

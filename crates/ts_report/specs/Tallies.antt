@@ -1,5 +1,5 @@
 -- What is counted of a stream: excesses, units, and in a window what its buffers held and the units that ended.
-use Rattle.std.specs.Prelude.{ℕ, ◌+◌, ◌-◌, ◌^◌, ◌==◌, max, min, nat_lt, Bool, if◌then◌else◌, Option, Some, None}
+use Rattle.std.specs.Prelude.{ℕ, ◌+◌, ◌-◌, ◌^◌, ◌==◌, max, min, nat_lt, Bool, if◌then◌else◌, length, Option, Some, None}
 use Rattle.tstd_rows.specs.Entering.{EnteredView}
 use Rattle.tstd_rows.specs.Lows.{least_of_both}
 use Rattle.tstd_rows.specs.declared.unit_seen.UnitSeen.{UnitSeen}
@@ -66,3 +66,11 @@ with_excesses t transport main unread = record t {
   main_excesses = more t.main_excesses main;
   unread = more t.unread (if unread then 1 else 0);
 }
+
+-- how many excesses ended, of the transport buffer and of the main buffer
+abbrev pub excess_counts : EnteredView → ℕ × ℕ
+excess_counts e = (length e.transport, length e.main)
+
+-- what a packet, or a part of it, has ended, of which the header was read or not
+abbrev pub tally_after : Tally → ℕ → Bool → EnteredView → Tally
+tally_after t window unread e = with_unit_if (with_excesses (with_packet t window e) (length e.transport) (length e.main) unread) window e.unit

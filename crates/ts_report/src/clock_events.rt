@@ -2,9 +2,9 @@
 ghost use Rattle.std.specs.Prelude.{◌≡◌, ◌++◌, OnOk};
 ghost use Rattle.ts_report.specs.ClockEvents as spec;
 
-use events::{ClockFault, ClockTotals, Event};
+use events::{ClockFault, ClockTotals, Event, RuleEvent, VariableRate};
 use std::alloc::{AllocError, Global};
-use tr101290::{PcrError, PcrReport, PcrWatch, PcrWatches};
+use tr101290::{PcrError, PcrReport, PcrWatch, PcrWatches, PidError, RateJudge};
 
 /// What a reference is measured by (ETSI TR 101 290, 5.2.2, 2.3a, 2.3b and 2.4).
 #[derive(Clone, Copy)]
@@ -60,11 +60,10 @@ fn push_errors(events: &mut Vec<Event>, pid: u16, report: &PcrReport) -> Result<
         ClockRule::Discontinuity,
         pid,
         report.discontinuity_error(),
-    )?;
-    push_error_if(events, ClockRule::Accuracy, pid, report.accuracy_error())
+    )
 }
 
-/// Appends the errors of a reference, if there is one.
+/// Appends the errors of a reference, if there is one, except for its accuracy.
 #[tactic(auto, unfolding(crate::specs::ClockEvents::report_events_if))]
 pub(crate) fn push_report(
     events: &mut Vec<Event>,
@@ -79,7 +78,7 @@ pub(crate) fn push_report(
     }
 }
 
-/// Returns the number of errors of a reference.
+/// Returns the number of errors of a reference, except for its accuracy.
 #[tactic(auto, unfolding(crate::specs::ClockEvents::errors_in))]
 pub(crate) fn errors_in(report: &Option<PcrReport>) -> u64
     ensures { result ≡ spec.errors_in report.now }
@@ -89,9 +88,40 @@ pub(crate) fn errors_in(report: &Option<PcrReport>) -> u64
         Some(report) => {
             u64::from(report.repetition_error().is_some())
                 + u64::from(report.discontinuity_error().is_some())
-                + u64::from(report.accuracy_error().is_some())
         }
     }
+}
+
+/// Appends accuracy errors.
+pub(crate) fn push_inaccuracies(
+    events: &mut Vec<Event>,
+    errors: &[PidError],
+) -> Result<(), AllocError>
+    ensures { OnOk result (events.new.items ≡ events.old.items ++ spec.inaccuracy_events errors.now) }
+{
+    for error in errors {
+        events.push(error_event(ClockRule::Accuracy, error.pid, error.error))?;
+    }
+    Ok(())
+}
+
+/// Appends that the rate varies, as is decided at a packet, if it does.
+pub(crate) fn push_variable_if(
+    events: &mut Vec<Event>,
+    varies: bool,
+    packet: u64,
+    judge: &RateJudge,
+) -> Result<(), AllocError>
+    ensures { OnOk result (events.new.items ≡ events.old.items ++ spec.variable_events varies packet judge.now) }
+{
+    if varies {
+        events.push(Event::Rule(RuleEvent::VariableRate(VariableRate {
+            packet,
+            pairs: judge.pairs(),
+            apart: judge.apart(),
+        })))?;
+    }
+    Ok(())
 }
 
 fn clock_event(pid: u16, watch: &PcrWatch) -> Event

@@ -6,6 +6,7 @@ ghost use Rattle.ts_report.specs.ClockedViews.{ClockedState, IsClocked};
 ghost use Rattle.ts_report.specs.Crowding.{is_crowded};
 ghost use Rattle.ts_report.specs.Views.{IsView, ViewState};
 
+use crate::moments::{has_moments, moment_at};
 use crate::view::View;
 use crate::view_request::ViewRequest;
 use arrival::Arrival;
@@ -145,10 +146,9 @@ impl ClockedView {
     }
 
     // The packets that wait at the end.
-    #[tactic(auto, unfolding(crate::specs::ClockedViews::last_view, crate::specs::ClockedViews::last_events))]
+    #[tactic(auto, unfolding(crate::specs::ClockedViews::last_view, crate::specs::ClockedViews::last_events, crate::specs::ClockedViews::queue_ended))]
     fn view_last(&mut self, events: &mut Vec<Event>) -> Result<(), AllocError>
-        ensures view { (s : ClockedState) → IsClocked self.old s →
-            OnOk result (IsView self.new.view (spec.last_view s.view s.queue)) }
+        ensures clocked { (s : ClockedState) → IsClocked self.old s → OnOk result (IsClocked self.new (spec.ended s)) }
         ensures found { (s : ClockedState) → IsClocked self.old s →
             OnOk result (events.new.items ≡ events.old.items ++ spec.last_events s.view s.queue) }
     {
@@ -161,6 +161,20 @@ impl ClockedView {
         }
     }
 
+    /// Returns the moment of the first byte of the packet at an index, in ticks from the stream's first byte on, as packets arrive now.
+    pub fn moment(&self, index: u64) -> Option<u128>
+        ensures { (s : ClockedState) → IsClocked self.now s → result ≡ spec.moment_in s index }
+    {
+        moment_at(&self.view.seen.options, index)
+    }
+
+    /// Returns whether a packet has a moment.
+    pub fn is_clocked(&self) -> bool
+        ensures { (s : ClockedState) → IsClocked self.now s → result ≡ spec.is_clocked s }
+    {
+        has_moments(&self.view.seen.options)
+    }
+
     /// Returns whether a stream has enough waiting units to stop the view: the memory of a view has no other bound.
     pub fn is_crowded(&self) -> bool
         ensures { result ≡ is_crowded self.now }
@@ -171,6 +185,7 @@ impl ClockedView {
     /// Ends the stream, `left` bytes after its last whole packet, and appends the last events. Returns whether nothing is wrong
     /// in it.
     pub fn end(&mut self, left: usize, events: &mut Vec<Event>) -> Result<bool, AllocError>
+        ensures clocked { (s : ClockedState) → IsClocked self.old s → OnOk result (IsClocked self.new (spec.ended s)) }
         ensures found { (s : ClockedState) → IsClocked self.old s →
             OnOk result (events.new.items ≡ events.old.items ++ spec.end_events s left) }
         ensures good { (s : ClockedState) → IsClocked self.old s → IfOk result (λ good. good ≡ spec.is_good s left) }

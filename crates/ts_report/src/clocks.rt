@@ -163,8 +163,8 @@ fn tick_of(rate: u64, clock: &PcrSample) -> u128
     (u128::from(clock.byte) * BYTE_TICKS_AT_1BPS / u128::from(rate.max(1))).min(LAST_TICK)
 }
 
-// When a unit is due, in ticks from the stream's first byte.
-fn due_tick(rate: u64, clock: &PcrSample, dts: u64) -> u128
+/// Returns when a unit is due, in ticks from the stream's first byte.
+pub(crate) fn due_tick(rate: u64, clock: &PcrSample, dts: u64) -> u128
     ensures value { result ≡ spec.due_tick rate clock.now dts }
     ensures most { result < 2 ^ 61 }
 {

@@ -1,17 +1,20 @@
 //! The state of a stream beside its buffers.
-ghost use Rattle.std.specs.Prelude.{◌≡◌, [], ◌++◌, OnOk, Result};
+ghost use Rattle.std.specs.Prelude.{◌≡◌, [], ◌++◌, IfOk, OnOk, Result};
 ghost use Rattle.bit_fields.specs.Reading.{Gives};
 ghost use Rattle.ts_packet.specs.Packets.{null_packet};
 ghost use Rattle.ts_packet.specs.Reading.{packet_at};
 ghost use Rattle.ts_packet.specs.Views.{PacketView, packet_view};
 ghost use Rattle.ts_packet.specs.declared.packet.PacketError.{PacketError};
 ghost use Rattle.tr101290.specs.Continuity.{error_at};
+ghost use Rattle.ts_report.specs.RuleEvents.{accuracy_count, accuracy_events};
 ghost use Rattle.ts_report.specs.Seen as spec;
+ghost use Rattle.ts_report.specs.Seen.{timing_of};
 ghost use Rattle.ts_report.specs.WindowEvents.{window_events};
 
 use crate::clock_events::{errors_in, push_clocks, push_report};
 use crate::clocks::Clocks;
 use crate::reference_events::push_references;
+use crate::rule_watch::RuleWatch;
 use crate::system_events::push_excesses;
 use crate::table_watch::TableWatch;
 use crate::view_choice::ViewChoice;
@@ -23,13 +26,13 @@ use pid_windows::PidWindow;
 use std::alloc::{AllocError, Global};
 use std::marker::Model;
 use system_tables::SystemTables;
-use tr101290::{ContinuityError, ContinuityWatch, PcrTiming, PcrWatches, TableTiming};
+use tr101290::{ContinuityError, ContinuityWatch, PcrReport, PcrTiming, PcrWatches, TableTiming};
 use ts_packet::{Packet, PacketError, has_pcr};
 use ts_tables::{NamedStreams, ServiceNames};
 
 /// The state of a stream beside its buffers: the number of packets, and of refused packets; the last packet of each PID; the window of the last packet; the
 /// packets of each PID; the last clock reference of each, and the counts of all of them, with the number of their errors; the
-/// sections of tables; the buffers of programs' tables; the streams that are named; and the names of their services.
+/// sections of tables; time stamps and scrambled packets; the buffers of programs' tables; the streams that are named; and the names of their services.
 #[derive(Drop)]
 pub struct Seen {
     alloc: Global,
@@ -42,6 +45,7 @@ pub struct Seen {
     pub clocks: Clocks,
     pub watches: PcrWatches<Global>,
     pub errors: u64,
+    pub rules: RuleWatch,
     pub tables: TableWatch,
     pub systems: SystemTables,
     pub named: NamedStreams,
@@ -63,6 +67,7 @@ impl Model for Seen {
       clocks = s.clocks;
       watches = s.watches;
       errors = s.errors;
+      rules = s.rules;
       tables = s.tables;
       systems = s.systems;
       named = s.named;
@@ -168,6 +173,7 @@ impl Seen {
             clocks: Clocks::new(alloc),
             watches: PcrWatches::new(alloc, timing_of(&options.arrival)),
             errors: 0,
+            rules: RuleWatch::new(alloc, table_timing(&options.arrival)),
             tables: TableWatch::new(alloc, table_timing(&options.arrival)),
             systems: SystemTables::new(alloc),
             named: NamedStreams::new(alloc),
@@ -263,7 +269,7 @@ impl Seen {
         }
     }
 
-    /// Takes the clock reference of a packet, if the packet has one, and appends its errors.
+    /// Takes the clock reference of a packet, if the packet has one, its time stamp, and whether it is scrambled, and appends their errors.
     pub fn take_clock(
         &mut self,
         packet: &Packet<'_>,
@@ -277,8 +283,33 @@ impl Seen {
             .take(&self.options.arrival, self.packets, packet)?;
         let report = self.watches.take(self.packets, packet)?;
         push_report(events, packet.header.pid, &report)?;
-        self.errors = self.errors.saturating_add(errors_in(&report));
+        let inaccurate = self.take_accuracy(packet.header.pid, &report, events)?;
+        let index = self.packets;
+        self.rules
+            .take(&self.options.arrival, index, &self.named, packet, events)?;
+        self.errors = self
+            .errors
+            .saturating_add(errors_in(&report))
+            .saturating_add(inaccurate);
         Ok(())
+    }
+
+    // Takes the report on a reference, and appends the errors of accuracy that count now. Returns their number.
+    fn take_accuracy(
+        &mut self,
+        pid: u16,
+        report: &Option<PcrReport>,
+        events: &mut Vec<Event>,
+    ) -> Result<u64, AllocError>
+        ensures seen { OnOk result (self.new ≡ spec.with_accuracy self.old pid report.now) }
+        ensures found { OnOk result (events.new.items ≡ events.old.items
+            ++ accuracy_events (timing_of self.old.options.arrival) self.old.rules.judge self.old.packets pid report.now) }
+        ensures errors { IfOk result (λ n. n
+            ≡ accuracy_count (timing_of self.old.options.arrival) self.old.rules.judge pid report.now) }
+    {
+        let timing = timing_of(&self.options.arrival);
+        self.rules
+            .take_report(timing, self.packets, pid, report, events)
     }
 
     /// Returns the window where the next packet begins.
@@ -372,7 +403,9 @@ impl Seen {
         push_clocks(events, &self.watches)?;
         self.tables.push_end(events)?;
         push_pids(events, &self.totals)?;
-        push_references(self.alloc, events, &self.named, &self.totals)
+        push_references(self.alloc, events, &self.named, &self.totals)?;
+        let has_cat = self.tables.has_table(0x01, 0x01);
+        self.rules.push_end(self.packets, has_cat, events)
     }
 
     /// Returns the end of the stream, `left` bytes after its last whole packet.

@@ -1,41 +1,50 @@
 //! A stream that the tables name, from the first packet of its buffers on.
-ghost use Rattle.std.specs.Prelude.{◌≡◌, ◌++◌, OnOk};
-ghost use Rattle.tstd_rows.specs.Entering.{entered_view};
+ghost use Rattle.std.specs.Prelude.{◌≡◌, ◌++◌, OnOk, Option};
+ghost use Rattle.tstd_rows.specs.Held.{Held};
 ghost use Rattle.ts_packet.specs.Views.{packet_view};
 ghost use Rattle.ts_report.specs.Crowding.{is_entry_crowded};
 ghost use Rattle.ts_report.specs.Entries as spec;
-ghost use Rattle.tstd_rows.specs.HeldVideo.{video_view};
+ghost use Rattle.tstd_rows.specs.HeldVideo.{HoldsVideoOf, VideoSizes};
+ghost use Rattle.ts_report.specs.EntryFrames as frames;
 ghost use Rattle.ts_report.specs.Entries.{EntryState, IsEntry};
-ghost use Rattle.ts_report.specs.EntryEvents.{ended_events};
-ghost use Rattle.ts_report.specs.VideoEvents.{video_ended_events};
 
-use crate::clocks::{Beginning, LONGEST_STAY, ahead_of, beginning_of, due_at};
-use crate::entry_events::{Place, push_ahead_if, push_closing, push_ended};
+use crate::clocks::{Beginning, LONGEST_STAY, ahead_of, beginning_of, due_at, due_tick};
+use crate::counted_buffers::{BusySeen, CountedBuffers};
+use crate::entry_events::{Place, push_ahead_if, push_closing};
+use crate::entry_frames::{EntryFrames, FramedPayload, frame_bytes};
+use crate::entry_stays::{
+    is_idle, overstay_if, payload_byte, push_busy_closing, push_busy_if, push_delayed_if,
+};
 use crate::held_events::push_window_if;
+use crate::mark_tally::{MarkTally, push_marks};
 use crate::tally::Tally;
-use crate::video_events::{push_video_closing, push_video_ended};
-use crate::video_figures::{VideoLimits, is_video_good, video_figures, video_limits};
+use crate::video_events::push_video_closing;
+use crate::video_figures::{is_video_good, video_figures};
 use crate::video_tally::VideoTally;
 use crate::view_options::ViewOptions;
 use arrival::{PCR_PERIOD, PcrSample};
-use events::Event;
+use events::{BufferKind, Event};
 use std::alloc::AllocError;
 use ts_packet::Packet;
-use tstd_rows::{Arriving, DueTime, Entered, StreamBuffers, TRANSPORT_BYTES};
+use tstd_rows::{Arriving, BusyWatch, DueTime, Stay, StreamBuffers, TRANSPORT_BYTES};
 
 /// The most units of a stream that may wait in its main buffer while more of its transport stream is viewed.
 const MOST_WAITING: usize = 4_096;
 
-/// A stream: its PID, the PID of its program's clock references, the counter of its last packet with a payload, its buffers, and what is
-/// counted of it, and of its two buffers of video.
+/// A stream: its PID, the PID of its program's clock references, the counter of its last packet with a payload, its buffers with what is
+/// counted of them, and what is counted of its two buffers of video, and of the marks of its units.
 #[derive(Drop)]
 pub(crate) struct StreamEntry {
     pub pid: u16,
     pub clock_pid: u16,
     pub counter: Option<u8>,
-    pub buffers: StreamBuffers,
-    pub tally: Tally,
+    pub seen: CountedBuffers,
     pub video_tally: VideoTally,
+    pub mark_tally: MarkTally,
+    /// Of sound that is viewed by access units, where the walk over its frames is.
+    pub frames: Option<EntryFrames>,
+    /// How long in ticks a byte may stay.
+    pub limit: u64,
 }
 
 #[tactic(auto, unfolding(crate::specs::Entries::same_counter))]
@@ -144,39 +153,110 @@ fn arriving(
     }
 }
 
-// The number of excesses that ended.
-fn excess_counts(entered: &Entered) -> (u64, u64)
-    ensures { result ≡ spec.excess_counts (entered_view entered.now) }
+// The same packet, whatever begins with it.
+fn arriving_in(
+    options: &ViewOptions,
+    index: u64,
+    rx: u32,
+    counter: Option<u8>,
+    clock: &Option<PcrSample>,
+    packet: &Packet<'_>,
+) -> Arriving
+    ensures { result ≡ spec.arriving options.now index rx counter clock.now (packet_view packet.now) }
 {
-    let transport = u64::from(entered.lead.is_some())
-        + u64::from(entered.header.is_some())
-        + u64::from(entered.payload.is_some());
-    (transport, u64::from(entered.main.is_some()))
+    let beginning = beginning_in(counter, packet);
+    arriving(options, index, rx, counter, clock, beginning, packet)
 }
 
-// Appends what has ended with a packet.
-fn push_found(
+// Its payload, among whose bytes frames begin.
+fn payload_of<'a>(
+    options: &ViewOptions,
+    index: u64,
+    rx: u32,
+    counter: Option<u8>,
+    clock: &Option<PcrSample>,
+    packet: &Packet<'a>,
+) -> FramedPayload<'a>
+    ensures { frames.payload_view result ≡ spec.payload_of options.now index rx counter clock.now (packet_view packet.now) }
+{
+    let beginning = beginning_in(counter, packet);
+    let size = packet.payload.unwrap_or(&[]).len() as u64;
+    FramedPayload {
+        arriving: arriving_in(options, index, rx, counter, clock, packet),
+        base: payload_byte(index, size),
+        tick: unit_tick(options, clock, beginning),
+        beginning,
+        bytes: frame_bytes(is_repeated(counter, packet), packet),
+    }
+}
+
+// When the unit is due that begins, in ticks from the stream's first byte; none where none does, or no clock reference has come.
+#[tactic(auto, unfolding(crate::specs::EntryFrames::unit_tick))]
+fn unit_tick(options: &ViewOptions, clock: &Option<PcrSample>, beginning: Beginning) -> Option<u128>
+    ensures { result ≡ frames.unit_tick options.now clock.now beginning }
+{
+    match beginning {
+        Beginning::Stamped(dts) => {
+            let clock = clock.as_ref()?;
+            Some(due_tick(options.arrival.step(), clock, dts))
+        }
+        _ => None,
+    }
+}
+
+// The buffer in which a byte stays that is decoded.
+#[tactic(auto, unfolding(crate::specs::Entries::last_buffer))]
+fn last_buffer(buffers: &StreamBuffers) -> BufferKind
+    ensures { (h : Held) (sizes : Option VideoSizes) → HoldsVideoOf buffers.now sizes h → result ≡ spec.last_buffer sizes }
+{
+    match &buffers.video {
+        None => BufferKind::Main,
+        Some(_) => BufferKind::Elementary,
+    }
+}
+
+// Appends which buffers were not empty for more than a second until a packet came.
+#[tactic(auto, unfolding(crate::specs::EntryFrames::leak_ended))]
+fn push_stays(
     events: &mut Vec<Event>,
     options: &ViewOptions,
     place: &Place,
-    limits: &Option<VideoLimits>,
-    entered: &Entered,
+    before: &BusySeen,
+    after: &BusySeen,
 ) -> Result<(), AllocError>
-    ensures { OnOk result (events.new.items ≡ events.old.items ++ (ended_events options.now place.now (entered_view entered.now)
-        ++ video_ended_events options.now place.now limits.now (video_view entered.now.video) entered.now.video.unit)) }
+    ensures { OnOk result (events.new.items
+        ≡ events.old.items ++ frames.stays_ended options.now place.now before.now after.now) }
 {
-    push_ended(events, options, place, entered)?;
-    push_video_ended(events, options, place, limits, &entered.video)
+    push_busy_if(
+        events,
+        options,
+        place,
+        BufferKind::Transport,
+        &before.transport,
+        &after.transport,
+    )?;
+    match (&before.multiplexing, &after.multiplexing) {
+        (Some(before), Some(after)) => push_busy_if(
+            events,
+            options,
+            place,
+            BufferKind::Multiplexing,
+            before,
+            after,
+        ),
+        _ => Ok(()),
+    }
 }
 
-#[inline(always)]
-fn add_entered(tally: &mut Tally, window: u64, unread: bool, entered: &Entered)
-    ensures { tally.new ≡ spec.tally_after tally.old window unread (entered_view entered.now) }
+// Whether the multiplexing buffer was empty at least once a second, if there is one.
+#[tactic(auto, unfolding(crate::specs::EntryFrames::is_leak_idle))]
+fn is_leak_idle(busy: &Option<BusyWatch>, under_way: &Option<Stay>) -> bool
+    ensures { result ≡ frames.is_leak_idle busy.now under_way.now }
 {
-    let (transport, main) = excess_counts(entered);
-    tally.add_packet(window, entered);
-    tally.add_excesses(transport, main, unread);
-    tally.add_unit_if(window, &entered.unit);
+    match busy {
+        None => true,
+        Some(busy) => is_idle(busy, under_way),
+    }
 }
 
 impl StreamEntry {
@@ -187,8 +267,57 @@ impl StreamEntry {
         Place {
             pid: self.pid,
             packet,
-            rx: self.buffers.rx,
-            size: self.buffers.main.size,
+            rx: self.seen.buffers.rx,
+            size: self.seen.buffers.main.size,
+        }
+    }
+
+    // A packet, with which this begins, enters the buffers: by access units, if they are viewed.
+    fn enter(
+        &mut self,
+        options: &ViewOptions,
+        index: u64,
+        window: u64,
+        place: &Place,
+        clock: &Option<PcrSample>,
+        packet: &Packet<'_>,
+        events: &mut Vec<Event>,
+    ) -> Result<(), AllocError>
+        ensures entry { (e : EntryState) → IsEntry self.old e → OnOk result
+            (IsEntry self.new (spec.entry_entered options.now index window clock.now e (packet_view packet.now))) }
+        ensures found { (e : EntryState) → IsEntry self.old e → OnOk result (events.new.items
+            ≡ events.old.items ++ spec.events_entered options.now index clock.now place.now e (packet_view packet.now) e.framed) }
+    {
+        let unread = is_unread(beginning_in(self.counter, packet));
+        let rx = self.seen.buffers.rx;
+        match &mut self.frames {
+            None => {
+                let arriving = arriving_in(options, index, rx, self.counter, clock, packet);
+                self.seen.enter_whole(
+                    options,
+                    place,
+                    window,
+                    unread,
+                    &arriving,
+                    &mut self.video_tally,
+                    events,
+                )?;
+                Ok(())
+            }
+            Some(frames) => {
+                let payload = payload_of(options, index, rx, self.counter, clock, packet);
+                frames.enter(
+                    options,
+                    place,
+                    window,
+                    unread,
+                    self.limit,
+                    &payload,
+                    &mut self.seen,
+                    events,
+                )?;
+                Ok(())
+            }
         }
     }
 
@@ -209,29 +338,18 @@ impl StreamEntry {
     {
         let place = self.place(index);
         let beginning = beginning_in(self.counter, packet);
-        let arriving = arriving(
-            options,
-            index,
-            self.buffers.rx,
-            self.counter,
-            clock,
-            beginning,
-            packet,
-        );
-        let mut entered = Entered::new();
-        self.buffers
-            .enter_into(&options.arrival, &arriving, &mut entered)?;
+        let size = packet.payload.unwrap_or(&[]).len() as u64;
+        let tick = unit_tick(options, clock, beginning);
+        let stay = overstay_if(options, self.limit, payload_byte(index, size), tick);
         push_ahead_if(events, &place, ahead_by(clock, beginning))?;
-        push_found(
-            events,
-            options,
-            &place,
-            &video_limits(&self.buffers),
-            &entered,
-        )?;
+        let buffer = last_buffer(&self.seen.buffers);
+        push_delayed_if(events, options, &place, buffer, self.limit, &stay)?;
+        let before = self.seen.busy();
+        self.enter(options, index, window, &place, clock, packet, events)?;
+        push_stays(events, options, &place, &before, &self.seen.busy())?;
         self.counter = counter_after(self.counter, packet);
-        add_entered(&mut self.tally, window, is_unread(beginning), &entered);
-        self.video_tally.add_packet(&entered.video);
+        self.seen.add_delayed_if(&stay);
+        self.mark_tally.add_packet(beginning, packet);
         Ok(())
     }
 
@@ -239,15 +357,15 @@ impl StreamEntry {
     pub fn is_crowded(&self) -> bool
         ensures { result ≡ is_entry_crowded self.now }
     {
-        self.buffers.units_waiting() >= MOST_WAITING
+        self.seen.buffers.units_waiting() >= MOST_WAITING
     }
 
     // What is counted, with the unit under way as the last one.
     fn closed(&self, window: u64) -> Tally
-        ensures { (e : EntryState) → IsEntry self.now e → result ≡ spec.closed window e }
+        ensures { (e : EntryState) → IsEntry self.now e → result ≡ spec.closed_seen window e }
     {
-        let mut tally = self.tally;
-        tally.add_unit_if(window, &self.buffers.unit());
+        let mut tally = self.seen.tally;
+        tally.add_unit_if(window, &self.seen.buffers.unit());
         tally
     }
 
@@ -261,7 +379,29 @@ impl StreamEntry {
         ensures { (e : EntryState) → IsEntry self.now e → OnOk result (events.new.items
             ≡ events.old.items ++ spec.units_of options.now window e) }
     {
-        push_window_if(events, options, window, &self.place(0), &self.tally)
+        push_window_if(events, options, window, &self.place(0), &self.seen.tally)
+    }
+
+    // Appends which buffers are not empty for more than a second at the end.
+    fn push_stays_closing(
+        &self,
+        events: &mut Vec<Event>,
+        options: &ViewOptions,
+        place: &Place,
+    ) -> Result<(), AllocError>
+        ensures { (e : EntryState) → IsEntry self.now e → OnOk result (events.new.items
+            ≡ events.old.items ++ spec.stays_closing options.now place.now e) }
+    {
+        let transport = self.seen.buffers.busy_under_way();
+        push_busy_closing(events, options, place, BufferKind::Transport, &transport)?;
+        let multiplexing = self.seen.leak_under_way();
+        push_busy_closing(
+            events,
+            options,
+            place,
+            BufferKind::Multiplexing,
+            &multiplexing,
+        )
     }
 
     /// Appends its events at the end, after `packets` packets, the last of them in a window.
@@ -278,8 +418,8 @@ impl StreamEntry {
         let tally = self.closed(window);
         let place = self.place(packets);
         push_window_if(events, options, window, &place, &tally)?;
-        push_closing(events, options, &place, &self.buffers, &tally)?;
-        let figures = video_figures(&self.buffers);
+        push_closing(events, options, &place, &self.seen.buffers, &tally)?;
+        let figures = video_figures(&self.seen.buffers);
         push_video_closing(
             events,
             options,
@@ -287,22 +427,37 @@ impl StreamEntry {
             &figures,
             tally.units,
             &self.video_tally,
-        )
+        )?;
+        self.push_stays_closing(events, options, &place)?;
+        push_marks(events, self.pid, &self.mark_tally)
     }
 
     // Whether neither the transport buffer nor the main buffer held more than its size, and no unit was late.
     fn is_sound(&self) -> bool
         ensures { (e : EntryState) → IsEntry self.now e → result ≡ spec.is_sound e }
     {
-        self.buffers.transport_most() <= u128::from(TRANSPORT_BYTES)
-            && self.buffers.main_most() <= self.buffers.main.size
+        self.seen.buffers.transport_most() <= u128::from(TRANSPORT_BYTES)
+            && self.seen.buffers.main_most() <= self.seen.buffers.main.size
             && self.closed(0).late == 0
     }
 
-    /// Returns whether no buffer held more than its size, and no unit was late.
+    // Whether no byte stayed too long, and no buffer was not empty for more than a second.
+    fn is_timely(&self) -> bool
+        ensures { (e : EntryState) → IsEntry self.now e → result ≡ spec.is_timely e }
+    {
+        let busy = self.seen.busy();
+        self.seen.delayed == 0
+            && is_idle(&busy.transport, &self.seen.buffers.busy_under_way())
+            && is_leak_idle(&busy.multiplexing, &self.seen.leak_under_way())
+    }
+
+    /// Returns whether no buffer held more than its size, no unit was late, no byte stayed too long, and no buffer was not empty for more than a
+    /// second.
     pub fn is_good(&self) -> bool
         ensures { (e : EntryState) → IsEntry self.now e → result ≡ spec.is_good e }
     {
-        self.is_sound() && is_video_good(&video_figures(&self.buffers), &self.video_tally)
+        self.is_sound()
+            && is_video_good(&video_figures(&self.seen.buffers), &self.video_tally)
+            && self.is_timely()
     }
 }

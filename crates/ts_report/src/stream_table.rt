@@ -6,12 +6,17 @@ ghost use Rattle.ts_packet.specs.Views.{packet_view};
 ghost use Rattle.ts_report.specs.Choices as choices;
 ghost use Rattle.ts_report.specs.Crowding as crowding;
 ghost use Rattle.ts_report.specs.StreamTables as spec;
-ghost use Rattle.ts_report.specs.Entries.{EntryState, IsEntry, end_events, units_of};
+ghost use Rattle.ts_report.specs.Entries.{AreFrames, EntryState, IsEntry, end_events, units_of};
+ghost use Rattle.ts_report.specs.EntryFrames.{unit_in};
+ghost use Rattle.tstd_rows.specs.Held.{Held};
 ghost use Rattle.ts_report.specs.Entries.{is_good as entry_is_good};
 ghost use Rattle.ts_report.specs.StreamTables.{AreEntries, IsTable, TableState};
 
 use crate::clocks::Clocks;
+use crate::counted_buffers::CountedBuffers;
 use crate::entry_events::stream_event;
+use crate::entry_frames::{EntryFrames, unit_in};
+use crate::mark_tally::MarkTally;
 use crate::stream_entry::StreamEntry;
 use crate::tally::Tally;
 use crate::video_figures::view_video_if;
@@ -21,7 +26,7 @@ use crate::view_options::ViewOptions;
 use events::Event;
 use pid_map::PidMap;
 use std::alloc::{AllocError, Global};
-use stream_coding::{Buffers, Coding, coding_of};
+use stream_coding::{Buffers, Coding, FrameKind, coding_of, longest_stay};
 use stream_programs::FoundStream;
 use ts_packet::Packet;
 use ts_tables::NamedStreams;
@@ -47,20 +52,6 @@ fn place_of(places: &mut PidMap<usize, Global>, pid: u16) -> Option<usize>
     Some(*place)
 }
 
-// The bytes of a payload after the header of the PES packet that it begins.
-#[tactic(auto, unfolding(crate::specs::StreamTables::unit_after))]
-fn unit_in(payload: &[u8]) -> &[u8]
-    ensures { result.now ≡ spec.unit_in payload.now }
-{
-    match payload.get(8) {
-        None => &[],
-        Some(length) => match payload.get(9 + usize::from(*length)..) {
-            None => &[],
-            Some(unit) => unit,
-        },
-    }
-}
-
 fn coding_by(stream: &FoundStream, packet: &Packet<'_>) -> Coding
     ensures { result ≡ spec.coding_by stream.now (packet_view packet.now) }
 {
@@ -81,6 +72,17 @@ fn chosen<'n>(choice: &ViewChoice, stream: Option<&'n FoundStream>) -> Option<&'
     }
 }
 
+// The walk over the frames of a stream before its first packet, if they are viewed.
+#[tactic(auto, unfolding(crate::specs::StreamTables::new_framed, crate::specs::Entries::AreFrames))]
+fn frames_of(alloc: Global, kind: Option<FrameKind>) -> Option<EntryFrames>
+    ensures { (h : Held) → AreFrames result (spec.new_framed h kind) }
+{
+    match kind {
+        None => None,
+        Some(kind) => Some(EntryFrames::new(alloc, kind)),
+    }
+}
+
 // A stream before its first packet.
 fn new_entry(
     alloc: Global,
@@ -89,9 +91,11 @@ fn new_entry(
     clock_pid: u16,
     buffers: Buffers,
     rates: &Option<VideoRates>,
+    kind: Option<FrameKind>,
+    limit: u64,
 ) -> StreamEntry
     requires { buffers.rx ≤ 200000000 }
-    ensures { IsEntry result (spec.new_entry options.now pid clock_pid buffers rates.now) }
+    ensures { IsEntry result (spec.new_entry options.now pid clock_pid buffers rates.now kind limit) }
 {
     let mut held = StreamBuffers::new(alloc, &options.arrival, buffers.rx, u64::from(buffers.main));
     view_video_if(&mut held, alloc, rates);
@@ -99,9 +103,15 @@ fn new_entry(
         pid,
         clock_pid,
         counter: None,
-        buffers: held,
-        tally: Tally::new(),
+        seen: CountedBuffers {
+            buffers: held,
+            tally: Tally::new(),
+            delayed: 0,
+        },
         video_tally: VideoTally::new(),
+        mark_tally: MarkTally::new(),
+        frames: frames_of(alloc, kind),
+        limit,
     }
 }
 
@@ -222,7 +232,13 @@ impl StreamTable {
         let clock_pid = named.clock_pid(stream.program);
         let rates = self.choice.rates_for(packet.header.pid, coding);
         let pid = packet.header.pid;
-        let entry = new_entry(self.alloc, options, pid, clock_pid, buffers, &rates);
+        let kind = self
+            .choice
+            .frames_for(pid, stream.stream_type, &stream.descriptors);
+        let limit = u64::from(longest_stay(stream.stream_type, &stream.descriptors)) * 27_000_000;
+        let entry = new_entry(
+            self.alloc, options, pid, clock_pid, buffers, &rates, kind, limit,
+        );
         self.add(packet.header.pid, entry)
     }
 

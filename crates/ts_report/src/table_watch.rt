@@ -10,21 +10,24 @@ ghost use Rattle.ts_report.specs.TableEvents as spec;
 use crate::clocks::first_byte;
 use crate::view_options::ViewOptions;
 use arrival::Arrival;
-use demux::{Demux, Finding, What};
-use events::{CheckWordFault, Event, TableFault, TableTotals};
+use demux::{Finding, HeaderDemux, What};
+use events::{CheckWordFault, Event, OtherTable, RuleEvent, TableFault, TableTotals};
 use psi_tables::SectionError;
 use std::alloc::{AllocError, Global};
 use std::marker::Model;
 use tr101290::{
-    SectionBegin, SectionPlaces, TableError, TableIntervals, TableTiming, limit_of, pid_of,
-    section_begin, table_id_of, time_between,
+    SectionBegin, SectionDistances, SectionPlaces, TableError, TableIntervals, TableTiming,
+    WholeSection, belongs, key_of, limit_of, pid_of, section_begin, table_id_of, time_between,
+    whole_section,
 };
 use ts_packet::{Packet, PacketError};
 
-/// The sections of each table, and the number of sections that are late or have a wrong check word, which stops at 2^64 - 1.
+/// The sections of each table, where the last ones end, and the number of sections that are late or have a wrong check word, which
+/// stops at 2^64 - 1.
 #[derive(Drop)]
 pub struct TableTimes {
     intervals: TableIntervals<Global>,
+    distances: SectionDistances<Global>,
     errors: u64,
 }
 
@@ -33,14 +36,14 @@ impl Model for TableTimes {
 
     ghost Value = { TimesState };
 
-    ghost view = { λ t. record { intervals = t.intervals; errors = t.errors } };
+    ghost view = { λ t. record { intervals = t.intervals; distances = t.distances; errors = t.errors } };
 }
 
 /// The sections of tables as far as they have come.
 #[derive(Drop)]
 pub struct TableWatch {
     alloc: Global,
-    demux: Demux,
+    demux: HeaderDemux,
     times: TableTimes,
 }
 
@@ -54,16 +57,51 @@ impl Model for TableWatch {
     ghost invariant = { λ t. TakesPackets t.demux };
 }
 
-fn error_event(error: &TableError) -> Event
-    ensures { result ≡ spec.error_event error.now }
+fn fault_of(error: &TableError) -> TableFault
+    ensures { result ≡ spec.fault_of error.now }
 {
-    Event::TableRepetition(TableFault {
+    TableFault {
         pid: error.section.pid,
         table: error.section.table_id,
         packet: error.section.packet,
         value: error.value,
         limit: error.limit,
-    })
+    }
+}
+
+fn error_event(error: &TableError) -> Event
+    ensures { result ≡ spec.error_event error.now }
+{
+    Event::TableRepetition(fault_of(error))
+}
+
+#[tactic(auto, unfolding(crate::specs::TableEvents::soon_events))]
+fn push_soon_if(events: &mut Vec<Event>, error: &Option<TableError>) -> Result<(), AllocError>
+    ensures { OnOk result (events.new.items ≡ events.old.items ++ spec.soon_events error.now) }
+{
+    if let Some(error) = error {
+        events.push(Event::Rule(RuleEvent::SectionDistance(fault_of(error))))?;
+    }
+    Ok(())
+}
+
+// Appends a whole section of a table that does not belong on its PID.
+#[tactic(auto, unfolding(crate::specs::TableEvents::other_events))]
+fn push_other_if(events: &mut Vec<Event>, section: &Option<WholeSection>) -> Result<(), AllocError>
+    ensures { OnOk result (events.new.items ≡ events.old.items ++ spec.other_events section.now) }
+{
+    let Some(section) = section else {
+        return Ok(());
+    };
+    let begin = section.begin;
+    if !belongs(begin.pid, begin.table_id) {
+        events.push(Event::Rule(RuleEvent::OtherTable(OtherTable {
+            pid: begin.pid,
+            table: begin.table_id,
+            packet: begin.packet,
+        })))?;
+    }
+    Ok(())
 }
 
 #[tactic(auto, unfolding(crate::specs::TableEvents::error_events))]
@@ -101,6 +139,35 @@ fn placed(arrival: &Arrival, section: SectionBegin) -> Option<SectionBegin>
     }
 }
 
+// A whole section with its places in time.
+#[tactic(auto, unfolding(crate::specs::TableEvents::placed_whole))]
+fn placed_whole(arrival: &Arrival, section: WholeSection) -> Option<WholeSection>
+    ensures { result ≡ spec.placed_whole arrival.now section }
+{
+    match arrival {
+        Arrival::Unknown => None,
+        Arrival::AtRate(_) => Some(section),
+        Arrival::OnLines(lines) => Some(WholeSection {
+            begin: SectionBegin {
+                place: lines.moment(first_byte(section.begin.packet)),
+                ..section.begin
+            },
+            extension: section.extension,
+            end: lines.moment(first_byte(section.end)),
+        }),
+    }
+}
+
+#[tactic(auto, unfolding(crate::specs::TableEvents::placed_if))]
+fn placed_if(arrival: &Arrival, section: Option<WholeSection>) -> Option<WholeSection>
+    ensures { result ≡ spec.placed_if arrival.now section }
+{
+    match section {
+        None => None,
+        Some(section) => placed_whole(arrival, section),
+    }
+}
+
 // The section of a finding, if it counts.
 fn section_in(options: &ViewOptions, finding: &Finding<'_>) -> Option<SectionBegin>
     ensures { result ≡ spec.section_in options.now (finding_view finding.now) }
@@ -131,6 +198,25 @@ fn push_check_word_if(events: &mut Vec<Event>, finding: &Finding<'_>) -> Result<
 }
 
 impl TableTimes {
+    // A whole section, with its places.
+    #[tactic(auto, unfolding(crate::specs::TableEvents::distances_after, crate::specs::TableEvents::distance_events))]
+    fn take_whole(
+        &mut self,
+        section: &Option<WholeSection>,
+        events: &mut Vec<Event>,
+    ) -> Result<(), AllocError>
+        ensures times { OnOk result (self.new ≡ spec.with_whole self.old section.now) }
+        ensures found { OnOk result (events.new.items ≡ events.old.items ++ spec.distance_events self.old.distances section.now) }
+    {
+        match section {
+            None => Ok(()),
+            Some(section) => {
+                let error = self.distances.take(section)?;
+                push_soon_if(events, &error)
+            }
+        }
+    }
+
     #[tactic(auto, unfolding(crate::specs::TableEvents::begin_events))]
     fn take_section(
         &mut self,
@@ -162,6 +248,9 @@ impl TableTimes {
         self.errors = self
             .errors
             .saturating_add(u64::from(is_wrong(&finding.what)));
+        let whole = whole_section(finding);
+        push_other_if(events, &whole)?;
+        self.take_whole(&placed_if(&options.arrival, whole), events)?;
         match section_in(options, finding) {
             None => Ok(()),
             Some(section) => self.take_section(section, events),
@@ -205,11 +294,14 @@ impl TableWatch {
     pub fn new(alloc: Global, timing: TableTiming) -> TableWatch
         ensures { result ≡ spec.no_tables timing }
     {
+        let intervals = TableIntervals::new(alloc, timing);
+        let distances = SectionDistances::new(alloc, intervals.timing());
         TableWatch {
             alloc,
-            demux: Demux::new(alloc),
+            demux: HeaderDemux::new(alloc),
             times: TableTimes {
-                intervals: TableIntervals::new(alloc, timing),
+                intervals,
+                distances,
                 errors: 0,
             },
         }
@@ -248,6 +340,17 @@ impl TableWatch {
         ensures { result ≡ (self.now.times.errors == 0) }
     {
         self.times.errors == 0
+    }
+
+    /// Returns whether sections of a table_id are on a PID.
+    pub fn has_table(&self, pid: u16, table_id: u8) -> bool
+        ensures { result ≡ spec.has_table self.now pid table_id }
+    {
+        self.times
+            .intervals
+            .entries()
+            .get(&key_of(pid, table_id))
+            .is_some()
     }
 
     /// Appends what the sections of each table came to.

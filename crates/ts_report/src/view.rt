@@ -239,6 +239,7 @@ impl View {
     {
         self.seen.refused == 0
             && self.seen.errors == 0
+            && self.seen.rules.holds_none()
             && self.seen.tables.is_good()
             && left == 0
             && all_fit(self.table.choice(), self.seen.systems.programs())

@@ -5,7 +5,8 @@ ghost use Rattle.ts_report.specs.Choices as spec;
 
 use std::marker::Model;
 use stream_coding::{
-    Buffers, Coding, PidBuffers, buffers_of, given_buffers, joined_buffers_of, multiplexing_of,
+    Buffers, Coding, FrameKind, PidBuffers, buffers_of, frame_kind, given_buffers,
+    joined_buffers_of, multiplexing_of,
 };
 use tstd_rows::VideoRates;
 
@@ -82,6 +83,17 @@ impl ViewChoice {
             None
         } else {
             rates_of(coding)
+        }
+    }
+
+    /// Returns which frames the sound of the stream of a PID has, by its entry in the program map, if its main buffer is viewed by access
+    /// units: it is not where its buffers are given.
+    pub fn frames_for(&self, pid: u16, stream_type: u8, descriptors: &[u8]) -> Option<FrameKind>
+        ensures { result ≡ spec.frames_for self.now pid stream_type descriptors.now }
+    {
+        match given_buffers(&self.buffers, pid) {
+            Some(_) => None,
+            None => frame_kind(stream_type, descriptors),
         }
     }
 }

@@ -12,9 +12,9 @@ use Rattle.on_air.specs.declared.refusals.AirRefusal.{AirRefusal}
 use Rattle.on_air.specs.declared.answers.Heard.TheVariants.{Taken, Refused, Ended}
 use Rattle.on_air.specs.declared.answers.Ending.{Ending}
 use Rattle.on_air.specs.declared.answers.Ending.TheVariants.{Input, Unread, Slots, Records}
-use Rattle.on_air.specs.Airing.{Run, Air, heard, silence, limit_of}
+use Rattle.on_air.specs.Airing.{Run, Air, caught_up, heard, silence, limit_of}
 use Rattle.on_air.specs.AirStates.{AirState, IsOnAir}
-use Rattle.on_air.specs.Hearing.{HasHeard, HeardOn, HearsOn, NamesDevice}
+use Rattle.on_air.specs.Hearing.{Fails, HasHeard, HeardOn, HearsOn, NamesDevice}
 use Rattle.tsair_cli.specs.declared.hearing.RecordsEnd.{RecordsEnd}
 use Rattle.tsair_cli.specs.HeardRecords.{Airs, EndsRecords, FailsRecords, HearsAll, NamesReader, has_refused, refusal_line}
 
@@ -48,17 +48,36 @@ first run origin start now port s h = record {
   state = h;
 }
 
-pub next : (run : Run) (origin mid left start now later : Option (List ℕ)) (before told after : Port) (refused : Bool) (s new : AirState) (index : ℕ) (cause : AirRefusal)
-    (m : Midway run origin mid start now (between before told) refused s) → HearsOn run m.airs.came origin left start later (Ok (Refused index cause)) new →
-    Reports (between told after) (refusal_line (index, cause)) → Midway run origin left start later (between before after) true new
-next run origin mid left start now later before told after refused s new index cause m (b, heard_on, adds, state) r = record {
+-- the record that was refused is told, and the run has followed it, if it does
+pub next : (run : Run) (origin mid left start now later last : Option (List ℕ)) (before told after : Port) (refused : Bool) (s heard_to new : AirState) (index : ℕ) (cause : AirRefusal)
+    (m : Midway run origin mid start now (between before told) refused s) → HearsOn run m.airs.came origin left start later (Ok (Refused index cause)) heard_to →
+    ((a : Air) → IsOnAir run a start later heard_to → IsOnAir run (caught_up run a (Some cause)) start last new) →
+    Reports (between told after) (refusal_line (index, cause)) → Midway run origin left start last (between before after) true new
+next run origin mid left start now later last before told after refused s heard_to new index cause m (b, heard_on, adds, state) follows r = record {
   airs = record {
-    came = b;
+    came = caught_up run b (Some cause);
     heard_is = heard_on;
     told = told_refused before told after m.airs.came.refused b.refused (index, cause) adds m.airs.told r;
   };
   refused_is = sym (some_refused m.airs.came.refused b.refused (index, cause) adds);
-  state = state;
+  state = follows b state;
+}
+
+-- the writer failed within the slots up to a record that the run follows
+pub follow_fails : (run : Run) (mid start now later : Option (List ℕ)) (input output : Device) (before told after : Port) (refused : Bool) (s heard_to : AirState) (index : ℕ)
+    (cause : AirRefusal) (sent : ℕ) (m : Midway run input.before.bytes mid start now (between before told) refused s) →
+    HearsOn run m.airs.came input.before.bytes input.after.bytes start later (Ok (Refused index cause)) heard_to →
+    ((a : Air) → IsOnAir run a start later heard_to → Fails run (caught_up run a (Some cause)) start output.after.bytes sent) →
+    Reports (between told after) (refusal_line (index, cause)) → IsClean input → HasFailed output → FailsRecords run start input output (between before after) sent
+follow_fails run mid start now later input output before told after refused s heard_to index cause sent m (b, heard_on, adds, state) failing r clean failed = record {
+  airs = record {
+    came = caught_up run b (Some cause);
+    heard_is = heard_on;
+    told = told_refused before told after m.airs.came.refused b.refused (index, cause) adds m.airs.told r;
+  };
+  fails = failing b state;
+  clean = clean;
+  failed = failed;
 }
 
 -- 3. How it ends

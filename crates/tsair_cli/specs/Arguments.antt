@@ -7,8 +7,14 @@ use Rattle.word_faults.specs.GivenOptions.{given_options, number_if, number_of}
 use Rattle.tsair_cli.specs.Options.{options}
 use Rattle.tsair_cli.specs.declared.arguments.AirOptions.{AirOptions}
 
-abbrev pub air_options : Bool → Bool → ℕ → ℕ → Option ℕ → Option ℕ → AirOptions
-air_options hex stop wait ahead slots periods = record { terms = record { wait = wait; ahead = ahead; slots = slots }; periods = periods; hex = hex; stop = stop }
+abbrev pub air_options : Bool → Bool → Bool → ℕ → ℕ → Option ℕ → Option ℕ → Option ℕ → AirOptions
+air_options hex stop unframe wait ahead slots room periods = record {
+  terms = record { wait = wait; ahead = ahead; slots = slots; room = room };
+  periods = periods;
+  hex = hex;
+  stop = stop;
+  unframe = unframe;
+}
 
 -- times in units of 90 kHz: without words, a unit may come 2 s after a greater DTS, and a record may lie 10 s ahead
 unfoldable pub options_of : List Row → Option AirOptions
@@ -16,9 +22,12 @@ options_of rows =
     option_and_then (λ wait.
     option_and_then (λ ahead.
     option_and_then (λ slots.
+    option_and_then (λ room.
     option_and_then (λ periods.
-    Some (air_options (is_given (first_of (codes "hex") rows)) (is_given (first_of (codes "stop") rows)) wait ahead slots periods))
+    Some (air_options (is_given (first_of (codes "hex") rows)) (is_given (first_of (codes "stop") rows)) (is_given (first_of (codes "unframe") rows))
+    wait ahead slots room periods))
     (number_if options (codes "switch") rows))
+    (number_if options (codes "room") rows))
     (number_if options (codes "slots") rows))
     (number_of options (codes "ahead") rows))
     (number_of options (codes "wait") rows)

@@ -5,6 +5,7 @@ use Rattle.devices.specs.Lines.{Tells, line_text}
 use Rattle.packet_output.specs.declared.output.OutputFault.{OutputFault}
 use Rattle.unit_records.specs.declared.reading.UnitFileError.TheVariants.{Cut, Size, Device as AtReader, Memory}
 use Rattle.on_air.specs.declared.refusals.AirRefusal.{AirRefusal}
+use Rattle.on_air.specs.declared.refusals.AirRefusal.TheVariants.{Feed, Ahead, Followed}
 use Rattle.on_air.specs.declared.answers.Ending.{Ending}
 use Rattle.on_air.specs.declared.answers.Ending.TheVariants.{Input, Unread, Slots, Records}
 use Rattle.on_air.specs.Airing.{Run, Air, air_code}
@@ -14,9 +15,15 @@ use Rattle.tsair_cli.specs.declared.hearing.RecordsEnd.{RecordsEnd}
 
 -- 1. The lines of records that are refused
 
--- its number, and why
+-- its number, and why; of a record that the run follows its number, the number of packets before it, and the DTS from which to which the run
+-- goes on
+unfoldable pub refusal_by : ℕ → AirRefusal → List ℕ
+refusal_by index (Feed cause) = line_text (codes "unit") (index ∷ air_code (Feed cause) ∷ [])
+refusal_by index Ahead = line_text (codes "unit") (index ∷ air_code Ahead ∷ [])
+refusal_by index (Followed packet from to) = line_text (codes "leap") (index ∷ packet ∷ from ∷ to ∷ [])
+
 abbrev pub refusal_line : ℕ × AirRefusal → List ℕ
-refusal_line refused = line_text (codes "unit") (refused.0 ∷ air_code refused.1 ∷ [])
+refusal_line refused = refusal_by refused.0 refused.1
 
 abbrev pub has_refused : Air → Bool
 has_refused a = nat_lt 0 (length a.refused)

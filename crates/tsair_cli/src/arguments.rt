@@ -14,7 +14,7 @@ use word_faults::{given_options, number_if, number_of};
 /// The options of a run.
 #[derive(Clone, Copy)]
 pub struct AirOptions {
-    /// Its terms: `--wait`, `--ahead` and `--slots`.
+    /// Its terms: `--wait`, `--ahead`, `--slots` and `--room`.
     pub terms: Terms,
     /// The number of periods of the first plan before the second; where it is not given, there is one plan.
     pub periods: Option<u64>,
@@ -22,6 +22,8 @@ pub struct AirOptions {
     pub hex: bool,
     /// Whether the first record that is refused ends the run.
     pub stop: bool,
+    /// Whether frames are read, and their records written, in place of a job.
+    pub unframe: bool,
 }
 
 // The values of the options; none where one is out of its range.
@@ -32,12 +34,19 @@ fn options_of(matches: &ArgMatches<'_>) -> Option<AirOptions>
     let wait = number_of(&OPTIONS, matches, "wait")? as u32;
     let ahead = number_of(&OPTIONS, matches, "ahead")?;
     let slots = number_if(&OPTIONS, matches, "slots")?;
+    let room = number_if(&OPTIONS, matches, "room")?;
     let periods = number_if(&OPTIONS, matches, "switch")?;
     Some(AirOptions {
-        terms: Terms { wait, ahead, slots },
+        terms: Terms {
+            wait,
+            ahead,
+            slots,
+            room,
+        },
         periods,
         hex: is_given(text_of(matches, "hex")),
         stop: is_given(text_of(matches, "stop")),
+        unframe: is_given(text_of(matches, "unframe")),
     })
 }
 

@@ -7,8 +7,8 @@ ghost use Rattle.on_air.specs.Airing.{Run, silence};
 ghost use Rattle.on_air.specs.AirStates.{IsOnAir};
 ghost use Rattle.tsair_cli.specs.HeardRecords.{HearsAll, refusal_line};
 
-use checked_jobs::report_refusal;
 use counted_io::Sink;
+use devices::report_line;
 use held_input::HeldInput;
 use on_air::{AirRefusal, Ending, Heard, OnAir, OutputFault};
 use std::alloc::Global;
@@ -22,16 +22,26 @@ pub struct RecordsEnd {
     pub why: Option<Ending>,
 }
 
-/// Reports that a record is refused.
+/// Reports that a record is refused, or that the run follows it.
+#[tactic(auto, unfolding(crate::specs::HeardRecords::refusal_by))]
 fn report_refused<E: Sink>(faults: &mut E, index: u64, cause: AirRefusal)
     ensures { Reports (writes E.Sink faults.old faults.new) (refusal_line (index, cause)) }
 {
-    let numbers = [u128::from(index), u128::from(cause.code())];
-    let _ = report_refusal(faults, "unit", &numbers);
+    let index = u128::from(index);
+    let code = u128::from(cause.code());
+    match cause {
+        AirRefusal::Followed { packet, from, to } => report_line(
+            faults,
+            "leap",
+            &[index, u128::from(packet), u128::from(from), u128::from(to)],
+        ),
+        AirRefusal::Feed(_) => report_line(faults, "unit", &[index, code]),
+        AirRefusal::Ahead => report_line(faults, "unit", &[index, code]),
+    }
 }
 
-/// Takes all records of a run, and reports each refused record before the next is read. On request the first refused
-/// record ends the run.
+/// Takes all records of a run, and reports each refused record before the next is read, and before the slots up to it are
+/// written if the run follows it. On request the first refused record ends the run.
 pub fn hear_all<R: HeldInput, W: Sink, E: Sink>(
     alloc: Global,
     stop: bool,
@@ -50,6 +60,10 @@ pub fn hear_all<R: HeldInput, W: Sink, E: Sink>(
             Ok(Heard::Refused { index, cause }) => {
                 report_refused(faults, index, cause);
                 has_refused = true;
+                match on_air.follow(cause, output) {
+                    Ok(()) => {}
+                    Err(fault) => return Err(fault),
+                }
                 if stop {
                     let why = None;
                     return Ok(RecordsEnd { has_refused, why });

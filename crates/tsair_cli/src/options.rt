@@ -7,7 +7,7 @@ use option_lists::Scale;
 use word_faults::{KnownWords, OptionRow, ValueKind};
 
 /// The options. What is read, which word is a fault, and the usage follow these rows.
-pub(crate) const OPTIONS: [OptionRow; 9] = [
+pub(crate) const OPTIONS: [OptionRow; 11] = [
     OptionRow {
         name: "wait",
         value: ValueKind::Scaled {
@@ -63,6 +63,18 @@ pub(crate) const OPTIONS: [OptionRow; 9] = [
         help: "the number of packets; else those up to the greatest DTS",
     },
     OptionRow {
+        name: "room",
+        value: ValueKind::Number {
+            least: 1,
+            greatest: 1_048_576,
+            default: None,
+        },
+        form: "",
+        unit: "units",
+        apart: "",
+        help: "the units of each stream that may wait; else as many as its lead needs",
+    },
+    OptionRow {
         name: "switch",
         value: ValueKind::Number {
             least: 0,
@@ -73,6 +85,14 @@ pub(crate) const OPTIONS: [OptionRow; 9] = [
         unit: "periods",
         apart: "",
         help: "the periods of the first plan before the second",
+    },
+    OptionRow {
+        name: "unframe",
+        value: ValueKind::Flag,
+        form: "",
+        unit: "",
+        apart: "",
+        help: "read frames of records instead of a job, and write their records",
     },
     OptionRow {
         name: "progress",
@@ -107,7 +127,9 @@ const USAGE: &str = "usage: tsair [OPTIONS] < JOB > PACKETS
   --stop                         the first unit that is refused ends the run
   --hex                          packets are written as lines of hexadecimal digits
   --slots 0..1099511627776       the number of packets; else those up to the greatest DTS
+  --room 1..1048576              the units of each stream that may wait; else as many as its lead needs
   --switch Q                     the periods of the first plan before the second
+  --unframe                      read frames of records instead of a job, and write their records
   --progress                     report each second how many bytes are read, on a terminal
   --version                      or -V, alone: the version, and the kit that proved it
   --help                         or -h: this text, on standard output

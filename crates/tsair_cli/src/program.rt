@@ -1,6 +1,7 @@
 //! The program over any reader and two writers.
 
-ghost use Rattle.std.specs.Prelude.{◌≡◌, List, ℕ, None, Option, Some, IfOk, [], codes, map};
+ghost use Rattle.std.specs.Prelude.{◌≡◌, List, ℕ, None, Option, Some, IfOk, [], codes, false, map, true};
+ghost use Rattle.record_frames.specs.Passing.{PassesFrames};
 ghost use Rattle.devices.specs.Devices.{reads, writes};
 ghost use Rattle.devices.specs.Lines.{Reports};
 ghost use Rattle.mux_core.specs.NewMux.{Judges};
@@ -23,6 +24,7 @@ use counted_io::Sink;
 use devices::{Halt, report_halt, report_text};
 use held_input::HeldInput;
 use on_air::{NewError, OnAir};
+use record_frames::pass_frames;
 use std::alloc::Global;
 use word_faults::answer_words;
 
@@ -123,8 +125,12 @@ pub fn run<R: HeldInput, W: Sink, E: Sink>(
     faults: &mut E,
 ) -> u8
     // A job, its records as they come, to packets.
-    ensures air { (o : AirOptions) → asked words.now ≡ Some o →
+    ensures air { (o : AirOptions) → asked words.now ≡ Some o → o.unframe ≡ false →
         spec.AirsJob o (reads R.Source input.old input.new) (writes W.Sink output.old output.new)
+        (writes E.Sink faults.old faults.new) result }
+    // Frames of records, as they come, to the records of them that are whole.
+    ensures unframes { (o : AirOptions) → asked words.now ≡ Some o → o.unframe ≡ true →
+        PassesFrames (reads R.Source input.old input.new) (writes W.Sink output.old output.new)
         (writes E.Sink faults.old faults.new) result }
     // Anything else: `--version`, `--help`, or a word that cannot be taken.
     ensures other { asked words.now ≡ None →
@@ -133,7 +139,11 @@ pub fn run<R: HeldInput, W: Sink, E: Sink>(
         (writes E.Sink faults.old faults.new) result }
 {
     match read_arguments(alloc, words) {
-        Ok(Some(options)) => air_job(alloc, options, input, output, faults),
+        Ok(Some(options)) => if options.unframe {
+            pass_frames(alloc, input, output, faults)
+        } else {
+            air_job(alloc, options, input, output, faults)
+        },
         Ok(None) => {
             let known = known_words();
             answer_words(alloc, "tsair", known, words, usage(), output, faults)

@@ -1,19 +1,19 @@
 //! `tsjob`: a transport stream to a job that `tsmux mux` multiplexes at a constant rate (ISO/IEC 13818-1, EN 300 468).
 //!
-//! The program is `tsjob_cli::run` over any reader and two writers; `devices::run_program` runs it over the real ones.
+//! The program is `tsjob_cli::run_command` over any reader and two writers; `devices::run_program` runs it over the real ones.
 #![tactic(auto)]
 
 use counted_io::Sink;
-use devices::{NamedFiles, Program, run_program};
+use devices::{NamedFiles, OutputFiles, Program, run_program};
 use held_input::HeldInput;
 use std::alloc::Global;
 use std::process::ExitCode;
-use tsjob_cli::{report_usage, run};
+use tsjob_cli::{report_usage, run_command};
 
 struct Tsjob;
 
 impl Program for Tsjob {
-    fn run<F: NamedFiles, R: HeldInput, W: Sink, E: Sink>(
+    fn run<F: NamedFiles + OutputFiles, R: HeldInput, W: Sink, E: Sink>(
         alloc: Global,
         words: &[&str],
         files: &F,
@@ -21,7 +21,7 @@ impl Program for Tsjob {
         output: &mut W,
         faults: &mut E,
     ) -> u8 {
-        run(alloc, words, files, input, output, faults)
+        run_command(alloc, words, files, input, output, faults)
     }
 
     fn report_usage<E: Sink>(faults: &mut E) -> u8 {

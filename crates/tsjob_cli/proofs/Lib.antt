@@ -1,3 +1,5 @@
 pub mod StreamedUnits
 pub mod Explaining
 mod FileWords
+pub mod MadeJobs
+mod Commands

@@ -7,6 +7,7 @@ use Rattle.given_values.specs.declared.clock_base.ClockBase.{ClockBase}
 use Rattle.given_values.specs.declared.declare_by.DeclareBy.{DeclareBy}
 use Rattle.stream_coding.specs.declared.buffers.PidBuffers.{PidBuffers}
 use Rattle.devices.specs.Options.{is_given}
+use Rattle.job_run.specs.declared.job_arguments.Reporting.{Reporting}
 use Rattle.job_run.specs.declared.job_arguments.Subcommand.{Subcommand}
 use Rattle.job_run.specs.declared.job_arguments.Subcommand.TheVariants.{Whole, Describe, Units, Why}
 use Rattle.job_run.specs.JobArguments.{JobArgumentsView}
@@ -44,14 +45,22 @@ programs_in rows = numbers_of options (codes "program") rows
 unfoldable pub without_in : List Row → Option (List ℕ)
 without_in rows = numbers_of options (codes "without") rows
 
+-- which lines are reported
+unfoldable pub reporting_in : List Row → Reporting
+reporting_in rows = record {
+  whole = is_given (first_of (codes "whole") rows);
+  quiet = is_given (first_of (codes "quiet") rows);
+  all = is_given (first_of (codes "verbose") rows);
+}
+
 -- 2. All of them
 
 -- with empty lists
-abbrev pub plain : Subcommand → Option Text → Bool → Option ℕ → Option Text → ℕ → ℕ → DeclareBy → Bool → ClockBase → JobArgumentsView
-plain subcommand stream whole rate start pcr_limit lead declare_by make_dts base = record {
+abbrev pub plain : Subcommand → Option Text → Reporting → Option ℕ → Option Text → ℕ → ℕ → DeclareBy → Bool → Bool → ClockBase → JobArgumentsView
+plain subcommand stream reporting rate start pcr_limit lead declare_by make_dts strict base = record {
   subcommand = subcommand;
   stream = stream;
-  whole = whole;
+  reporting = reporting;
   options = record {
     rate = rate;
     start = start;
@@ -59,6 +68,7 @@ plain subcommand stream whole rate start pcr_limit lead declare_by make_dts base
     lead = lead;
     declare_by = declare_by;
     make_dts = make_dts;
+    strict = strict;
     base = base;
     network = None;
     names = [];
@@ -79,7 +89,7 @@ values_of rows =
     given (lead_in rows) (λ lead.
     given (declare_by_of (first_of (codes "declare") rows)) (λ declare_by.
     given (base_of (first_of (codes "base") rows)) (λ base.
-    Some (plain subcommand stream (is_given (first_of (codes "whole") rows)) rate start pcr_limit lead declare_by (is_given (first_of (codes "make-dts") rows)) base)))))))))
+    Some (plain subcommand stream (reporting_in rows) rate start pcr_limit lead declare_by (is_given (first_of (codes "make-dts") rows)) (is_given (first_of (codes "strict") rows)) base)))))))))
 
 -- with lists
 abbrev pub with_lists : List ℕ → List ℕ → List PidBuffers → Option NetworkNameView → List ServiceNameView → JobArgumentsView → JobArgumentsView

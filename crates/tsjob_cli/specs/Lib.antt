@@ -6,3 +6,5 @@ pub mod FileWords
 pub mod NamedInputs
 pub mod StreamedUnits
 pub mod Explaining
+pub mod MadeJobs
+pub mod Command

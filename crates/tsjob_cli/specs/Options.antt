@@ -1,7 +1,7 @@
 -- The options and subcommands of the program, by their table, and its usage.
 use Rattle.std.specs.Prelude.{ℕ, ◌&&◌, Bool, true, false, not, List, [], ◌∷◌, ◌++◌, Option, Some, None, codes, map}
 use Rattle.word_faults.specs.CommandLine.{CommandLine, Text}
-use Rattle.word_faults.specs.KnownWords.{known_but}
+use Rattle.word_faults.specs.KnownWords.{known_but, known_by}
 use Rattle.word_faults.specs.OptionRows.{OptionRow, constant_view}
 use Rattle.word_faults.specs.OptionUsage.{usage_by}
 use Rattle.word_faults.specs.WordFaults.{word_beside}
@@ -9,7 +9,7 @@ use Rattle.job_run.specs.declared.job_arguments.Subcommand.{Subcommand}
 use Rattle.job_run.specs.declared.job_arguments.Subcommand.TheVariants.{Units}
 use Rattle.tsjob_cli.specs.FileMark.{has_mark}
 use Rattle.tsjob_cli.specs.Subcommands.{subcommand_of}
-use Rattle.tsjob_cli.specs.declared.options.TheConstants.{OPTIONS}
+use Rattle.tsjob_cli.specs.declared.options.TheConstants.{EXPLAIN_OPTIONS, OPTIONS}
 
 abbrev pub options : List OptionRow
 options = map constant_view OPTIONS
@@ -24,7 +24,18 @@ barred_word false = Some (codes "--stream")
 -- a subcommand, or the mark of names of files, may stand beside the options
 abbrev pub known_words : Bool → CommandLine
 known_words takes_stream =
-    known_but (barred_word takes_stream) options (codes "describe" ∷ codes "units" ∷ codes "why" ∷ codes "--" ∷ []) (codes "explain" ∷ codes "-V" ∷ []) None
+    known_but (barred_word takes_stream) options (codes "describe" ∷ codes "units" ∷ codes "why" ∷ codes "explain" ∷ codes "--" ∷ []) (codes "-V" ∷ []) None
+
+-- words before they are sorted
+abbrev pub sorting_words : CommandLine
+sorting_words = known_words true
+
+-- an explanation has no options
+abbrev pub explain_options : List OptionRow
+explain_options = map constant_view EXPLAIN_OPTIONS
+
+abbrev pub explain_words : CommandLine
+explain_words = known_by explain_options (codes "explain" ∷ codes "--" ∷ []) (codes "-V" ∷ []) None
 
 -- the file of a description can be named with units, and with no names of files
 abbrev pub is_units : Option Subcommand → Bool
@@ -43,8 +54,8 @@ known_for words = known_words (takes_stream words)
 -- the lines before the options
 abbrev pub usage_front : Text
 usage_front =
-    codes "usage: tsjob [describe|units|why] [OPTIONS] < PACKETS > JOB\n"
-    ++ (codes "       tsjob [describe|units|why] [OPTIONS] -- FILE.. > JOB\n" ++ codes "       tsjob explain < DESCRIPTION [PLAN]\n")
+    codes "usage: tsjob [describe|units|why] [OPTIONS] [FILE..|-] [-o OUT]\n"
+    ++ (codes "       tsjob units --stream DESCRIPTION < PACKETS > RECORDS\n" ++ codes "       tsjob explain [DESCRIPTION [PLAN]]\n")
 
 -- and a line for each option
 abbrev pub usage_text : List ℕ

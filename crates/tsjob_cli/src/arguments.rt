@@ -12,7 +12,7 @@ use crate::options::OPTIONS;
 use clap::ArgMatches;
 use devices::{is_given, text_of};
 use given_values::NetworkName;
-use job_run::{JobArguments, Subcommand};
+use job_run::{JobArguments, Reporting, Subcommand};
 use option_lists::{base_of, buffer_list, declare_by_of, name_list, network_in, start_of};
 use std::alloc::{AllocError, Global};
 use word_faults::{given_options, number_if, number_of, numbers_of};
@@ -108,6 +108,18 @@ fn without_in(alloc: Global, matches: &ArgMatches<'_>) -> Result<Option<Vec<u16>
     numbers_of(alloc, &OPTIONS, matches, "without")
 }
 
+// Which lines are reported.
+#[tactic(auto, unfolding(crate::specs::Arguments::reporting_in))]
+fn reporting_in(matches: &ArgMatches<'_>) -> Reporting
+    ensures { result ≡ spec.reporting_in (rows_of (found_of matches.now)) }
+{
+    Reporting {
+        whole: is_given(text_of(matches, "whole")),
+        quiet: is_given(text_of(matches, "quiet")),
+        all: is_given(text_of(matches, "verbose")),
+    }
+}
+
 // The options with one value each.
 #[tactic(auto, unfolding(crate::specs::Arguments::values_of))]
 fn values_of<'a>(alloc: Global, matches: &ArgMatches<'a>) -> Option<JobArguments<'a>>
@@ -124,13 +136,14 @@ fn values_of<'a>(alloc: Global, matches: &ArgMatches<'a>) -> Option<JobArguments
     Some(JobArguments {
         subcommand,
         stream,
-        whole: is_given(text_of(matches, "whole")),
+        reporting: reporting_in(matches),
         rate,
         start,
         pcr_limit,
         lead,
         declare_by,
         make_dts: is_given(text_of(matches, "make-dts")),
+        strict: is_given(text_of(matches, "strict")),
         base,
         network: None,
         names: Vec::new(alloc),

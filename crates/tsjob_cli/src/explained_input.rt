@@ -2,13 +2,15 @@
 
 ghost use Rattle.std.specs.Prelude.{◌≡◌, IfOk, map};
 ghost use Rattle.devices.specs.Devices.{reads, writes};
+ghost use Rattle.devices.specs.Files.{files_of};
 ghost use Rattle.devices.specs.Runs.{Performs};
 ghost use Rattle.tsjob_cli.specs.Explaining as spec;
 
 use counted_io::{Sink, Source};
-use devices::{Halt, read_whole, report_halt};
+use devices::{Halt, NamedFiles, read_whole, report_halt};
 use diagnosis::explain;
 use job_run::{JobOutcome, only_text, write_outcome};
+use named_files::read_files;
 use std::alloc::{AllocError, Global};
 
 /// Returns whether the words are `explain` alone.
@@ -22,17 +24,46 @@ pub(crate) fn is_explain(words: &[&str]) -> bool
     }
 }
 
+// The status for lines of faults.
+fn status_of(lines: &str) -> u8
+    ensures { result ≡ spec.status_of lines.now }
+{
+    if lines.is_empty() { 0 } else { 1 }
+}
+
 // The outcome for the bytes of a description, and of a plan.
+#[tactic(auto, using(crate::proofs::Explaining::leads))]
 fn explained(alloc: Global, bytes: &[u8]) -> Result<JobOutcome, AllocError>
     ensures { IfOk result (λ o. spec.ExplainLeads bytes.now o) }
 {
     let text = explain(alloc, bytes)?;
-    let status = if text.is_empty() { 0 } else { 1 };
+    let status = status_of(text.as_str());
     Ok(JobOutcome {
         output: only_text(alloc, text),
         report: String::new(alloc),
         status,
     })
+}
+
+/// Writes what is wrong with the description or the plan in the files of these names, one after another, and returns the status.
+pub(crate) fn explain_files<F: NamedFiles, W: Sink, E: Sink>(
+    alloc: Global,
+    files: &F,
+    names: &[&str],
+    output: &mut W,
+    faults: &mut E,
+) -> u8
+    ensures { spec.ExplainsFiles (files_of (F.contents_of files.now) (F.opens files.now) F.never_fails)
+        (map (λ s. s.now) names.now) (writes W.Sink output.old output.new) (writes E.Sink faults.old faults.new) result }
+{
+    let bytes = match read_files(alloc, files, names, faults) {
+        Ok(bytes) => bytes,
+        Err(status) => return status,
+    };
+    match explained(alloc, &bytes) {
+        Ok(outcome) => write_outcome(&outcome, output, faults),
+        Err(_) => report_halt(faults, Halt::Memory),
+    }
 }
 
 /// Writes what is wrong with the description or the plan in the input, and returns the status.

@@ -3,15 +3,21 @@
 //! `options` is the table of options, with the usage; `arguments` reads the command line by it; `file_mark` finds `--`, and
 //! `file_words` has the names of files after it. What it asks for of streams is done by `job_run`. `streaming` writes the units of the streams of a
 //! description in a file while the stream arrives; `explained_input` explains the faults of a description.
-//! `program` is `run`.
+//! `program` is `run`, for options with `--` before names of files; `made_job` has what it writes in memory. `command` is
+//! `run_command`, for words as people type them (`specs/Command`). `rows` has the rows of options that `tsremux` shares.
 #![tactic(auto)]
 
 mod arguments;
+mod command;
 mod explained_input;
 mod file_mark;
 mod file_words;
+mod made_job;
 mod options;
 mod program;
+pub mod rows;
 mod streaming;
 
+pub use command::{OUTPUT_WORD, SHORT_NAMES, output_file, run_command};
+pub use made_job::{MadeJob, make_job};
 pub use program::{report_usage, run};

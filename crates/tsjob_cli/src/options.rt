@@ -5,12 +5,15 @@ ghost use Rattle.word_faults.specs.KnownWords.{known_of};
 
 use crate::arguments::subcommand_of;
 use crate::file_mark::has_mark;
+use crate::rows::{
+    BASE, BUFFERS, DECLARE, HELP, LEAD, MAKE_DTS, NAME, NETWORK, OUTPUT, PCR, PROGRAM, PROGRESS,
+    QUIET, RATE, START, STRICT, VERBOSE, VERSION, WITHOUT,
+};
 use job_run::Subcommand;
-use option_lists::Scale;
 use word_faults::{KnownWords, OptionRow, ValueKind, word_beside};
 
 /// The options, and the word beside them. What is read, which word is a fault, and the usage follow these rows.
-pub(crate) const OPTIONS: [OptionRow; 18] = [
+pub(crate) const OPTIONS: [OptionRow; 22] = [
     OptionRow {
         name: "subcommand",
         value: ValueKind::Word,
@@ -19,117 +22,19 @@ pub(crate) const OPTIONS: [OptionRow; 18] = [
         apart: "",
         help: "what is written: the description, the units, or why there is no plan; else the whole job",
     },
-    OptionRow {
-        name: "rate",
-        value: ValueKind::Scaled {
-            scale: Scale::Bits,
-            least: 100_000,
-            greatest: 100_000_000,
-            default: None,
-        },
-        form: "",
-        unit: "bits a second, or with k or M",
-        apart: "",
-        help: "bits a second; else the least at which a plan is found",
-    },
-    OptionRow {
-        name: "program",
-        value: ValueKind::Numbers { greatest: 65_535 },
-        form: "N,..",
-        unit: "",
-        apart: "",
-        help: "the programs that are taken",
-    },
-    OptionRow {
-        name: "without",
-        value: ValueKind::Numbers { greatest: 8_191 },
-        form: "PID,..",
-        unit: "",
-        apart: "",
-        help: "PIDs that are left out",
-    },
-    OptionRow {
-        name: "buffers",
-        value: ValueKind::Buffers,
-        form: "PID:RX:MAIN,..",
-        unit: "bits a second and bytes",
-        apart: "",
-        help: "buffers of a PID, in bits a second and bytes",
-    },
-    OptionRow {
-        name: "lead",
-        value: ValueKind::Scaled {
-            scale: Scale::Ticks,
-            least: 1,
-            greatest: 90_000,
-            default: Some(90_000),
-        },
-        form: "",
-        unit: "units of 90 kHz, or with ms or s",
-        apart: "",
-        help: "the greatest lead of a unit, in units of 90 kHz",
-    },
-    OptionRow {
-        name: "declare",
-        value: ValueKind::Declare,
-        form: "groups|time",
-        unit: "",
-        apart: "",
-        help: "by what packets are declared; else by groups where they ask for little more",
-    },
-    OptionRow {
-        name: "pcr",
-        value: ValueKind::Scaled {
-            scale: Scale::Millis,
-            least: 1,
-            greatest: 100,
-            default: Some(40),
-        },
-        form: "",
-        unit: "ms",
-        apart: "",
-        help: "the greatest time between clock references, in ms",
-    },
-    OptionRow {
-        name: "start",
-        value: ValueKind::Moment,
-        form: "YYYY-MM-DDThh:mm:ss",
-        unit: "",
-        apart: "",
-        help: "the moment of the first packet",
-    },
-    OptionRow {
-        name: "base",
-        value: ValueKind::Base,
-        form: "",
-        unit: "units of 90 kHz",
-        apart: "",
-        help: "the system clock as the run begins, in units of 90 kHz, or that of the input",
-    },
-    OptionRow {
-        name: "network",
-        value: ValueKind::Network,
-        form: "ID:NAME[:ORIGINAL]",
-        unit: "",
-        apart: "",
-        help: "the network, and original_network_id",
-    },
-    OptionRow {
-        name: "name",
-        value: ValueKind::Names,
-        form: "N:NAME[:PROVIDER],..",
-        unit: "",
-        apart: "",
-        help: "the names of the services of programs",
-    },
-    OptionRow {
-        name: "make-dts",
-        value: ValueKind::Flag,
-        form: "",
-        unit: "",
-        apart: "",
-        help: "DTS are made from PTS",
-    },
+    RATE,
+    PROGRAM,
+    WITHOUT,
+    BUFFERS,
+    LEAD,
+    DECLARE,
+    PCR,
+    START,
+    BASE,
+    NETWORK,
+    NAME,
+    MAKE_DTS,
+    STRICT,
     OptionRow {
         name: "whole",
         value: ValueKind::Flag,
@@ -143,40 +48,25 @@ pub(crate) const OPTIONS: [OptionRow; 18] = [
         value: ValueKind::File,
         form: "FILE",
         unit: "",
-        apart: "",
+        apart: "--output",
         help: "with units: those of the streams of this description, while the stream comes",
     },
-    OptionRow {
-        name: "progress",
-        value: ValueKind::Flag,
-        form: "",
-        unit: "",
-        apart: "",
-        help: "report each second how many bytes are read, on a terminal",
-    },
-    OptionRow {
-        name: "version",
-        value: ValueKind::Alone,
-        form: "",
-        unit: "",
-        apart: "",
-        help: "or -V, alone: the version, and the kit that proved it",
-    },
-    OptionRow {
-        name: "help",
-        value: ValueKind::Alone,
-        form: "",
-        unit: "",
-        apart: "",
-        help: "or -h: this text, on standard output",
-    },
+    OUTPUT,
+    QUIET,
+    VERBOSE,
+    PROGRESS,
+    VERSION,
+    HELP,
 ];
 
+/// The options beside the word `explain`.
+pub(crate) const EXPLAIN_OPTIONS: [OptionRow; 2] = [VERSION, HELP];
+
 /// The usage, written to the first writer if the words ask for help, to the second on a usage error: a line for each option of the table.
-const USAGE: &str = "usage: tsjob [describe|units|why] [OPTIONS] < PACKETS > JOB
-       tsjob [describe|units|why] [OPTIONS] -- FILE.. > JOB
-       tsjob explain < DESCRIPTION [PLAN]
-  --rate 100000..100000000       bits a second; else the least at which a plan is found
+const USAGE: &str = "usage: tsjob [describe|units|why] [OPTIONS] [FILE..|-] [-o OUT]
+       tsjob units --stream DESCRIPTION < PACKETS > RECORDS
+       tsjob explain [DESCRIPTION [PLAN]]
+  --rate 100000..100000000       bits a second; else the first tried rate with a plan
   --program N,..                 the programs that are taken
   --without PID,..               PIDs that are left out
   --buffers PID:RX:MAIN,..       buffers of a PID, in bits a second and bytes
@@ -188,8 +78,12 @@ const USAGE: &str = "usage: tsjob [describe|units|why] [OPTIONS] < PACKETS > JOB
   --network ID:NAME[:ORIGINAL]   the network, and original_network_id
   --name N:NAME[:PROVIDER],..    the names of the services of programs
   --make-dts                     DTS are made from PTS
+  --strict                       a stream that cannot be carried refuses the input; else it is left out
   --whole                        the input is no capture: its last PES packets are whole
   --stream FILE                  with units: those of the streams of this description, while the stream comes
+  --output FILE                  or -o: the file that is written; else standard output
+  --quiet                        or -q: report only why nothing is written
+  --verbose                      or -v: report also what is left out without a loss
   --progress                     report each second how many bytes are read, on a terminal
   --version                      or -V, alone: the version, and the kit that proved it
   --help                         or -h: this text, on standard output
@@ -215,11 +109,32 @@ fn known_words(takes_stream: bool) -> KnownWords
 {
     KnownWords {
         options: &OPTIONS,
-        words: &["describe", "units", "why", "--"],
+        words: &["describe", "units", "why", "explain", "--"],
         names: false,
-        alone: &["explain", "-V"],
+        alone: &["-V"],
         required: None,
         barred: barred_word(takes_stream),
+    }
+}
+
+/// Returns what is known of words before they are sorted: all options, and all subcommands.
+pub(crate) fn sorting_words() -> KnownWords
+    ensures { known_of result ≡ spec.sorting_words }
+{
+    known_words(true)
+}
+
+/// Returns what is known of the words that ask for an explanation.
+pub(crate) fn explain_words() -> KnownWords
+    ensures { known_of result ≡ spec.explain_words }
+{
+    KnownWords {
+        options: &EXPLAIN_OPTIONS,
+        words: &["explain", "--"],
+        names: false,
+        alone: &["-V"],
+        required: None,
+        barred: None,
     }
 }
 

@@ -1,6 +1,7 @@
 pub mod OptionNumbers
 pub mod CommandLines
 pub mod Subcommands
+pub mod HeaderLines
 pub mod Listing
 pub mod PlanOutcomes
 pub mod UnitLists

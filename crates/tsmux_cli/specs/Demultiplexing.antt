@@ -1,8 +1,9 @@
 -- `demux`: a line for each finding.
 use Rattle.std.specs.Prelude.{◌≡◌, ℕ, ◌++◌, Bool, List, [], if◌then◌else◌, Result, Ok, Err}
 use Rattle.demux.specs.Views.{FindingView}
-use Rattle.demux.specs.Stream.{StreamState, start, pushed, finished}
-use Rattle.demux.specs.FoundSoFar.{FoundSoFar, with_found}
+use Rattle.demux.specs.Stream.{StreamState, start, ended_found, held_found, pushed, finished}
+use Rattle.demux.specs.FoundSoFar.{with_found}
+use Rattle.demux.specs.Bodies.{HeadersSoFar, headers_pushed}
 use Rattle.devices.specs.Devices.{Device}
 use Rattle.devices.specs.Outcomes.{Outcome}
 use Rattle.devices.specs.WholeInput.{ReadsInput}
@@ -21,22 +22,26 @@ demultiplexed bytes = record { output = finding_lines (findings_of bytes); repor
 abbrev pub Demultiplexes : List ℕ → Outcome → Type 0
 Demultiplexes bytes outcome = outcome ≡ demultiplexed bytes
 
--- after some bytes of a stream, whose findings are taken away as they come: the lines of all that is found so far
+-- after some bytes of a stream, whose findings are taken away as they come: the lines of all that is found so far. No line needs a body
 pub record ListsSome (bytes : List ℕ) (demux : StreamState) (faulty : Bool) (lines : List ℕ) : Type 0 where
   pub found : List FindingView
-  pub so_far : FoundSoFar bytes demux found
+  pub so_far : HeadersSoFar bytes demux found
   pub faults : faulty ≡ has_fault found
   pub lines_are : lines ≡ finding_lines found
 
 -- the lines of what the next piece finds follow those that were there, and nothing of it is kept beside
 pub record ListsBytes (piece : List ℕ) (before after : StreamState) (lines more : List ℕ) (faulty : Bool) : Type 0 where
-  pub state : after ≡ with_found [] (pushed before piece)
+  pub state : after ≡ with_found [] (headers_pushed before piece)
   pub faults : faulty ≡ has_fault (pushed before piece).found
   pub lines_are : more ≡ lines ++ finding_lines (pushed before piece).found
 
 abbrev pub ListsPiece : List ℕ → StreamState → StreamState → List ℕ → List ℕ → Result Bool Halt → Type 0
 ListsPiece piece before after lines more (Ok faulty) = ListsBytes piece before after lines more faulty
 ListsPiece piece before after lines more (Err halt) = halt ≡ Memory
+
+-- what the end of a stream decides: of the bytes of a packet that is not whole, then of each PID
+abbrev pub found_at_end : StreamState → List FindingView
+found_at_end s = held_found s.packets s.held ++ ended_found s.packets s.states
 
 -- the whole input was read, and all its findings are listed
 pub record ListsWhole (input : Device) (lines : List ℕ) (faulty : Bool) : Type 0 where

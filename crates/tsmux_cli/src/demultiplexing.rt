@@ -1,16 +1,18 @@
 //! `demux`: a line for each finding in a transport stream, which is read piece by piece.
-ghost use Rattle.std.specs.Prelude.{◌≡◌, ◌++◌, IfOk, IfErr, OnOk, Err, map};
-ghost use Rattle.demux.specs.Shown.{finding_view};
-ghost use Rattle.demux.specs.Stream as stream;
+ghost use Rattle.std.specs.Prelude.{◌≡◌, ◌<◌, ◌++◌, ℕ, true, IfOk, IfErr, OnOk, Some, Err, length, map, slice_get};
+ghost use Rattle.demux.specs.Findings.{ended};
+ghost use Rattle.demux.specs.Machine.{PidState};
+ghost use Rattle.demux.specs.Stream.{held_found};
+ghost use Rattle.demux.specs.Shown.{finding_view, with_pid};
 ghost use Rattle.devices.specs.Devices.{reads, writes};
 ghost use Rattle.devices.specs.Runs.{Performs};
 ghost use Rattle.devices.specs.WholeInput.{ReadsInput};
-ghost use Rattle.tsmux_cli.specs.Demultiplexing.{Demultiplexes, ListsPiece, ListsSome, ListsWhole};
+ghost use Rattle.tsmux_cli.specs.Demultiplexing.{Demultiplexes, ListsPiece, ListsSome, ListsWhole, found_at_end};
 ghost use Rattle.tsmux_cli.specs.FindingLines.{finding_lines, has_fault};
 
 use crate::finding_lines::{has_fault, write_findings};
 use counted_io::{Sink, Source};
-use demux::{Demux, Finding};
+use demux::{Finding, HeaderDemux};
 use devices::{Halt, PieceTaker, report_halt, take_input, write_bytes};
 use std::alloc::Global;
 
@@ -31,7 +33,8 @@ fn list(found: &[Finding<'_>], text: &mut Vec<u8>) -> Result<bool, Halt>
 }
 
 /// Appends the lines of the findings in the next piece of a stream, and returns whether one is a fault.
-fn list_piece(piece: &[u8], demux: &mut Demux, text: &mut Vec<u8>) -> Result<bool, Halt>
+#[tactic(auto, using(crate::proofs::HeaderLines::lines_alike, crate::proofs::HeaderLines::faults_alike))]
+fn list_piece(piece: &[u8], demux: &mut HeaderDemux, text: &mut Vec<u8>) -> Result<bool, Halt>
     ensures { ListsPiece piece.now demux.old demux.new text.old.items text.new.items result }
 {
     let Ok(()) = demux.push(piece) else {
@@ -45,7 +48,7 @@ fn list_piece(piece: &[u8], demux: &mut Demux, text: &mut Vec<u8>) -> Result<boo
 /// The lines of the findings in a stream that is taken piece by piece, and whether one is a fault.
 #[derive(Drop)]
 struct FindingList {
-    demux: Demux,
+    demux: HeaderDemux,
     text: Vec<u8>,
     faulty: bool,
 }
@@ -62,17 +65,57 @@ impl PieceTaker for FindingList {
     }
 }
 
-/// Lists the findings at the end of the stream, and returns whether there is a fault.
-fn list_end(demux: &mut Demux, text: &mut Vec<u8>) -> Result<bool, Halt>
-    ensures lines { OnOk result
-        (text.new.items ≡ text.old.items ++ finding_lines (stream.finished demux.old).found) }
-    ensures fault { IfOk result (λ faulty. faulty ≡ has_fault (stream.finished demux.old).found) }
+/// Lists what the end of the stream decides of the bytes of a packet that is not whole, and returns whether it is a fault.
+#[tactic(auto, using(crate::proofs::HeaderLines::lines_after, crate::proofs::HeaderLines::faults_after))]
+fn list_held(alloc: Global, demux: &HeaderDemux, text: &mut Vec<u8>) -> Result<bool, Halt>
+    ensures lines { OnOk result (text.new.items ≡ text.old.items
+        ++ finding_lines (held_found demux.now.packets demux.now.held)) }
+    ensures fault { IfOk result (λ faulty. faulty ≡ has_fault (held_found demux.now.packets demux.now.held)) }
     ensures memory { IfErr result (λ halt. halt ≡ Halt.Memory) }
 {
-    let Ok(()) = demux.finish() else {
+    let mut found: Vec<Finding<'static>> = Vec::new(alloc);
+    let Ok(()) = demux.end_of_packet(alloc, &mut found) else {
         return Err(Halt::Memory);
     };
-    list(demux.findings(), text)
+    list(&found, text)
+}
+
+/// Lists what the end of the stream decides of the PID at an index, and returns whether it is a fault.
+#[tactic(auto, using(crate::proofs::HeaderLines::lines_after, crate::proofs::HeaderLines::faults_after))]
+fn list_end_of_pid(
+    alloc: Global,
+    demux: &HeaderDemux,
+    index: usize,
+    text: &mut Vec<u8>,
+) -> Result<bool, Halt>
+    requires { index < length demux.now.states }
+    ensures lines { (entry : ℕ × PidState) → slice_get demux.now.states index ≡ Some entry →
+        OnOk result (text.new.items ≡ text.old.items ++ finding_lines
+        (map (with_pid entry.0 demux.now.packets) (ended true entry.1.open_unit))) }
+    ensures fault { (entry : ℕ × PidState) → slice_get demux.now.states index ≡ Some entry →
+        IfOk result (λ faulty. faulty ≡ has_fault
+        (map (with_pid entry.0 demux.now.packets) (ended true entry.1.open_unit))) }
+    ensures memory { IfErr result (λ halt. halt ≡ Halt.Memory) }
+{
+    let mut found: Vec<Finding<'static>> = Vec::new(alloc);
+    let Ok(()) = demux.end_of_pid(index, &mut found) else {
+        return Err(Halt::Memory);
+    };
+    list(&found, text)
+}
+
+/// Lists the findings at the end of the stream, and returns whether there is a fault.
+fn list_end(alloc: Global, demux: &HeaderDemux, text: &mut Vec<u8>) -> Result<bool, Halt>
+    ensures lines { OnOk result (text.new.items ≡ text.old.items ++ finding_lines (found_at_end demux.now)) }
+    ensures fault { IfOk result (λ faulty. faulty ≡ has_fault (found_at_end demux.now)) }
+    ensures memory { IfErr result (λ halt. halt ≡ Halt.Memory) }
+{
+    let mut faulty = list_held(alloc, demux, text)?;
+    for i in 0..demux.pids() {
+        let ended = list_end_of_pid(alloc, demux, i, text)?;
+        faulty = faulty | ended;
+    }
+    Ok(faulty)
 }
 
 /// The lines of all findings in the input, and whether there is a fault.
@@ -81,7 +124,7 @@ fn list_input<R: Source>(alloc: Global, input: &mut R) -> Result<(Vec<u8>, bool)
         listed.0.items listed.1) }
     ensures err { IfErr result (λ halt. ReadsInput (reads R.Source input.old input.new) (Err halt)) }
 {
-    let demux = Demux::new(alloc);
+    let demux = HeaderDemux::new(alloc);
     let text = Vec::new(alloc);
     let mut found = FindingList {
         demux,
@@ -90,11 +133,11 @@ fn list_input<R: Source>(alloc: Global, input: &mut R) -> Result<(Vec<u8>, bool)
     };
     take_input(alloc, input, PIECE, &mut found)?;
     let FindingList {
-        mut demux,
+        demux,
         mut text,
         faulty,
     } = found;
-    let ended = list_end(&mut demux, &mut text)?;
+    let ended = list_end(alloc, &demux, &mut text)?;
     Ok((text, faulty | ended))
 }
 

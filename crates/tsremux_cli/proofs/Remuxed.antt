@@ -1,10 +1,11 @@
 -- Both programs, one after the other.
-use Rattle.std.proofs.Common.{◌≡◌, ℕ, true, false, List, [], Some, Result, Ok, Err, refl, inl, inr, subst}
+use Rattle.std.proofs.Common.{◌≡◌, ℕ, true, false, List, Some, Result, Ok, Err, refl, inl, inr, subst}
 use Rattle.word_faults.specs.CommandLine.{Text}
 use Rattle.devices.specs.Devices.{Device, Port, between, IsUntouched}
 use Rattle.devices.specs.Files.{Files}
 use Rattle.tsremux_cli.specs.Muxing.{IsMuxed, MuxesBytes}
-use Rattle.tsremux_cli.specs.Remuxing.{MakesJob, Remuxes, RunsJob, is_job}
+use Rattle.tsjob_cli.specs.MadeJobs.{MakesJob, is_job}
+use Rattle.tsremux_cli.specs.Remuxing.{Remuxes}
 use Rattle.tsremux_cli.specs.declared.figures.Figures.{Figures}
 use Rattle.tsremux_cli.specs.declared.figures.Remuxed.TheVariants.{Whole, Ended}
 
@@ -12,11 +13,6 @@ use Rattle.tsremux_cli.specs.declared.figures.Remuxed.TheVariants.{Whole, Ended}
 pub held : (bytes : List ℕ) (job packets faults : Device) (result : Result Figures ℕ) → job.before.bytes ≡ Some bytes → IsMuxed job packets faults result →
     MuxesBytes bytes packets faults result
 held bytes job packets faults result begins muxed = record { job = job; begins = begins; muxed = muxed }
-
--- the job is made
-pub made : (words : List Text) (files : Files) (input job faults : Device) (bytes : List ℕ) (status : ℕ) → job.before.bytes ≡ Some [] → job.after.bytes ≡ Some bytes →
-    RunsJob words files input job faults status → MakesJob words files input faults bytes status
-made words files input job faults bytes status empty are runs = record { job = job; empty = empty; bytes_are = are; runs = runs }
 
 -- there is none
 pub stopped : (words : List Text) (files : Files) (input packets : Device) (before after : Port) (bytes : List ℕ) (status : ℕ) →

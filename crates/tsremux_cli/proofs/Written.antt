@@ -1,26 +1,22 @@
 -- Packets to standard output, or to a file.
-use Rattle.std.proofs.Common.{◌≡◌, ℕ, Bool, true, false, List, [], ◌∷◌, Option, Some, refl, inl, inr, subst}
+use Rattle.std.proofs.Common.{◌≡◌, ℕ, Bool, true, false, List, [], Option, Some, refl, inl, inr, subst}
 use Rattle.word_faults.specs.CommandLine.{Text}
 use Rattle.devices.specs.Devices.{Device, Port, between, IsUntouched}
 use Rattle.devices.specs.Files.{Files, IsAsKnown}
-use Rattle.devices.specs.Lines.{Reports, Tells}
-use Rattle.tsremux_cli.specs.Lines.{TellsOf, terminal_line, uncreated_text}
+use Rattle.devices.specs.Lines.{Reports}
+use Rattle.named_files.specs.Reports.{TellsOf, terminal_line, uncreated_text}
 use Rattle.tsremux_cli.specs.Outputs.{Concludes, Finishes, ToFile, ToOutput, WritesOutput, output_name}
-use Rattle.tsremux_cli.specs.Program.{Answers, Outputs, WritesTo}
+use Rattle.tsjob_cli.specs.Command.{Outputs, output_file}
+use Rattle.tsremux_cli.specs.Program.{Answers, WritesTo}
 use Rattle.tsremux_cli.specs.Remuxing.{Remuxes}
-use Rattle.tsremux_cli.specs.Words.{job_words, output_file}
+use Rattle.tsremux_cli.specs.Words.{is_quiet, job_words}
 use Rattle.tsremux_cli.specs.declared.figures.Remuxed.{Remuxed}
 
--- two texts, one after the other
-pub told_both : (before mid after : Port) (first second : List ℕ) → Reports (between before mid) first → Reports (between mid after) second → Tells before after (first ∷ second ∷ [])
-unfolding Tells
-told_both before mid after first second r s = (mid, r, (after, s, refl))
-
-pub concluded : (words : List Text) (files : Files) (input output : Device) (before mid after : Port) (result : Remuxed) (status : ℕ) →
-    Remuxes words files input output (between before mid) result → Concludes output_name result (between mid after) status →
+pub concluded : (words : List Text) (quiet : Bool) (files : Files) (input output : Device) (before mid after : Port) (result : Remuxed) (status : ℕ) → quiet ≡ is_quiet words →
+    Remuxes words files input output (between before mid) result → Concludes quiet output_name result (between mid after) status →
     WritesOutput words files input output (between before after) status
-concluded words files input output before mid after result status remuxes concludes =
-    record { result = result; told = mid; remuxes = remuxes; concludes = concludes }
+concluded words quiet files input output before mid after result status is remuxes concludes =
+    record { result = result; told = mid; remuxes = remuxes; concludes = subst (λ (b : Bool). Concludes b output_name result (between mid after) status) is concludes }
 
 pub to_terminal : (shows : Option Bool) (shown : Bool) (words : List Text) (files : Files) (input output faults : Device) (status : ℕ) → IsAsKnown shows shown → shown ≡ true →
     IsUntouched input → IsUntouched output → Reports faults terminal_line → status ≡ 2 → ToOutput shows words files input output faults status
@@ -31,11 +27,19 @@ pub to_output : (shows : Option Bool) (shown : Bool) (words : List Text) (files 
     WritesOutput words files input output faults status → ToOutput shows words files input output faults status
 to_output shows shown words files input output faults status known is writes = inr (subst (λ (b : Bool). IsAsKnown shows b) is known, writes)
 
-pub to_file : (creates : Option Bool) (name : Text) (words : List Text) (files : Files) (input file : Device) (before mid after : Port) (result : Remuxed) (status : ℕ) →
+pub to_file : (creates : Option Bool) (name : Text) (words : List Text) (quiet : Bool) (files : Files) (input file : Device) (before mid after : Port) (result : Remuxed) (status : ℕ) →
     IsAsKnown creates true → ((bytes : List ℕ) → file.before.bytes ≡ Some bytes → bytes ≡ []) → Remuxes words files input file (between before mid) result →
-    Finishes name result (between mid after) status → ToFile creates name words files input (between before after) status
-to_file creates name words files input file before mid after result status created empty remuxes finishes =
-    inl (record { created = created; file = file; empty = empty; result = result; told = mid; remuxes = remuxes; finishes = finishes })
+    quiet ≡ is_quiet words → Finishes quiet name result (between mid after) status → ToFile creates name words files input (between before after) status
+to_file creates name words quiet files input file before mid after result status created empty remuxes is finishes =
+    inl (record {
+      created = created;
+      file = file;
+      empty = empty;
+      result = result;
+      told = mid;
+      remuxes = remuxes;
+      finishes = subst (λ (b : Bool). Finishes b name result (between mid after) status) is finishes;
+    })
 
 pub to_none : (creates : Option Bool) (name : Text) (words : List Text) (files : Files) (input faults : Device) (status : ℕ) → IsAsKnown creates false → IsUntouched input →
     TellsOf name uncreated_text faults → status ≡ 3 → ToFile creates name words files input faults status

@@ -1,11 +1,11 @@
 -- What is reported of an output.
-use Rattle.std.specs.Prelude.{◌⊎◌, ℕ, ◌*◌, ◌/◌, ◌%◌, max, [], ◌∷◌, ◌++◌, codes, decimal}
+use Rattle.std.specs.Prelude.{◌⊎◌, ℕ, ◌*◌, ◌/◌, ◌%◌, max, Bool, true, false, ◌++◌, codes, decimal}
 use Rattle.devices.specs.Devices.{Device, IsUntouched}
-use Rattle.devices.specs.Lines.{Reports, Tells}
+use Rattle.devices.specs.Lines.{Reports}
 use Rattle.word_faults.specs.CommandLine.{Text}
 use Rattle.tsremux_cli.specs.declared.figures.Figures.{Figures}
 
--- 1. What holds of an output whose packets are all written
+-- what holds of an output whose packets are all written
 
 -- its length, in tenths of a second: a packet has 1,504 bits
 abbrev pub tenths_of : Figures → ℕ
@@ -23,23 +23,7 @@ held_text = codes ": every accepted unit by its DTS, no buffer over its size\n"
 abbrev pub held_line : Text → Figures → Text
 held_line name figures = name ++ (figures_text figures ++ held_text)
 
--- it is reported, unless memory for the line runs out
-abbrev pub TellsHeld : Text → Figures → Device → Type 0
-TellsHeld name figures faults = Reports faults (held_line name figures) ⊎ IsUntouched faults
-
--- 2. What is wrong with a file
-
--- its name, then a text
-abbrev pub TellsOf : Text → Text → Device → Type 0
-TellsOf name text faults = Tells faults.before faults.after (name ∷ text ∷ [])
-
-abbrev pub uncreated_text : Text
-uncreated_text = codes ": can't be created\n"
-
-abbrev pub unnamed_text : Text
-unnamed_text = codes ": can't be renamed\n"
-
--- 3. What is wrong with standard output
-
-abbrev pub terminal_line : Text
-terminal_line = codes "standard output is a terminal: name a file by -o FILE\n"
+-- it is reported, unless only refusals are, or memory for the line runs out
+abbrev pub TellsHeld : Bool → Text → Figures → Device → Type 0
+TellsHeld true name figures faults = IsUntouched faults
+TellsHeld false name figures faults = Reports faults (held_line name figures) ⊎ IsUntouched faults

@@ -4,17 +4,19 @@ use Rattle.word_faults.specs.CommandLine.{Text}
 use Rattle.devices.specs.Devices.{Device, IsUntouched, Port, between}
 use Rattle.devices.specs.Files.{Files, IsAsKnown}
 use Rattle.devices.specs.Lines.{Reports}
-use Rattle.tsremux_cli.specs.Lines.{TellsHeld, TellsOf, terminal_line, uncreated_text, unnamed_text}
+use Rattle.tsremux_cli.specs.Lines.{TellsHeld}
+use Rattle.named_files.specs.Reports.{TellsOf, terminal_line, uncreated_text, unnamed_text}
 use Rattle.tsremux_cli.specs.Remuxing.{Remuxes}
+use Rattle.tsremux_cli.specs.Words.{is_quiet}
 use Rattle.tsremux_cli.specs.declared.figures.Remuxed.{Remuxed}
 use Rattle.tsremux_cli.specs.declared.figures.Remuxed.TheVariants.{Whole, Ended}
 
 -- 1. Standard output
 
 -- what holds of the packets is reported, if all are written
-abbrev pub Concludes : Text → Remuxed → Device → ℕ → Type 0
-Concludes name (Whole figures ended) faults status = (status ≡ ended) × TellsHeld name figures faults
-Concludes name (Ended ended) faults status = (status ≡ ended) × IsUntouched faults
+abbrev pub Concludes : Bool → Text → Remuxed → Device → ℕ → Type 0
+Concludes quiet name (Whole figures ended) faults status = (status ≡ ended) × TellsHeld quiet name figures faults
+Concludes quiet name (Ended ended) faults status = (status ≡ ended) × IsUntouched faults
 
 abbrev pub output_name : Text
 output_name = codes "standard output"
@@ -23,7 +25,7 @@ pub record WritesOutput (words : List Text) (files : Files) (input output faults
   pub result : Remuxed
   pub told : Port
   pub remuxes : Remuxes words files input output (between faults.before told) result
-  pub concludes : Concludes output_name result (between told faults.after) status
+  pub concludes : Concludes (is_quiet words) output_name result (between told faults.after) status
 
 -- no packets go to a terminal
 pub record IsTerminal (shows : Option Bool) (input output faults : Device) (status : ℕ) : Type 0 where
@@ -40,10 +42,10 @@ ToOutput shows words files input output faults status =
 -- 2. A file
 
 -- what holds of the packets is reported, if all are written and the file has its name
-abbrev pub Finishes : Text → Remuxed → Device → ℕ → Type 0
-Finishes name (Whole figures ended) faults status =
-    ((status ≡ ended) × TellsHeld name figures faults) ⊎ ((status ≡ 3) × TellsOf name unnamed_text faults)
-Finishes name (Ended ended) faults status = (status ≡ ended) × IsUntouched faults
+abbrev pub Finishes : Bool → Text → Remuxed → Device → ℕ → Type 0
+Finishes quiet name (Whole figures ended) faults status =
+    ((status ≡ ended) × TellsHeld quiet name figures faults) ⊎ ((status ≡ 3) × TellsOf name unnamed_text faults)
+Finishes quiet name (Ended ended) faults status = (status ≡ ended) × IsUntouched faults
 
 -- the packets go to a new file
 pub record WritesFile (creates : Option Bool) (name : Text) (words : List Text) (files : Files) (input faults : Device) (status : ℕ) : Type 0 where
@@ -53,7 +55,7 @@ pub record WritesFile (creates : Option Bool) (name : Text) (words : List Text) 
   pub result : Remuxed
   pub told : Port
   pub remuxes : Remuxes words files input file (between faults.before told) result
-  pub finishes : Finishes name result (between told faults.after) status
+  pub finishes : Finishes (is_quiet words) name result (between told faults.after) status
 
 -- it can't be created: nothing is read
 pub record HasNoFile (creates : Option Bool) (name : Text) (input faults : Device) (status : ℕ) : Type 0 where

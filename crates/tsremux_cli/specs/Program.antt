@@ -5,15 +5,8 @@ use Rattle.devices.specs.Devices.{Device, IsUntouched}
 use Rattle.devices.specs.Files.{Files}
 use Rattle.devices.specs.Runs.{LacksMemory}
 use Rattle.tsremux_cli.specs.Outputs.{ToFile, ToOutput}
-use Rattle.tsremux_cli.specs.Words.{job_words, output_file}
-
--- what is known of files that are written: whether one can be created, and whether standard output is a terminal
-pub record Outputs : Type 0 where
-  pub creates : List ℕ → Option Bool
-  pub shows : Option Bool
-
-abbrev pub outputs_of : (List ℕ → Option Bool) → Option Bool → Outputs
-outputs_of creates shows = record { creates = creates; shows = shows }
+use Rattle.tsjob_cli.specs.Command.{Outputs, output_file}
+use Rattle.tsremux_cli.specs.Words.{job_words}
 
 -- the packets go to standard output, or to the file of a name
 abbrev pub WritesTo : Outputs → Option Text → List Text → Files → Device → Device → Device → ℕ → Type 0

@@ -45,19 +45,20 @@ fn held_line(alloc: Global, name: &str, figures: Figures) -> Result<String, Allo
     Ok(text)
 }
 
-/// Reports what holds of the output of this name, unless memory for the line runs out.
-pub(crate) fn report_held<E: Sink>(alloc: Global, name: &str, figures: Figures, faults: &mut E)
-    ensures { spec.TellsHeld name.now figures (writes E.Sink faults.old faults.new) }
+/// Reports what holds of the output of this name, unless only refusals are reported, or memory for the line runs out.
+pub(crate) fn report_held<E: Sink>(
+    alloc: Global,
+    quiet: bool,
+    name: &str,
+    figures: Figures,
+    faults: &mut E,
+)
+    ensures { spec.TellsHeld quiet name.now figures (writes E.Sink faults.old faults.new) }
 {
+    if quiet {
+        return;
+    }
     if let Ok(text) = held_line(alloc, name, figures) {
         report_text(faults, text.as_str());
     }
-}
-
-/// Reports what is wrong with the file of this name.
-pub(crate) fn report_of<E: Sink>(name: &str, text: &str, faults: &mut E)
-    ensures { spec.TellsOf name.now text.now (writes E.Sink faults.old faults.new) }
-{
-    report_text(faults, name);
-    report_text(faults, text);
 }

@@ -3,160 +3,22 @@ ghost use Rattle.std.specs.Prelude.{◌≡◌};
 ghost use Rattle.tsremux_cli.specs.Options as spec;
 ghost use Rattle.word_faults.specs.KnownWords.{known_of};
 
-use option_lists::Scale;
-use word_faults::{KnownWords, OptionRow, ValueKind};
+use tsjob_cli::rows::{
+    BASE, BUFFERS, DECLARE, HELP, LEAD, MAKE_DTS, NAME, NETWORK, OUTPUT, PCR, PROGRAM, PROGRESS,
+    QUIET, RATE, START, STRICT, VERBOSE, VERSION, WITHOUT,
+};
+use word_faults::{KnownWords, OptionRow};
 
 /// The options. Which word is a fault, and the usage, follow these rows.
-pub(crate) const OPTIONS: [OptionRow; 16] = [
-    OptionRow {
-        name: "rate",
-        value: ValueKind::Scaled {
-            scale: Scale::Bits,
-            least: 100_000,
-            greatest: 100_000_000,
-            default: None,
-        },
-        form: "",
-        unit: "bits a second, or with k or M",
-        apart: "",
-        help: "bits a second; else the least at which a plan is found",
-    },
-    OptionRow {
-        name: "program",
-        value: ValueKind::Numbers { greatest: 65_535 },
-        form: "N,..",
-        unit: "",
-        apart: "",
-        help: "the programs that are taken",
-    },
-    OptionRow {
-        name: "without",
-        value: ValueKind::Numbers { greatest: 8_191 },
-        form: "PID,..",
-        unit: "",
-        apart: "",
-        help: "PIDs that are left out",
-    },
-    OptionRow {
-        name: "buffers",
-        value: ValueKind::Buffers,
-        form: "PID:RX:MAIN,..",
-        unit: "bits a second and bytes",
-        apart: "",
-        help: "buffers of a PID, in bits a second and bytes",
-    },
-    OptionRow {
-        name: "lead",
-        value: ValueKind::Scaled {
-            scale: Scale::Ticks,
-            least: 1,
-            greatest: 90_000,
-            default: Some(90_000),
-        },
-        form: "",
-        unit: "units of 90 kHz, or with ms or s",
-        apart: "",
-        help: "the greatest lead of a unit, in units of 90 kHz",
-    },
-    OptionRow {
-        name: "declare",
-        value: ValueKind::Declare,
-        form: "groups|time",
-        unit: "",
-        apart: "",
-        help: "by what packets are declared; else by groups where they ask for little more",
-    },
-    OptionRow {
-        name: "pcr",
-        value: ValueKind::Scaled {
-            scale: Scale::Millis,
-            least: 1,
-            greatest: 100,
-            default: Some(40),
-        },
-        form: "",
-        unit: "ms",
-        apart: "",
-        help: "the greatest time between clock references, in ms",
-    },
-    OptionRow {
-        name: "start",
-        value: ValueKind::Moment,
-        form: "YYYY-MM-DDThh:mm:ss",
-        unit: "",
-        apart: "",
-        help: "the moment of the first packet",
-    },
-    OptionRow {
-        name: "base",
-        value: ValueKind::Base,
-        form: "",
-        unit: "units of 90 kHz",
-        apart: "",
-        help: "the system clock as the run begins, in units of 90 kHz, or that of the input",
-    },
-    OptionRow {
-        name: "network",
-        value: ValueKind::Network,
-        form: "ID:NAME[:ORIGINAL]",
-        unit: "",
-        apart: "",
-        help: "the network, and original_network_id",
-    },
-    OptionRow {
-        name: "name",
-        value: ValueKind::Names,
-        form: "N:NAME[:PROVIDER],..",
-        unit: "",
-        apart: "",
-        help: "the names of the services of programs",
-    },
-    OptionRow {
-        name: "make-dts",
-        value: ValueKind::Flag,
-        form: "",
-        unit: "",
-        apart: "",
-        help: "DTS are made from PTS",
-    },
-    OptionRow {
-        name: "progress",
-        value: ValueKind::Flag,
-        form: "",
-        unit: "",
-        apart: "",
-        help: "report each second how many bytes are read, on a terminal",
-    },
-    OptionRow {
-        name: "output",
-        value: ValueKind::File,
-        form: "FILE",
-        unit: "",
-        apart: "",
-        help: "or -o: the file that is written; else standard output",
-    },
-    OptionRow {
-        name: "version",
-        value: ValueKind::Alone,
-        form: "",
-        unit: "",
-        apart: "",
-        help: "or -V, alone: the version, and the kit that proved it",
-    },
-    OptionRow {
-        name: "help",
-        value: ValueKind::Alone,
-        form: "",
-        unit: "",
-        apart: "",
-        help: "or -h: this text, on standard output",
-    },
+pub(crate) const OPTIONS: [OptionRow; 19] = [
+    RATE, PROGRAM, WITHOUT, BUFFERS, LEAD, DECLARE, PCR, START, BASE, NETWORK, NAME, MAKE_DTS,
+    STRICT, OUTPUT, QUIET, VERBOSE, PROGRESS, VERSION, HELP,
 ];
 
 /// The usage, written to the first writer if the words ask for help, to the second on a usage error: a line for each option of the table.
 const USAGE: &str = "usage: tsremux [OPTIONS] [FILE..|-] -o OUT
        tsremux [OPTIONS] [FILE..|-] > OUT
-  --rate 100000..100000000       bits a second; else the least at which a plan is found
+  --rate 100000..100000000       bits a second; else the first tried rate with a plan
   --program N,..                 the programs that are taken
   --without PID,..               PIDs that are left out
   --buffers PID:RX:MAIN,..       buffers of a PID, in bits a second and bytes
@@ -168,8 +30,11 @@ const USAGE: &str = "usage: tsremux [OPTIONS] [FILE..|-] -o OUT
   --network ID:NAME[:ORIGINAL]   the network, and original_network_id
   --name N:NAME[:PROVIDER],..    the names of the services of programs
   --make-dts                     DTS are made from PTS
-  --progress                     report each second how many bytes are read, on a terminal
+  --strict                       a stream that cannot be carried refuses the input; else it is left out
   --output FILE                  or -o: the file that is written; else standard output
+  --quiet                        or -q: report only why nothing is written
+  --verbose                      or -v: report also what is left out without a loss
+  --progress                     report each second how many bytes are read, on a terminal
   --version                      or -V, alone: the version, and the kit that proved it
   --help                         or -h: this text, on standard output
 ";

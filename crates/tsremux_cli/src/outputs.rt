@@ -5,19 +5,21 @@ ghost use Rattle.devices.specs.Files.{files_of};
 ghost use Rattle.tsremux_cli.specs.Outputs as spec;
 
 use crate::figures::Remuxed;
-use crate::lines::{report_held, report_of};
+use crate::lines::report_held;
 use crate::remuxing::remux;
+use crate::words::is_quiet;
 use counted_io::{Sink, Source};
 use devices::{NamedFiles, OutputFiles, report_text};
+use named_files::{TERMINAL, report_of};
 use std::alloc::Global;
 
 // Reports what holds of standard output, if all packets are written, and returns the status.
-fn conclude<E: Sink>(alloc: Global, remuxed: Remuxed, faults: &mut E) -> u8
-    ensures { spec.Concludes spec.output_name remuxed (writes E.Sink faults.old faults.new) result }
+fn conclude<E: Sink>(alloc: Global, quiet: bool, remuxed: Remuxed, faults: &mut E) -> u8
+    ensures { spec.Concludes quiet spec.output_name remuxed (writes E.Sink faults.old faults.new) result }
 {
     match remuxed {
         Remuxed::Whole { figures, status } => {
-            report_held(alloc, "standard output", figures, faults);
+            report_held(alloc, quiet, "standard output", figures, faults);
             status
         }
         Remuxed::Ended { status } => status,
@@ -39,7 +41,7 @@ fn write_output<F: NamedFiles, R: Source, W: Sink, E: Sink>(
         (writes E.Sink faults.old faults.new) result }
 {
     let remuxed = remux(alloc, words, files, input, output, faults);
-    conclude(alloc, remuxed, faults)
+    conclude(alloc, is_quiet(words), remuxed, faults)
 }
 
 /// Writes the packets to standard output, unless it is a terminal, and returns the status.
@@ -57,10 +59,7 @@ pub(crate) fn remux_to_output<F: NamedFiles + OutputFiles, R: Source, W: Sink, E
         (writes E.Sink faults.old faults.new) result }
 {
     if files.shows_output() {
-        report_text(
-            faults,
-            "standard output is a terminal: name a file by -o FILE\n",
-        );
+        report_text(faults, TERMINAL);
         return 2;
     }
     write_output(alloc, words, files, input, output, faults)
@@ -69,18 +68,19 @@ pub(crate) fn remux_to_output<F: NamedFiles + OutputFiles, R: Source, W: Sink, E
 // Gives a new file its name if all packets are written, reports what holds of it, and returns the status.
 fn finish<F: OutputFiles, E: Sink>(
     alloc: Global,
+    quiet: bool,
     remuxed: Remuxed,
     name: &str,
     files: &F,
     file: F::Writer,
     faults: &mut E,
 ) -> u8
-    ensures { spec.Finishes name.now remuxed (writes E.Sink faults.old faults.new) result }
+    ensures { spec.Finishes quiet name.now remuxed (writes E.Sink faults.old faults.new) result }
 {
     match remuxed {
         Remuxed::Whole { figures, status } => {
             if files.keep_file(file) {
-                report_held(alloc, name, figures, faults);
+                report_held(alloc, quiet, name, figures, faults);
                 status
             } else {
                 report_of(name, ": can't be renamed\n", faults);
@@ -112,5 +112,5 @@ pub(crate) fn remux_to_file<F: NamedFiles + OutputFiles, R: Source, E: Sink>(
         return 3;
     };
     let remuxed = remux(alloc, words, files, input, &mut file, faults);
-    finish(alloc, remuxed, name, files, file, faults)
+    finish(alloc, is_quiet(words), remuxed, name, files, file, faults)
 }

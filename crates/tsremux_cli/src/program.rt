@@ -3,6 +3,7 @@ ghost use Rattle.std.specs.Prelude.{◌≡◌, true, false, codes, map, option_m
 ghost use Rattle.devices.specs.Devices.{reads, writes};
 ghost use Rattle.devices.specs.Files.{files_of};
 ghost use Rattle.devices.specs.Lines.{Reports};
+ghost use Rattle.tsjob_cli.specs.Command.{outputs_of};
 ghost use Rattle.tsremux_cli.specs.Options.{known_words, usage_text};
 ghost use Rattle.tsremux_cli.specs.Program as spec;
 ghost use Rattle.tsremux_cli.specs.Words.{are_taken, sorted_words};
@@ -10,10 +11,11 @@ ghost use Rattle.word_faults.specs.UsageReport.{AnswersWords};
 
 use crate::options::{known_words, usage};
 use crate::outputs::{remux_to_file, remux_to_output};
-use crate::words::{all_taken, job_words, output_file, sorted_words};
+use crate::words::{all_taken, job_words, sorted_words};
 use counted_io::{Sink, Source};
 use devices::{Halt, NamedFiles, OutputFiles, report_halt, report_text};
 use std::alloc::Global;
+use tsjob_cli::output_file;
 use word_faults::answer_words;
 
 /// Writes the usage, and returns the status.
@@ -35,7 +37,7 @@ fn write_to<F: NamedFiles + OutputFiles, R: Source, W: Sink, E: Sink>(
     output: &mut W,
     faults: &mut E,
 ) -> u8
-    ensures { spec.WritesTo (spec.outputs_of (F.creates files.now) (F.shows files.now))
+    ensures { spec.WritesTo (outputs_of (F.creates files.now) (F.shows files.now))
         (option_map (λ s. s.now) name.entry) (map (λ s. s.now) words.now)
         (files_of (F.contents_of files.now) (F.opens files.now) F.never_fails)
         (reads R.Source input.old input.new) (writes W.Sink output.old output.new)
@@ -56,7 +58,7 @@ fn answer<F: NamedFiles + OutputFiles, R: Source, W: Sink, E: Sink>(
     output: &mut W,
     faults: &mut E,
 ) -> u8
-    ensures { spec.Answers (spec.outputs_of (F.creates files.now) (F.shows files.now)) (map (λ s. s.now) words.now)
+    ensures { spec.Answers (outputs_of (F.creates files.now) (F.shows files.now)) (map (λ s. s.now) words.now)
         (files_of (F.contents_of files.now) (F.opens files.now) F.never_fails)
         (reads R.Source input.old input.new) (writes W.Sink output.old output.new)
         (writes E.Sink faults.old faults.new) result }
@@ -85,7 +87,7 @@ fn run_sorted<F: NamedFiles + OutputFiles, R: Source, W: Sink, E: Sink>(
     faults: &mut E,
 ) -> u8
     ensures remux { are_taken (map (λ s. s.now) words.now) ≡ true →
-        spec.Answers (spec.outputs_of (F.creates files.now) (F.shows files.now)) (map (λ s. s.now) words.now)
+        spec.Answers (outputs_of (F.creates files.now) (F.shows files.now)) (map (λ s. s.now) words.now)
         (files_of (F.contents_of files.now) (F.opens files.now) F.never_fails)
         (reads R.Source input.old input.new) (writes W.Sink output.old output.new)
         (writes E.Sink faults.old faults.new) result }
@@ -117,7 +119,7 @@ pub fn run<F: NamedFiles + OutputFiles, R: Source, W: Sink, E: Sink>(
 ) -> u8
     // Words that can be taken: what `tsmux mux` writes of the job that `tsjob` writes for them.
     ensures remux { are_taken (sorted_words (map (λ s. s.now) words.now)) ≡ true →
-        spec.Answers (spec.outputs_of (F.creates files.now) (F.shows files.now)) (sorted_words (map (λ s. s.now) words.now))
+        spec.Answers (outputs_of (F.creates files.now) (F.shows files.now)) (sorted_words (map (λ s. s.now) words.now))
         (files_of (F.contents_of files.now) (F.opens files.now) F.never_fails)
         (reads R.Source input.old input.new) (writes W.Sink output.old output.new)
         (writes E.Sink faults.old faults.new) result }

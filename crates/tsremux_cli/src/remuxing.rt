@@ -1,48 +1,15 @@
 //! Streams to a job, and the job to its packets.
-ghost use Rattle.std.specs.Prelude.{◌≡◌, map};
+ghost use Rattle.std.specs.Prelude.{map};
 ghost use Rattle.devices.specs.Devices.{reads, writes};
 ghost use Rattle.devices.specs.Files.{files_of};
 ghost use Rattle.tsremux_cli.specs.Remuxing as spec;
 
 use crate::figures::Remuxed;
 use crate::muxing::mux_bytes;
-use counted_io::{Counted, Sink, Source};
+use counted_io::{Sink, Source};
 use devices::NamedFiles;
 use std::alloc::Global;
-
-/// What `tsjob` wrote, and its status.
-#[derive(Drop)]
-struct MadeJob {
-    bytes: Vec<u8>,
-    status: u8,
-}
-
-// What `tsjob` writes for these words.
-fn make_job<F: NamedFiles, R: Source, E: Sink>(
-    alloc: Global,
-    words: &[&str],
-    files: &F,
-    input: &mut R,
-    faults: &mut E,
-) -> MadeJob
-    ensures { spec.MakesJob (map (λ s. s.now) words.now)
-        (files_of (F.contents_of files.now) (F.opens files.now) F.never_fails)
-        (reads R.Source input.old input.new) (writes E.Sink faults.old faults.new) result.bytes.items result.status }
-{
-    let mut job = Counted::new(Vec::new(alloc));
-    let status = tsjob_cli::run(alloc, words, files, input, &mut job, faults);
-    MadeJob {
-        bytes: job.into_inner(),
-        status,
-    }
-}
-
-// Whether it is a job.
-fn is_job(made: &MadeJob) -> bool
-    ensures { result ≡ spec.is_job made.now.bytes.items made.now.status }
-{
-    made.status <= 1 && made.bytes.len() > 0
-}
+use tsjob_cli::make_job;
 
 /// Writes the packets of the job that `tsjob` makes for these words.
 pub(crate) fn remux<F: NamedFiles, R: Source, W: Sink, E: Sink>(
@@ -60,7 +27,7 @@ pub(crate) fn remux<F: NamedFiles, R: Source, W: Sink, E: Sink>(
 {
     let made = make_job(alloc, words, files, input, faults);
     let status = made.status;
-    if !is_job(&made) {
+    if !made.is_job() {
         return Remuxed::Ended { status };
     }
     match mux_bytes(alloc, made.bytes.as_slice(), output, faults) {

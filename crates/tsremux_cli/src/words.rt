@@ -1,38 +1,21 @@
 //! What the words of the command line ask for.
-ghost use Rattle.std.specs.Prelude.{◌≡◌, IfOk, map, option_map};
+ghost use Rattle.std.specs.Prelude.{◌≡◌, IfOk, map};
+ghost use Rattle.std.specs.List.{list_any};
+ghost use Rattle.std.specs.Str.{bytes_eq};
+ghost use Rattle.std.specs.Prelude.{codes};
 ghost use Rattle.tsremux_cli.specs.Words as spec;
 
 use crate::options::known_words;
 use std::alloc::{AllocError, Global};
-use word_faults::{are_taken, push_words, value_given, words_without};
-
-/// The word of the option that names the file that is written.
-const OUTPUT: &str = "--output";
-
-// The long name of an option.
-fn long_word<'a>(word: &'a str) -> &'a str
-    ensures { result.now ≡ spec.long_word word.now }
-{
-    if word == "-o" { OUTPUT } else { word }
-}
-
-// The words, with long names of options.
-fn long_words<'a>(alloc: Global, words: &[&'a str]) -> Result<Vec<&'a str>, AllocError>
-    ensures { IfOk result (λ long. map (λ s. s.now) long.items ≡ map spec.long_word (map (λ s. s.now) words.now)) }
-{
-    let mut long = Vec::new(alloc);
-    for word in words {
-        long.push(long_word(word))?;
-    }
-    Ok(long)
-}
+use tsjob_cli::{OUTPUT_WORD, SHORT_NAMES};
+use word_faults::{are_taken, long_words, push_words, sorted_command, words_without};
 
 /// Returns the options, each with its value, then the names of files after `--`.
 pub(crate) fn sorted_words<'a>(alloc: Global, words: &[&'a str]) -> Result<Vec<&'a str>, AllocError>
     ensures { IfOk result (λ sorted. map (λ s. s.now) sorted.items ≡ spec.sorted_words (map (λ s. s.now) words.now)) }
 {
-    let long = long_words(alloc, words)?;
-    word_faults::sorted_words(alloc, known_words(), &long)
+    let long = long_words(alloc, &SHORT_NAMES, words)?;
+    sorted_command(alloc, known_words(), &long)
 }
 
 /// Returns whether each of the sorted words can be taken, and the version is not asked for.
@@ -46,19 +29,22 @@ pub(crate) fn all_taken(alloc: Global, words: &[&str]) -> Result<bool, AllocErro
 pub(crate) fn job_words<'a>(alloc: Global, words: &[&'a str]) -> Result<Vec<&'a str>, AllocError>
     ensures { IfOk result (λ job. map (λ s. s.now) job.items ≡ spec.job_words (map (λ s. s.now) words.now)) }
 {
-    let left = words_without(alloc, OUTPUT, words)?;
+    let left = words_without(alloc, OUTPUT_WORD, words)?;
     let mut job = Vec::new(alloc);
     job.push("--whole")?;
     push_words(&mut job, &left)?;
     Ok(job)
 }
 
-/// Returns the file that is written; none if it is standard output.
-pub(crate) fn output_file<'a>(words: &[&'a str]) -> Option<&'a str>
-    ensures { option_map (λ s. s.now) result ≡ spec.output_file (map (λ s. s.now) words.now) }
+fn have_quiet(words: &[&str]) -> bool
+    ensures { result ≡ list_any (λ word. bytes_eq word.now (codes "--quiet")) words.now }
 {
-    match value_given(OUTPUT, words) {
-        Some("-") => None,
-        name => name,
-    }
+    words.iter().any(|word| *word == "--quiet")
+}
+
+/// Returns whether only refusals are reported.
+pub(crate) fn is_quiet(words: &[&str]) -> bool
+    ensures { result ≡ spec.is_quiet (map (λ s. s.now) words.now) }
+{
+    have_quiet(words)
 }

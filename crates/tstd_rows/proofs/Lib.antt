@@ -29,3 +29,4 @@ pub mod Packets
 pub mod VideoRows
 pub mod VideoBegins
 pub mod VideoIfAny
+pub mod BusyRows

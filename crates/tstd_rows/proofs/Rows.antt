@@ -11,13 +11,15 @@ use Rattle.tstd_rows.specs.declared.excess.Excess.{Excess}
 use Rattle.tstd.specs.BufferState.{fullness_at}
 use Rattle.std.specs.Option.{option_to_list}
 use Rattle.tstd_rows.specs.History.{Part, arrivals_of, transport_of, last_of, left_after, main_fullness, row_least}
-use Rattle.tstd_rows.specs.History.Part.{Carries}
+use Rattle.tstd_rows.specs.History.Part.{Passes, Carries}
+use Rattle.tstd_rows.specs.Busy.{busy_of, busy_under_way, busy_with}
+use Rattle.tstd_rows.specs.declared.busy_watch.BusyWatch.{BusyWatch}
 use Rattle.tstd_rows.specs.Viewed.{IsViewOf}
 use Rattle.tstd_rows.specs.MainExcess.{after_row, ended_by}
 use Rattle.tstd_rows.specs.declared.viewed_buffers.StreamView.{StreamView}
 use Rattle.tstd_rows.specs.declared.main_watch.MainWatch.{MainWatch}
 use Rattle.tstd_rows.proofs.Views.{row_lowest, row_most}
-use Rattle.tstd_rows.specs.Held.{Held, IsHeld, carried, last_entry, main_ended, main_found, main_least_found, transport_found}
+use Rattle.tstd_rows.specs.Held.{Held, IsHeld, carried, last_entry, main_ended, main_found, main_least_found, passed, transport_busy_under_way, transport_found}
 use Rattle.tstd_rows.specs.declared.stream_buffers.StreamBuffers.{StreamBuffers}
 
 -- the most in the main buffer when one of these bytes enters
@@ -77,8 +79,10 @@ pub carried_held : (old new : StreamBuffers) (h : Held) (ts times : List ℕ) (m
     ((parts : List Part) → IsViewOf old.view parts → IsViewOf new.view (Carries ts ∷ parts)) → new.view.transport ≡ buffer_entered old.view.transport ts →
     new.view.watch.size ≡ old.view.watch.size → 0 < old.view.transport.step →
     most ≡ greatest_at (fullness_with old.view.main (departures old.view.transport.step old.view.transport.last ts)) (departures old.view.transport.step old.view.transport.last ts) →
-    last ≡ new.view.transport.last → new.main.size ≡ old.main.size → new.main.under_way ≡ after_row old.main.size old.main.under_way most last → IsHeld new (carried h times)
-carried_held old new h ts times most last k same rx views enters size pos most_is last_is main_size main =
+    last ≡ new.view.transport.last → new.main.size ≡ old.main.size → new.main.under_way ≡ after_row old.main.size old.main.under_way most last → new.busy ≡ old.busy →
+    IsHeld new (carried h times)
+unfolding busy_of
+carried_held old new h ts times most last k same rx views enters size pos most_is last_is main_size main busy =
     let found : most ≡ main_found h ts = most_is ∙ main_row old.view h.rate h.parts ts k.view k.step pos in
     let ends : last ≡ last_entry h ts = last_is ∙ last_row old.view new.view.transport h.rate h.parts ts k.view k.step enters in
     let size_is : new.main.size ≡ h.main.size = main_size ∙ ap (λ (m : MainWatch). m.size) k.main in
@@ -92,7 +96,32 @@ carried_held old new h ts times most last k same rx views enters size pos most_i
       size = size ∙ k.size;
       view = views h.parts k.view;
       main = watch;
+      busy = busy ∙ k.busy;
     })
+
+-- bytes that go no further than the transport buffer
+pub passed_held : (old new : StreamBuffers) (h : Held) (ts times : List ℕ) → IsHeld old h → ts ≡ times → new.rx ≡ old.rx →
+    ((parts : List Part) → IsViewOf old.view parts → IsViewOf new.view (Passes ts ∷ parts)) → new.view.transport ≡ buffer_entered old.view.transport ts →
+    new.view.watch.size ≡ old.view.watch.size → new.main ≡ old.main → new.busy ≡ busy_with old.busy old.view.transport.last ts → IsHeld new (passed h times)
+unfolding busy_of
+passed_held old new h ts times k same rx views enters size main busy =
+    let last : old.view.transport.last ≡ last_of h.rate h.parts =
+    ap (λ (b : TransportBuffer). b.last) k.view.arrived ∙ ap (λ (n : ℕ). last_of n h.parts) k.step in
+    subst (λ (t : List ℕ). IsHeld new (passed h t)) same (record {
+      rx = rx ∙ k.rx;
+      step = ap (λ (b : TransportBuffer). b.step) enters ∙ k.step;
+      size = size ∙ k.size;
+      view = views h.parts k.view;
+      main = main ∙ k.main;
+      busy = busy ∙ ap₂ (λ (w : BusyWatch) (l : ℕ). busy_with w l ts) k.busy last;
+    })
+
+-- how long the transport buffer is not empty
+pub busy_held : (b : StreamBuffers) (h : Held) → IsHeld b h → busy_under_way b.busy b.view.transport.last ≡ transport_busy_under_way h
+busy_held b h k =
+    let last : b.view.transport.last ≡ last_of h.rate h.parts =
+    ap (λ (t : TransportBuffer). t.last) k.view.arrived ∙ ap (λ (n : ℕ). last_of n h.parts) k.step in
+    ap₂ (λ (w : BusyWatch) (l : ℕ). busy_under_way w l) k.busy last
 
 -- and the excess of the main buffer that has ended
 pub carried_ended : (old : StreamBuffers) (after : TransportBuffer) (h : Held) (ts times : List ℕ) (most last : ℕ) (result : Option Excess) → IsHeld old h → ts ≡ times →

@@ -1,8 +1,8 @@
 -- The buffers of video of a stream that may have none.
-use Rattle.std.proofs.Common.{◌≡◌, ◌∙◌, ℕ, List, [], ◌∷◌, ◌++◌, Option, Some, None, Result, Ok, Err, IfOk, OnOk, refl, subst, ap}
+use Rattle.std.proofs.Common.{◌≡◌, ◌∙◌, ℕ, List, ◌∷◌, Option, Some, None, Result, Ok, Err, OnOk, refl, subst, ap}
 use Rattle.tstd_rows.specs.declared.transport_buffer.TransportBuffer.{TransportBuffer}
 use Rattle.tstd_rows.specs.History.{Part, transport_of, main_peak, unit_of}
-use Rattle.tstd_rows.specs.History.Part.{Carries, Begins}
+use Rattle.tstd_rows.specs.History.Part.{Begins}
 use Rattle.tstd_rows.specs.VideoViewed.{elementary_peak, leaked, multiplexing_buffer}
 use Rattle.tstd_rows.specs.declared.unit_seen.DueTime.{DueTime}
 use Rattle.tstd_rows.specs.declared.unit_seen.UnitSeen.{UnitSeen}

@@ -1,6 +1,6 @@
 -- A packet enters the buffers of its stream: its header and adaptation field first, and then its payload, with which a unit may
 -- begin (ISO/IEC 13818-1, 2.4.2.3).
-use Rattle.std.specs.Prelude.{ℕ, ◌+◌, ◌-◌, ◌*◌, ◌==◌, ◌&&◌, min, max, nat_le, nat_lt, Bool, false, if◌then◌else◌, List, [], ◌++◌, Option, Some, None}
+use Rattle.std.specs.Prelude.{ℕ, ◌+◌, ◌-◌, ◌*◌, ◌==◌, ◌&&◌, min, max, nat_le, nat_lt, Bool, true, false, if◌then◌else◌, List, [], ◌++◌, Option, Some, None}
 use Rattle.std.specs.Option.{option_to_list}
 use Rattle.arrival.specs.declared.arrival.Arrival.{Arrival}
 use Rattle.arrival.specs.Arrivals.{has_times, lead_of, times_at}
@@ -12,6 +12,7 @@ use Rattle.tstd_rows.specs.declared.unit_seen.DueTime.{DueTime}
 use Rattle.tstd_rows.specs.Held.{Held, begun, carried, main_ended, main_found, main_least_found, passed, transport_ended, transport_found, unit_before}
 use Rattle.tstd_rows.specs.HeldVideo.{nothing_of_video}
 use Rattle.tstd_rows.specs.declared.arriving.Arriving.{Arriving}
+use Rattle.tstd_rows.specs.declared.arriving.UnitPart.{UnitPart}
 use Rattle.tstd_rows.specs.declared.entered.Entered.{Entered}
 
 -- what has ended with a packet: excesses of the transport buffer, of the main buffer, and the unit before one that begins; the most
@@ -109,26 +110,62 @@ after_header h arrival p size lead = after_bytes (after_lead h arrival p lead) a
 abbrev pub after_unit : Held → Arrival → Arriving → ℕ → ℕ → Held
 after_unit h arrival p size lead = after_begin (after_header h arrival p size lead) p.begins
 
+-- or the first bytes of its payload alone
+abbrev pub with_first : Held → Arrival → Arriving → ℕ → ℕ → ℕ → Held
+with_first h arrival p size lead count = after_bytes (after_unit h arrival p size lead) arrival p.enters (188 * p.index + (188 - size)) count
+
 abbrev pub with_packet : Held → Arrival → Arriving → ℕ → ℕ → Held
-with_packet h arrival p size lead = after_bytes (after_unit h arrival p size lead) arrival p.enters (188 * p.index + (188 - size)) size
+with_packet h arrival p size lead = with_first h arrival p size lead size
 
 unfoldable pub after : Held → Arrival → Arriving → Held
 after h arrival p = if takes_in h arrival p then with_packet h arrival p (size_of p) (lead_in arrival p) else h
 
+unfoldable pub after_first : Held → Arrival → Arriving → ℕ → Held
+after_first h arrival p count = if takes_in h arrival p then with_first h arrival p (size_of p) (lead_in arrival p) count else h
+
 -- and what has ended, and was found
-abbrev pub ended_with : Held → Arrival → Arriving → ℕ → ℕ → EnteredView
-ended_with h arrival p size lead = record {
+abbrev pub ended_first : Held → Arrival → Arriving → ℕ → ℕ → ℕ → EnteredView
+ended_first h arrival p size lead count = record {
   transport = bytes_transport h arrival (188 * p.index) lead
       ++ (bytes_transport (after_lead h arrival p lead) arrival (188 * p.index + lead) (188 - size - lead)
-      ++ bytes_transport (after_unit h arrival p size lead) arrival (188 * p.index + (188 - size)) size);
-  main = bytes_main (after_unit h arrival p size lead) arrival p.enters (188 * p.index + (188 - size)) size;
+      ++ bytes_transport (after_unit h arrival p size lead) arrival (188 * p.index + (188 - size)) count);
+  main = bytes_main (after_unit h arrival p size lead) arrival p.enters (188 * p.index + (188 - size)) count;
   unit = unit_ended (after_header h arrival p size lead) p.begins;
   transport_most = max
       (max (bytes_transport_most h arrival (188 * p.index) lead) (bytes_transport_most (after_lead h arrival p lead) arrival (188 * p.index + lead) (188 - size - lead)))
-      (bytes_transport_most (after_unit h arrival p size lead) arrival (188 * p.index + (188 - size)) size);
-  main_most = bytes_main_most (after_unit h arrival p size lead) arrival p.enters (188 * p.index + (188 - size)) size;
-  main_least = bytes_main_least (after_unit h arrival p size lead) arrival p.enters (188 * p.index + (188 - size)) size;
+      (bytes_transport_most (after_unit h arrival p size lead) arrival (188 * p.index + (188 - size)) count);
+  main_most = bytes_main_most (after_unit h arrival p size lead) arrival p.enters (188 * p.index + (188 - size)) count;
+  main_least = bytes_main_least (after_unit h arrival p size lead) arrival p.enters (188 * p.index + (188 - size)) count;
 }
+
+abbrev pub ended_with : Held → Arrival → Arriving → ℕ → ℕ → EnteredView
+ended_with h arrival p size lead = ended_first h arrival p size lead size
 
 unfoldable pub entered : Held → Arrival → Arriving → EnteredView
 entered h arrival p = if takes_in h arrival p then ended_with h arrival p (size_of p) (lead_in arrival p) else nothing
+
+unfoldable pub entered_first : Held → Arrival → Arriving → ℕ → EnteredView
+entered_first h arrival p count = if takes_in h arrival p then ended_first h arrival p (size_of p) (lead_in arrival p) count else nothing
+
+-- An access unit that begins within a payload: its bytes enter as those of a unit of its own (2.4.2.3), as long as they have times and no more
+-- than 2^40 bytes come
+
+abbrev pub takes_part : Held → Arrival → UnitPart → Bool
+takes_part h arrival p =
+    nat_le p.byte last_bytes && nat_le (transport_of h.rate h.parts).bytes last_bytes && (nat_le p.size 188 && has_times arrival p.byte p.size)
+
+unfoldable pub after_part : Held → Arrival → UnitPart → Held
+after_part h arrival p = if takes_part h arrival p then after_bytes (begun h p.due) arrival true p.byte p.size else h
+
+abbrev pub ended_part : Held → Arrival → UnitPart → EnteredView
+ended_part h arrival p = record {
+  transport = bytes_transport (begun h p.due) arrival p.byte p.size;
+  main = bytes_main (begun h p.due) arrival true p.byte p.size;
+  unit = unit_before h;
+  transport_most = bytes_transport_most (begun h p.due) arrival p.byte p.size;
+  main_most = bytes_main_most (begun h p.due) arrival true p.byte p.size;
+  main_least = bytes_main_least (begun h p.due) arrival true p.byte p.size;
+}
+
+unfoldable pub entered_part : Held → Arrival → UnitPart → EnteredView
+entered_part h arrival p = if takes_part h arrival p then ended_part h arrival p else nothing

@@ -23,11 +23,17 @@ video_unit_ended sizes h None = None
 video_unit_ended sizes h (Some due) = video_unit sizes h.rate h.parts
 
 -- a packet
+abbrev pub video_first : Option VideoSizes → Held → Arrival → Arriving → ℕ → ℕ → ℕ → VideoEnteredView
+video_first sizes h arrival p size lead count = bytes_video sizes (after_unit h arrival p size lead) arrival p.enters (188 * p.index + (188 - size)) count
+
 abbrev pub video_with : Option VideoSizes → Held → Arrival → Arriving → ℕ → ℕ → VideoEnteredView
-video_with sizes h arrival p size lead = bytes_video sizes (after_unit h arrival p size lead) arrival p.enters (188 * p.index + (188 - size)) size
+video_with sizes h arrival p size lead = video_first sizes h arrival p size lead size
 
 unfoldable pub video_of : Option VideoSizes → Held → Arrival → Arriving → VideoEnteredView
 video_of sizes h arrival p = if takes_in h arrival p then video_with sizes h arrival p (size_of p) (lead_in arrival p) else nothing_found
+
+unfoldable pub video_first_of : Option VideoSizes → Held → Arrival → Arriving → ℕ → VideoEnteredView
+video_first_of sizes h arrival p count = if takes_in h arrival p then video_first sizes h arrival p (size_of p) (lead_in arrival p) count else nothing_found
 
 abbrev pub unit_with : Option VideoSizes → Held → Arrival → Arriving → ℕ → ℕ → Option UnitSeen
 unit_with sizes h arrival p size lead = video_unit_ended sizes (after_header h arrival p size lead) p.begins

@@ -10,6 +10,9 @@ use Rattle.tstd_rows.specs.History.Part.{Passes, Carries, Begins}
 use Rattle.tstd_rows.specs.Viewed.{IsViewOf}
 use Rattle.tstd_rows.specs.Limits.{tb_size}
 use Rattle.tstd_rows.specs.MainExcess.{after_row, ended_by}
+use Rattle.tstd_rows.specs.Busy.{busy_of, busy_under_way, second_of}
+use Rattle.tstd_rows.specs.declared.busy_watch.BusyWatch.{BusyWatch}
+use Rattle.tstd_rows.specs.declared.busy_watch.Stay.{Stay}
 use Rattle.tstd_rows.specs.declared.main_watch.MainWatch.{MainWatch}
 use Rattle.tstd_rows.specs.declared.unit_seen.UnitSeen.{UnitSeen}
 use Rattle.tstd_rows.specs.declared.unit_seen.DueTime.{DueTime}
@@ -32,6 +35,7 @@ pub record IsHeld (buffers : StreamBuffers) (h : Held) : Type 0 where
   pub size : buffers.view.watch.size ≡ tb_size
   pub view : IsViewOf buffers.view h.parts
   pub main : buffers.main ≡ h.main
+  pub busy : buffers.busy ≡ busy_of h.rate (second_of h.rate h.rx) h.parts
 
 -- 1. What is in them
 
@@ -45,6 +49,13 @@ main_most h = main_peak h.rate h.parts
 -- the excess of the transport buffer that is under way
 abbrev pub transport_under_way : Held → Option Excess
 transport_under_way h = excess_after h.rate tb_size 0 None (arrivals_of h.parts)
+
+-- how long the transport buffer was not empty, and is not
+abbrev pub transport_busy : Held → BusyWatch
+transport_busy h = busy_of h.rate (second_of h.rate h.rx) h.parts
+
+abbrev pub transport_busy_under_way : Held → Option Stay
+transport_busy_under_way h = busy_under_way (transport_busy h) (last_of h.rate h.parts)
 
 -- the unit under way
 abbrev pub unit_before : Held → Option UnitSeen

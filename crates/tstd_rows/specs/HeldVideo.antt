@@ -10,6 +10,7 @@ use Rattle.tstd_rows.specs.History.Part.{Passes, Carries, Begins}
 use Rattle.tstd_rows.specs.VideoViewed.{elementary_held, last_leaked, leak_step, leaked, leaked_after, multiplexing_ended}
 use Rattle.tstd_rows.specs.Viewed.{IsViewOf}
 use Rattle.tstd_rows.specs.MainExcess.{after_row, ended_by}
+use Rattle.tstd_rows.specs.Busy.{leak_busy, second_of}
 use Rattle.tstd_rows.specs.declared.unit_seen.UnitSeen.{UnitSeen}
 use Rattle.tstd_rows.specs.declared.video_buffers.VideoBuffers.{VideoBuffers}
 use Rattle.tstd_rows.specs.declared.video_buffers.VideoEntered.{VideoEntered}
@@ -22,6 +23,8 @@ pub record VideoSizes : Type 0 where
   pub leak : ℕ
   pub multiplexing : ℕ
   pub elementary : ℕ
+  -- how long the multiplexing buffer may be not empty
+  pub second : ℕ
 
 -- bytes of the unit under way that arrive at these times, after those parts: the most that is in the elementary stream buffer when one of them
 -- enters it
@@ -52,6 +55,7 @@ pub record IsVideoHeld (video : VideoBuffers) (sizes : VideoSizes) (rate : ℕ) 
   pub view : IsViewOf video.view (leaked rate parts)
   pub main_size : video.elementary.size ≡ sizes.elementary
   pub under_way : video.elementary.under_way ≡ elementary_under_way rate sizes.leak sizes.elementary parts
+  pub busy : video.busy ≡ leak_busy rate sizes.leak sizes.second parts
 
 -- those of a stream, if it has them: of sizes, or there are none
 abbrev pub HoldsVideo : Option VideoBuffers → Option VideoSizes → ℕ → List Part → Type 0
@@ -100,7 +104,12 @@ nothing_of_video = record { waiting = None; free = None; elementary = None; unit
 
 -- the sizes of those of a stream at that rate, drained at `rx` bits a second
 abbrev pub sizes_of : ℕ → ℕ → VideoRates → VideoSizes
-sizes_of rate rx rates = record { leak = leak_step rate rx rates.rbx; multiplexing = rates.multiplexing; elementary = rates.elementary }
+sizes_of rate rx rates = record {
+  leak = leak_step rate rx rates.rbx;
+  multiplexing = rates.multiplexing;
+  elementary = rates.elementary;
+  second = second_of rate rx;
+}
 
 -- the buffers of a stream hold what came of it as video, if they view it so
 abbrev pub HoldsVideoOf : StreamBuffers → Option VideoSizes → Held → Type 0

@@ -18,6 +18,7 @@ pub mod TableQueues
 pub mod TableRows
 pub mod Limits
 pub mod VideoViewed
+pub mod Busy
 pub mod Held
 pub mod Entering
 pub mod VideoBytes

@@ -14,3 +14,14 @@ pub struct Arriving {
     /// Whether its payload continues to the main buffer.
     pub enters: bool,
 }
+
+/// The bytes of an access unit that begins within the payload of a packet, as far as they are in that payload.
+#[derive(Clone, Copy)]
+pub struct UnitPart {
+    /// The first of them among all bytes of the transport stream.
+    pub byte: u64,
+    /// The number of them: 188 at most count.
+    pub size: u64,
+    /// When the access unit is due.
+    pub due: DueTime,
+}

@@ -1,14 +1,13 @@
 //! Both buffers of a stream.
-ghost use Rattle.std.specs.Prelude.{◌≡◌, ◌+◌, ◌<◌, ◌≤◌, ◌^◌, IfOk, None, OnOk, Option, Some, false, length, true, []};
+ghost use Rattle.std.specs.Prelude.{◌≡◌, ◌+◌, ◌<◌, ◌≤◌, ◌^◌, None, OnOk, Option, Some, false, length, true, []};
 ghost use Rattle.std.specs.Option.{option_to_list};
 ghost use Rattle.arrival.specs.Arrivals.{has_times, step_of, times_at};
-ghost use Rattle.tstd_rows.specs.Held.{Held, IsHeld, begun, carried, empty, main_ended, main_found, main_least_found, main_most, passed, transport_ended, transport_found, transport_most, transport_under_way, unit_before};
+ghost use Rattle.tstd_rows.specs.Held.{Held, IsHeld, begun, carried, empty, main_ended, main_found, main_least_found, main_most, passed, transport_busy, transport_busy_under_way, transport_ended, transport_found, transport_most, transport_under_way, unit_before};
 ghost use Rattle.tstd_rows.specs.HeldVideo.{HoldsVideoOf, VideoSizes, sizes_of, video_found, video_unit, video_view};
-ghost use Rattle.tstd_rows.specs.EnteringVideo.{bytes_video, video_of, video_unit_ended, video_unit_of};
-ghost use Rattle.tstd_rows.specs.Entering.{after, after_begin, after_bytes, bytes_main, bytes_main_least, bytes_main_most, bytes_transport, bytes_transport_most, entered, entered_view, nothing_entered, unit_ended};
+ghost use Rattle.tstd_rows.specs.EnteringVideo.{bytes_video, video_unit_ended};
+ghost use Rattle.tstd_rows.specs.Entering.{after_begin, after_bytes, bytes_main, bytes_main_least, bytes_main_most, bytes_transport, bytes_transport_most, unit_ended};
 
-use crate::arriving::Arriving;
-use crate::entered::Entered;
+use crate::busy_watch::{BusyWatch, Stay};
 use crate::excess::Excess;
 use crate::main_excess::see;
 use crate::main_watch::MainWatch;
@@ -23,12 +22,6 @@ use std::alloc::{AllocError, Global};
 /// The size of a transport buffer in bytes (ISO/IEC 13818-1, 2.4.2.3).
 pub const TRANSPORT_BYTES: u64 = 512;
 
-// Packets from this one on enter no buffer: the stream is longer than 2^40 bytes.
-const LAST_INDEX: u64 = 5_848_000_000;
-
-// What may have entered a buffer before a packet.
-const LAST_BYTES: u64 = (1 << 40) - 188;
-
 // What no bytes find.
 const NO_ROW: RowFound = RowFound {
     transport: 0,
@@ -38,6 +31,7 @@ const NO_ROW: RowFound = RowFound {
 
 impl StreamBuffers {
     /// Returns empty ones, the main buffer of `size` bytes, for packets that arrive so.
+    #[tactic(auto, unfolding(crate::specs::Busy::busy_of))]
     pub fn new(alloc: Global, arrival: &Arrival, rx: u32, size: u64) -> StreamBuffers
         requires { rx ≤ 200000000 }
         ensures held { IsHeld result (empty (step_of arrival.now) rx size) }
@@ -47,6 +41,7 @@ impl StreamBuffers {
             rx,
             view: StreamView::new(alloc, arrival.step(), TRANSPORT_BYTES),
             main: MainWatch::new(size),
+            busy: BusyWatch::new(u128::from(arrival.step()) * u128::from(rx) / 8),
             video: None,
         }
     }
@@ -106,6 +101,20 @@ impl StreamBuffers {
         self.view.unit
     }
 
+    /// Returns how often the transport buffer was not empty for longer than a second, and the last time when it was.
+    pub fn busy(&self) -> BusyWatch
+        ensures { (h : Held) → IsHeld self.now h → result ≡ transport_busy h }
+    {
+        self.busy
+    }
+
+    /// Returns the time since when it is not empty, if it is longer than a second.
+    pub fn busy_under_way(&self) -> Option<Stay>
+        ensures { (h : Held) → IsHeld self.now h → result ≡ transport_busy_under_way h }
+    {
+        self.busy.under_way(self.view.transport.last)
+    }
+
     // Bytes of the stream that go no further than the transport buffer, from byte `byte` on: the most that one of them found. The excess that
     // has ended is written where none is yet.
     #[inline(always)]
@@ -125,13 +134,14 @@ impl StreamBuffers {
         ensures bytes { self.new.view.transport.bytes ≡ self.old.view.transport.bytes + count }
     {
         let row = arrival.row(u64::from(self.rx), byte, count);
+        self.busy.see(self.view.transport.last, &row);
         self.view.pass(&row, ended)
     }
 
     // Bytes before a payload, none where there are none.
     #[inline(always)]
     #[tactic(auto, unfolding(crate::specs::Entering::after_payload, crate::specs::Entering::payload_transport, crate::specs::Entering::payload_transport_most))]
-    fn pass_if(
+    pub(crate) fn pass_if(
         &mut self,
         arrival: &Arrival,
         byte: u64,
@@ -210,7 +220,8 @@ impl StreamBuffers {
 
     // A unit begins: the one before it. A call of its own: few packets begin one.
     #[inline(never)]
-    fn begin_unit(
+    #[tactic(auto, unfolding(crate::specs::Busy::busy_of))]
+    pub(crate) fn begin_unit(
         &mut self,
         due: DueTime,
         unit: &mut Option<UnitSeen>,
@@ -232,7 +243,7 @@ impl StreamBuffers {
     // A unit begins, if one does: the one before it is written where none is yet.
     #[inline(always)]
     #[tactic(auto, unfolding(crate::specs::Entering::after_begin, crate::specs::Entering::unit_ended, crate::specs::EnteringVideo::video_unit_ended))]
-    fn begin(
+    pub(crate) fn begin(
         &mut self,
         due: &Option<DueTime>,
         unit: &mut Option<UnitSeen>,
@@ -258,7 +269,7 @@ impl StreamBuffers {
     // none are yet.
     #[inline(always)]
     #[tactic(auto, unfolding(crate::specs::Entering::after_payload, crate::specs::Entering::payload_transport, crate::specs::Entering::payload_main, crate::specs::Entering::payload_transport_most, crate::specs::Entering::payload_main_most, crate::specs::Entering::payload_main_least, crate::specs::EnteringVideo::payload_video))]
-    fn take(
+    pub(crate) fn take(
         &mut self,
         arrival: &Arrival,
         byte: u64,
@@ -303,70 +314,5 @@ impl StreamBuffers {
                 least: None,
             }
         }
-    }
-
-    /// Takes a packet of the stream; what has ended, and what was in the buffers, is written where nothing is yet, so that it is not moved. If
-    /// no memory is left for one unit more, drop the buffers.
-    #[tactic(auto, unfolding(crate::specs::Entering::after, crate::specs::Entering::entered, crate::specs::EnteringVideo::video_of, crate::specs::EnteringVideo::video_unit_of), using(crate::proofs::Packets::within))]
-    pub fn enter_into(
-        &mut self,
-        arrival: &Arrival,
-        packet: &Arriving,
-        into: &mut Entered,
-    ) -> Result<(), AllocError>
-        requires { into.old ≡ nothing_entered }
-        ensures held { (h : Held) → IsHeld self.old h → OnOk result (IsHeld self.new (after h arrival.now packet.now)) }
-        ensures video { (h : Held) (sizes : Option VideoSizes) → IsHeld self.old h → HoldsVideoOf self.old sizes h →
-            OnOk result (HoldsVideoOf self.new sizes (after h arrival.now packet.now)) }
-        ensures entered { (h : Held) → IsHeld self.old h →
-            OnOk result (entered_view into.new ≡ entered h arrival.now packet.now) }
-        ensures entered_video { (h : Held) (sizes : Option VideoSizes) → IsHeld self.old h → HoldsVideoOf self.old sizes h →
-            OnOk result (video_view into.new.video ≡ video_of sizes h arrival.now packet.now) }
-        ensures unit_video { (h : Held) (sizes : Option VideoSizes) → IsHeld self.old h → HoldsVideoOf self.old sizes h →
-            OnOk result (into.new.video.unit ≡ video_unit_of sizes h arrival.now packet.now) }
-    {
-        if packet.index >= LAST_INDEX
-            || self.view.transport.bytes > LAST_BYTES
-            || !arrival.has_times(188 * packet.index, 188)
-        {
-            return Ok(());
-        }
-        let size = packet.size.min(184);
-        let byte = 188 * packet.index;
-        let lead = arrival.lead(byte).min(188 - size);
-        let before = self.pass_if(arrival, byte, lead, &mut into.lead);
-        let header = self.pass_if(arrival, byte + lead, 188 - size - lead, &mut into.header);
-        self.begin(&packet.begins, &mut into.unit, &mut into.video.unit)?;
-        let payload = self.take(
-            arrival,
-            byte + (188 - size),
-            size,
-            packet.enters,
-            &mut into.payload,
-            &mut into.main,
-            &mut into.video,
-        );
-        into.transport_most = before.max(header).max(payload.transport);
-        into.main_most = payload.main;
-        into.main_least = payload.least;
-        Ok(())
-    }
-
-    /// Takes a packet of the stream, and returns what has ended, and what was in the buffers. If no memory is left for one unit more, drop the
-    /// buffers.
-    pub fn enter(&mut self, arrival: &Arrival, packet: &Arriving) -> Result<Entered, AllocError>
-        ensures held { (h : Held) → IsHeld self.old h → OnOk result (IsHeld self.new (after h arrival.now packet.now)) }
-        ensures video { (h : Held) (sizes : Option VideoSizes) → IsHeld self.old h → HoldsVideoOf self.old sizes h →
-            OnOk result (HoldsVideoOf self.new sizes (after h arrival.now packet.now)) }
-        ensures entered { (h : Held) → IsHeld self.old h →
-            IfOk result (λ e. entered_view e ≡ entered h arrival.now packet.now) }
-        ensures entered_video { (h : Held) (sizes : Option VideoSizes) → IsHeld self.old h → HoldsVideoOf self.old sizes h →
-            IfOk result (λ e. video_view e.video ≡ video_of sizes h arrival.now packet.now) }
-        ensures unit_video { (h : Held) (sizes : Option VideoSizes) → IsHeld self.old h → HoldsVideoOf self.old sizes h →
-            IfOk result (λ e. e.video.unit ≡ video_unit_of sizes h arrival.now packet.now) }
-    {
-        let mut entered = Entered::new();
-        self.enter_into(arrival, packet, &mut entered)?;
-        Ok(entered)
     }
 }

@@ -15,8 +15,9 @@
 //! - [`DueTime`], [`UnitSeen`]: when a unit is due, and when it came. [`late_cause`]: why a unit of video is late, by its
 //!   multiplexing buffer alone or by a full elementary stream buffer.
 //! - [`SystemView`]: the two buffers of a program's tables, with each excess of both; [`WatchedQueue`] is one of them.
-//! - [`StreamBuffers`]: the buffers of one PID packet by packet, and its current unit; [`Arriving`] is a packet of it,
-//!   [`Entered`] what has ended with it.
+//! - [`StreamBuffers`]: the buffers of one PID packet by packet, and its current unit; [`Arriving`] is a packet of it, [`UnitPart`] an
+//!   access unit that begins within a payload, [`Entered`] what has ended with it.
+//! - [`BusyWatch`]: how long a buffer is not empty.
 //! - [`VideoBuffers`], [`VideoRates`], [`VideoEntered`]: the multiplexing buffer and the elementary stream buffer of video.
 //! - [`transport_laws`]: what the state of a transport buffer says of its fullness over all moments. [`view_laws`]: what the
 //!   figures are over all moments, and that at a constant rate they are the figures of `tstd`.
@@ -28,6 +29,7 @@
 #![tactic(auto)]
 
 mod arriving;
+mod busy_watch;
 mod byte_excess;
 mod entered;
 mod entering;
@@ -40,6 +42,7 @@ mod main_excess;
 mod main_watch;
 mod most_found;
 mod over_bytes;
+mod packet_entry;
 mod row_arrival;
 mod row_entry;
 mod row_found;
@@ -56,7 +59,8 @@ pub mod view_laws;
 mod viewed_buffers;
 mod watched_queue;
 
-pub use arriving::Arriving;
+pub use arriving::{Arriving, UnitPart};
+pub use busy_watch::{BusyWatch, Stay};
 pub use entered::Entered;
 pub use entering::TRANSPORT_BYTES;
 pub use excess::{Excess, ExcessWatch};

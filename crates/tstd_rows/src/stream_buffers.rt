@@ -2,6 +2,7 @@
 ghost use Rattle.std.specs.Prelude.{◌+◌, ◌*◌, ◌≤◌, ◌^◌};
 ghost use Rattle.tstd_rows.specs.VideoBytes.{bytes_in};
 
+use crate::busy_watch::BusyWatch;
 use crate::main_watch::MainWatch;
 use crate::video_buffers::VideoBuffers;
 use crate::viewed_buffers::StreamView;
@@ -15,6 +16,8 @@ pub struct StreamBuffers {
     pub view: StreamView<Global>,
     /// The size of the main buffer, and its current excess.
     pub main: MainWatch,
+    /// How long the transport buffer is not empty.
+    pub busy: BusyWatch,
     /// Of video its two buffers after the transport buffer, if they are viewed.
     pub video: Option<VideoBuffers>,
     pub ghost slow: { rx ≤ 200000000 },

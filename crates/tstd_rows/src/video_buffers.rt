@@ -4,10 +4,12 @@ ghost use Rattle.arrival.specs.Rows.{IsTimed};
 ghost use Rattle.tstd_rows.specs.Buffers.{IsSoon, times_left};
 ghost use Rattle.tstd_rows.specs.History.{Part, left_after, unit_of};
 ghost use Rattle.tstd_rows.specs.History.Part.{Begins, Carries};
-ghost use Rattle.tstd_rows.specs.VideoViewed.{elementary_peak, leaked, multiplexing_buffer, multiplexing_under_way};
+ghost use Rattle.tstd_rows.specs.VideoViewed.{elementary_peak, last_leaked, leaked, multiplexing_buffer, multiplexing_under_way};
 ghost use Rattle.tstd_rows.specs.VideoBytes.{bytes_in};
+ghost use Rattle.tstd_rows.specs.Busy.{busy_under_way, leak_busy};
 ghost use Rattle.tstd_rows.specs.HeldVideo.{HoldsVideo, IsVideoHeld, VideoSizes, elementary_under_way, nothing_of_video, sizes_of, video_entered, video_found, video_unit, video_view};
 
+use crate::busy_watch::{BusyWatch, Stay};
 use crate::excess::Excess;
 use crate::leaving::Leaving;
 use crate::main_excess::see;
@@ -35,6 +37,8 @@ pub struct VideoBuffers {
     pub view: StreamView<Global>,
     /// The size of the elementary stream buffer, and its current excess.
     pub elementary: MainWatch,
+    /// How long the multiplexing buffer is not empty.
+    pub busy: BusyWatch,
 }
 
 /// What has ended with a packet of video: an excess of the multiplexing buffer before a byte that waited in the transport buffer, or
@@ -84,6 +88,7 @@ impl VideoBuffers {
         VideoBuffers {
             view: StreamView::new(alloc, leak, rates.multiplexing),
             elementary: MainWatch::new(rates.elementary),
+            busy: BusyWatch::new(u128::from(step) * u128::from(rx) / 8),
         }
     }
 
@@ -104,6 +109,7 @@ impl VideoBuffers {
         ensures bytes { self.new.view.transport.bytes
             ≡ self.old.view.transport.bytes + (leaving.now.waiting.bytes + leaving.now.free.bytes) }
     {
+        self.busy.see_leaving(self.view.transport.last, leaving);
         let found = self.view.leak(leaving, &mut into.waiting, &mut into.free);
         see(
             &mut self.elementary,
@@ -156,6 +162,14 @@ impl VideoBuffers {
             result ≡ elementary_under_way rate sizes.leak sizes.elementary parts }
     {
         self.elementary.under_way
+    }
+
+    /// Returns the time since when the multiplexing buffer is not empty, if it is longer than a second.
+    pub fn busy_under_way(&self) -> Option<Stay>
+        ensures { (sizes : VideoSizes) (rate : ℕ) (parts : List Part) → IsVideoHeld self.now sizes rate parts →
+            result ≡ busy_under_way (leak_busy rate sizes.leak sizes.second parts) (last_leaked rate sizes.leak parts) }
+    {
+        self.busy.under_way(self.view.transport.last)
     }
 
     /// Returns the unit under way.

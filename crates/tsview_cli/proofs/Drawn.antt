@@ -2,7 +2,7 @@
 use Rattle.std.proofs.Common.{◌≡◌, ◌∙◌, ℕ, ◌%◌, Bool, List, [], ◌∷◌, ◌++◌, refl, sym, ap, subst, Result, Ok, Err, Option, append_assoc}
 use Rattle.std.specs.Prelude.{IfErr, IfOk, OnOk, if◌then◌else◌, string_bytes}
 use Rattle.capture.specs.Captures.{Part, capture_of}
-use Rattle.events.specs.declared.event.Event.{Event}
+use Rattle.events.specs.declared.timed_event.TimedEvent.{TimedEvent}
 use Rattle.ts_report.specs.Choices.{RequestView}
 use Rattle.analysis.specs.Analysis.{AnalysisState, start}
 use Rattle.view_page.specs.Pages.{IsPage, PageState, after_event, after_events}
@@ -21,17 +21,17 @@ use Rattle.tsview_cli.proofs.CapturedParts.{events_both}
 
 -- 1. Events one after another
 
-pub page_both : (p : PageState) (found more : List Event) → after_events p (found ++ more) ≡ after_events (after_events p found) more
+pub page_both : (p : PageState) (found more : List TimedEvent) → after_events p (found ++ more) ≡ after_events (after_events p found) more
 unfolding after_events
 page_both p [] more = refl
-page_both p (event ∷ found) more = page_both (after_event p event) found more
+page_both p (event ∷ found) more = page_both (after_event p event.event) found more
 
 pub drawn_none : (stream : CapturedView) (page : Page) (s : AnalysisState) (p : PageState) → IsSoFar s stream [] [] → IsPage page p → IsDrawn (record { stream = stream; page = page }) s p []
 unfolding after_events events_of
 drawn_none stream page s p so_far is = record { found = []; so_far = so_far; page = is }
 
 -- the page takes the events that more bytes settle
-pub drawn_more : (s : AnalysisState) (p : PageState) (stream : CapturedView) (page : Page) (bytes : List ℕ) (found : List Part) (events : List Event) → IsMore s stream bytes found → events ≡ stream.parts.events.items →
+pub drawn_more : (s : AnalysisState) (p : PageState) (stream : CapturedView) (page : Page) (bytes : List ℕ) (found : List Part) (events : List TimedEvent) → IsMore s stream bytes found → events ≡ stream.parts.events.items →
     IsPage page (after_events (after_events p (events_of s found)) events) → IsDrawn (record { stream = stream; page = page }) s p bytes
 drawn_more s p stream page bytes found events m is taken = record {
   found = found ++ m.more;
@@ -43,7 +43,7 @@ drawn_more s p stream page bytes found events m is taken = record {
       taken;
 }
 
-pub drawn_end : (rate : Option ℕ) (s : AnalysisState) (p : PageState) (stream : CapturedView) (page : Page) (bytes : List ℕ) (found : List Part) (events : List Event) (good : Bool) →
+pub drawn_end : (rate : Option ℕ) (s : AnalysisState) (p : PageState) (stream : CapturedView) (page : Page) (bytes : List ℕ) (found : List Part) (events : List TimedEvent) (good : Bool) →
     IsEnded rate s stream bytes found good → events ≡ stream.parts.events.items → IsPage page (after_events (after_events p (events_of s found)) events) → EndsDrawn rate page s p bytes good
 drawn_end rate s p stream page bytes found events good e is taken =
     let last = last_events rate (capture_of bytes).form (after_parts s (parts_in bytes)) (left_in bytes) in
@@ -53,7 +53,7 @@ drawn_end rate s p stream page bytes found events good e is taken =
       is = subst (IsPage page)
           (ap (after_events (after_events p before)) (is ∙ e.events)
           ∙ sym (page_both p before (more ++ last))
-          ∙ ap (after_events p) (sym (append_assoc before more last) ∙ ap (λ (l : List Event). l ++ last) (sym (events_both s found e.more) ∙ ap (events_of s) (sym e.parts_are))))
+          ∙ ap (after_events p) (sym (append_assoc before more last) ∙ ap (λ (l : List TimedEvent). l ++ last) (sym (events_both s found e.more) ∙ ap (events_of s) (sym e.parts_are))))
           taken;
       good_is = e.good_is;
     }

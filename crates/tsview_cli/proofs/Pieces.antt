@@ -5,8 +5,8 @@ use Rattle.std.proofs.lemmas.Grind.{flat_map-append}
 use Rattle.std.proofs.lemmas.List.{take-append-drop}
 use Rattle.std.specs.Io.KnownBytes.{Appends}
 use Rattle.capture.specs.Captures.{Part}
-use Rattle.events.specs.EventLines.{event_line, lines_of}
-use Rattle.events.specs.declared.event.Event.{Event}
+use Rattle.events.specs.EventLines.{lines_of, timed_line}
+use Rattle.events.specs.declared.timed_event.TimedEvent.{TimedEvent}
 use Rattle.analysis.specs.Analysis.{AnalysisState}
 use Rattle.analysis.specs.Analysis.{is_crowded}
 use Rattle.counted_io.specs.Device.{Failed, IsFront}
@@ -27,7 +27,7 @@ use Rattle.tsview_cli.proofs.CapturedParts.{events_both}
 pub lines_both : (json : Bool) (s : AnalysisState) (parts more : List Part) →
     lines_all json s (parts ++ more) ≡ lines_all json s parts ++ lines_all json (after_parts s parts) more
 lines_both json s parts more =
-    ap (lines_of json) (events_both s parts more) ∙ flat_map-append (event_line json) (events_of s parts) (events_of (after_parts s parts) more)
+    ap (lines_of json) (events_both s parts more) ∙ flat_map-append (timed_line json) (events_of s parts) (events_of (after_parts s parts) more)
 
 pub settled_by : (first : AnalysisState) (now : CapturedView) (bytes : List ℕ) (found : List Part) → IsSoFar first now bytes found → AreSettled bytes found
 settled_by first now bytes found s = record { reader = now.reader; left = s.left; few = s.few }

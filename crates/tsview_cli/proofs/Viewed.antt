@@ -6,7 +6,7 @@ use Rattle.std.specs.Io.KnownBytes.{Appends}
 use Rattle.capture.specs.Captures.{Part, capture_of}
 use Rattle.capture.specs.Reading.{capture_by, no_bytes}
 use Rattle.events.specs.EventLines.{event_line, lines_of}
-use Rattle.events.specs.declared.event.Event.{Event}
+use Rattle.events.specs.declared.timed_event.TimedEvent.{TimedEvent}
 use Rattle.ts_report.specs.Choices.{RequestView}
 use Rattle.analysis.specs.Analysis.{is_crowded}
 use Rattle.analysis.specs.Analysis.{AnalysisState, start}
@@ -18,7 +18,7 @@ use Rattle.devices.specs.declared.halt.Halt.{Halt}
 use Rattle.devices.specs.declared.halt.Halt.TheVariants.{Read, Write, Memory}
 use Rattle.devices.proofs.Performances.{reports_none}
 use Rattle.tsview_cli.proofs.Pieces.{lines_both, settled_by, take_past}
-use Rattle.tsview_cli.specs.CapturedStreams.{IsSoFar, after_parts, events_last, events_of, has_slips, is_good_input, is_whole, last_events, left_in, parts_in, rate_in}
+use Rattle.tsview_cli.specs.CapturedStreams.{IsSoFar, after_parts, events_last, events_of, is_good_input, is_whole, last_events, left_in, parts_in, rate_in}
 use Rattle.tsview_cli.specs.declared.captured.CapturedView.{CapturedView}
 use Rattle.tsview_cli.specs.declared.viewing.Viewed.{Viewed}
 use Rattle.tsview_cli.specs.declared.viewing.Viewed.TheVariants.{Whole, Crowded}
@@ -104,7 +104,7 @@ last_lines request json bytes found text rate good is e =
     ap (λ (t : List ℕ). settled request json found ++ t) (e.text_is ∙ flat_map-append (event_line json) more last)
     ∙ sym (append_assoc (settled request json found) (lines_of json more) (lines_of json last))
     ∙ ap (λ (t : List ℕ). t ++ lines_of json last) (sym (lines_both json s found e.more) ∙ ap (λ (p : List Part). lines_all json s p) (sym e.parts_are))
-    ∙ ap (λ (l : List Event). lines_all json s (parts_in bytes) ++ lines_of json l) same
+    ∙ ap (λ (l : List TimedEvent). lines_all json s (parts_in bytes) ++ lines_of json l) same
 
 -- within them
 pub not_ended : (V : Type 0) (request : RequestView) (json : Bool) (input : Device) (begin mid end : Port) (now : CapturedView) (size : ℕ) (text : List ℕ) (halt : Halt) (rate : Option ℕ) (good : Bool) → rate ≡ rate_in request →
@@ -144,7 +144,7 @@ all_written request json begin mid end now text bytes rate good same seen e writ
 good_is : (request : RequestView) (json : Bool) (bytes : List ℕ) (found : List Part) (text : List ℕ) (rate : Option ℕ) (good : Bool) → rate ≡ rate_in request → EndShows rate json (start request) bytes found text good →
     good ≡ is_good_input request bytes
 good_is request json bytes found text rate good same e =
-    e.good_is ∙ ap (λ (r : Option ℕ). is_whole r (capture_of bytes).form (after_parts (start request) (parts_in bytes)) (left_in bytes) (has_slips (parts_in bytes))) same
+    e.good_is ∙ ap (λ (r : Option ℕ). is_whole r (capture_of bytes).form (after_parts (start request) (parts_in bytes)) (left_in bytes)) same
 
 all_seen : (request : RequestView) (json : Bool) (input : Device) (begin mid end : Port) (now : CapturedView) (size : ℕ) (text : List ℕ) (rate : Option ℕ) (good : Bool) → rate ≡ rate_in request →
     TakesAll (Seen json (start request) (between begin mid) now) input size → EndsWith rate json now text good → Appends mid.bytes end.bytes text →

@@ -1,13 +1,11 @@
 -- A capture that is viewed: its packets are viewed one after another, and each slip among them is an event.
-use Rattle.std.specs.Prelude.{◌≡◌, ◌⊎◌, ◌<◌, ℕ, ◌+◌, ◌-◌, ◌/◌, ◌==◌, ◌&&◌, ◌||◌, not, nat_lt, Bool, true, false, if◌then◌else◌, List, [], ◌∷◌, ◌++◌, length, flat_map, Option, Some, None}
-use Rattle.std.specs.List.{list_any}
+use Rattle.std.specs.Prelude.{◌≡◌, ◌<◌, ℕ, ◌+◌, ◌-◌, ◌/◌, ◌==◌, ◌&&◌, ◌||◌, not, nat_lt, Bool, if◌then◌else◌, List, [], ◌∷◌, ◌++◌, length, flat_map, Option, Some, None}
 use Rattle.arrival.specs.declared.arrival.Arrival.{Arrival}
 use Rattle.arrival.specs.declared.arrival.Arrival.TheVariants.{Unknown, AtRate, OnLines}
 use Rattle.capture.specs.Captures.{Capture, IsPacket, IsSize, IsSlip, Part, capture_of, size_of, with_parts}
 use Rattle.capture.specs.Reading.{capture_left}
 use Rattle.packet_sync.specs.declared.packet_sizes.OtherPackets.{OtherPackets}
 use Rattle.packet_sync.specs.declared.slip.Slip.{Slip}
-use Rattle.events.specs.CheckCounts.{with_event}
 use Rattle.events.specs.declared.event.ClockTotals.{ClockTotals}
 use Rattle.events.specs.declared.event.Event.{Event}
 use Rattle.events.specs.declared.event.Event.TheVariants as events
@@ -15,8 +13,10 @@ use Rattle.events.specs.declared.event.ReportEnd.{ReportEnd}
 use Rattle.events.specs.declared.input_event.FileForm.{FileForm}
 use Rattle.events.specs.declared.input_event.InputEvent.{InputEvent}
 use Rattle.events.specs.declared.input_event.InputEvent.TheVariants as inputs
+use Rattle.events.specs.declared.timed_event.TimedEvent.{TimedEvent}
 use Rattle.ts_report.specs.Choices.{RequestView}
-use Rattle.analysis.specs.Analysis.{AnalysisState, IsAnalysed, after_packet, end_events, events_at, is_good, start}
+use Rattle.analysis.specs.Analysis.{AnalysisState, IsAnalysed, after_packet, all_timed, conclusion, ended, events_at, is_faultless, is_good, start, timed, with_event, with_events}
+use Rattle.analysis.specs.Analysis as ending
 use Rattle.tsview_cli.specs.declared.captured.CapturedView.{CapturedView}
 use Rattle.tsview_cli.specs.declared.captured.ViewedParts.{ViewedParts}
 
@@ -28,32 +28,24 @@ slip_event s = events.Input (inputs.Slip (record { packet = s.packet; place = s.
 abbrev pub size_event : OtherPackets → Event
 size_event other = events.Input (inputs.PacketSize (size_of other))
 
--- the events that a part settles, and what is kept of the stream after it: a slip is counted as a loss of sync
-unfoldable pub part_events : AnalysisState → Part → List Event
+-- the events that a part settles, and what is kept of the stream after it
+unfoldable pub part_events : AnalysisState → Part → List TimedEvent
 part_events s (IsPacket bytes) = events_at s bytes
-part_events s (IsSlip slip) = slip_event slip ∷ []
-part_events s (IsSize other) = size_event other ∷ []
+part_events s (IsSlip slip) = timed s.view (slip_event slip) ∷ []
+part_events s (IsSize other) = timed s.view (size_event other) ∷ []
 
 unfoldable pub after_part : AnalysisState → Part → AnalysisState
 after_part s (IsPacket bytes) = after_packet s bytes
-after_part s (IsSlip slip) = record { view = s.view; counts = with_event s.counts (slip_event slip) }
-after_part s (IsSize other) = s
+after_part s (IsSlip slip) = with_event s (slip_event slip)
+after_part s (IsSize other) = with_event s (size_event other)
 
 unfoldable pub after_parts : AnalysisState → List Part → AnalysisState
 after_parts s [] = s
 after_parts s (part ∷ parts) = after_parts (after_part s part) parts
 
-unfoldable pub events_of : AnalysisState → List Part → List Event
+unfoldable pub events_of : AnalysisState → List Part → List TimedEvent
 events_of s [] = []
 events_of s (part ∷ parts) = part_events s part ++ events_of (after_part s part) parts
-
-unfoldable pub is_slip : Part → Bool
-is_slip (IsPacket bytes) = false
-is_slip (IsSlip slip) = true
-is_slip (IsSize other) = false
-
-abbrev pub has_slips : List Part → Bool
-has_slips parts = list_any is_slip parts
 
 -- 2. What is noted at the end of the input
 
@@ -87,10 +79,10 @@ unfoldable pub noted : Option InputEvent → List Event
 noted None = []
 noted (Some note) = events.Input note ∷ []
 
-abbrev pub notes_on : Option ℕ → FileForm → Event → List Event
-notes_on rate form event = noted (note_of rate form event)
+abbrev pub notes_on : Option ℕ → FileForm → TimedEvent → List Event
+notes_on rate form event = noted (note_of rate form event.event)
 
-abbrev pub notes : Option ℕ → FileForm → List Event → List Event
+abbrev pub notes : Option ℕ → FileForm → List TimedEvent → List Event
 notes rate form found = flat_map (notes_on rate form) found
 
 -- 3. A whole input
@@ -105,28 +97,34 @@ kept_of request bytes = after_parts (start request) (parts_in bytes)
 abbrev pub left_in : List ℕ → ℕ
 left_in bytes = length (capture_of bytes).rest
 
--- the last events of a stream of which this is kept, and what is noted of the input before them
+-- what is noted of the input by the last events of a stream of which this is kept
 abbrev pub notes_at : Option ℕ → FileForm → AnalysisState → ℕ → List Event
-notes_at rate form s left = notes rate form (end_events s left)
+notes_at rate form s left = notes rate form (ending.last_events s left)
 
-abbrev pub last_events : Option ℕ → FileForm → AnalysisState → ℕ → List Event
-last_events rate form s left = notes_at rate form s left ++ end_events s left
+-- what is kept with what is noted
+abbrev pub noted_at : Option ℕ → FileForm → AnalysisState → ℕ → AnalysisState
+noted_at rate form s left = with_events (ended s left) (notes_at rate form s left)
 
--- nothing is wrong: no slip is there, and nothing is noted
-abbrev pub is_whole : Option ℕ → FileForm → AnalysisState → ℕ → Bool → Bool
-is_whole rate form s left slipped = is_good s left && (length (notes_at rate form s left) == 0) && not slipped
+-- nothing is wrong: no event is a fault, none that is noted either
+abbrev pub is_whole : Option ℕ → FileForm → AnalysisState → ℕ → Bool
+is_whole rate form s left = is_good s left && is_faultless (noted_at rate form s left)
+
+-- the last events, what is noted of the input before them, and what all events come to after them
+abbrev pub last_events : Option ℕ → FileForm → AnalysisState → ℕ → List TimedEvent
+last_events rate form s left = all_timed (ended s left) (notes_at rate form s left)
+    ++ (ending.last_events s left ++ conclusion (noted_at rate form s left) (is_whole rate form s left))
 
 abbrev pub rate_in : RequestView → Option ℕ
 rate_in request = given_rate request.options.arrival
 
-abbrev pub events_before : RequestView → List ℕ → List Event
+abbrev pub events_before : RequestView → List ℕ → List TimedEvent
 events_before request bytes = events_of (start request) (parts_in bytes)
 
-abbrev pub events_last : RequestView → List ℕ → List Event
+abbrev pub events_last : RequestView → List ℕ → List TimedEvent
 events_last request bytes = last_events (rate_in request) (capture_of bytes).form (kept_of request bytes) (left_in bytes)
 
 abbrev pub is_good_input : RequestView → List ℕ → Bool
-is_good_input request bytes = is_whole (rate_in request) (capture_of bytes).form (kept_of request bytes) (left_in bytes) (has_slips (parts_in bytes))
+is_good_input request bytes = is_whole (rate_in request) (capture_of bytes).form (kept_of request bytes) (left_in bytes)
 
 -- 4. As its bytes come
 
@@ -134,7 +132,6 @@ is_good_input request bytes = is_whole (rate_in request) (capture_of bytes).form
 pub record HasParts (first now : ViewedParts) (s : AnalysisState) (parts : List Part) : Type 0 where
   pub view : IsAnalysed now.view (after_parts s parts)
   pub events : now.events.items ≡ first.events.items ++ events_of s parts
-  pub slipped : now.slipped ≡ (first.slipped || has_slips parts)
 
 abbrev pub TakesParts : List Part → ViewedParts → ViewedParts → Type 0
 TakesParts parts first now = (s : AnalysisState) → IsAnalysed first.view s → HasParts first now s parts
@@ -144,7 +141,6 @@ pub record IsSoFar (first : AnalysisState) (now : CapturedView) (bytes : List �
   pub left : (more : List ℕ) → capture_of (bytes ++ more) ≡ with_parts found (capture_left now.reader more)
   pub few : length now.reader.kept < 1128
   pub view : IsAnalysed now.parts.view (after_parts first found)
-  pub slipped : now.parts.slipped ≡ has_slips found
 
 -- more parts were viewed, and the events that they settle are there
 pub record IsMore (first : AnalysisState) (now : CapturedView) (bytes : List ℕ) (found : List Part) : Type 0 where
@@ -158,4 +154,4 @@ pub record IsEnded (rate : Option ℕ) (first : AnalysisState) (now : CapturedVi
   pub parts_are : parts_in bytes ≡ found ++ more
   pub events : now.parts.events.items ≡ events_of (after_parts first found) more
       ++ last_events rate (capture_of bytes).form (after_parts first (parts_in bytes)) (left_in bytes)
-  pub good_is : good ≡ is_whole rate (capture_of bytes).form (after_parts first (parts_in bytes)) (left_in bytes) (has_slips (parts_in bytes))
+  pub good_is : good ≡ is_whole rate (capture_of bytes).form (after_parts first (parts_in bytes)) (left_in bytes)

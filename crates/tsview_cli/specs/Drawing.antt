@@ -7,11 +7,11 @@ use Rattle.view_page.specs.declared.page.Page.{Page}
 use Rattle.view_page.specs.Pages.{IsPage, PageState, after_events, no_events}
 use Rattle.view_page.specs.PageText.{page_text}
 use Rattle.devices.specs.Devices.{Device}
-use Rattle.events.specs.declared.event.Event.{Event}
+use Rattle.events.specs.declared.timed_event.TimedEvent.{TimedEvent}
 use Rattle.devices.specs.Outcomes.{Outcome, printed}
 use Rattle.devices.specs.WholeInput.{ReadsInput}
 use Rattle.devices.specs.declared.halt.Halt.{Halt}
-use Rattle.tsview_cli.specs.CapturedStreams.{IsSoFar, after_parts, events_before, events_last, events_of, has_slips, is_good_input, is_whole, last_events, left_in, parts_in, rate_in}
+use Rattle.tsview_cli.specs.CapturedStreams.{IsSoFar, after_parts, events_before, events_last, events_of, is_good_input, is_whole, last_events, left_in, parts_in, rate_in}
 use Rattle.tsview_cli.specs.declared.drawing.Drawing.{Drawing}
 use Rattle.tsview_cli.specs.declared.drawing.DrawnPage.{DrawnPage}
 
@@ -30,11 +30,11 @@ abbrev pub TakesBytes : List ℕ → Drawing → Drawing → Type 0
 TakesBytes bytes first now = (s : AnalysisState) (p : PageState) → IsDrawn first s p [] → IsDrawn now s p bytes
 
 -- all events of an input, those at its end too
-abbrev pub all_events : Option ℕ → AnalysisState → List ℕ → List Event
+abbrev pub all_events : Option ℕ → AnalysisState → List ℕ → List TimedEvent
 all_events rate s bytes = events_of s (parts_in bytes) ++ last_events rate (capture_of bytes).form (after_parts s (parts_in bytes)) (left_in bytes)
 
 abbrev pub is_good_from : Option ℕ → AnalysisState → List ℕ → Bool
-is_good_from rate s bytes = is_whole rate (capture_of bytes).form (after_parts s (parts_in bytes)) (left_in bytes) (has_slips (parts_in bytes))
+is_good_from rate s bytes = is_whole rate (capture_of bytes).form (after_parts s (parts_in bytes)) (left_in bytes)
 
 pub record EndsDrawn (rate : Option ℕ) (page : Page) (s : AnalysisState) (p : PageState) (bytes : List ℕ) (good : Bool) : Type 0 where
   pub is : IsPage page (after_events p (all_events rate s bytes))

@@ -14,7 +14,7 @@ use Rattle.devices.specs.Runs.{Ends}
 use Rattle.devices.specs.WholeInput.{IsLong, ReadsInput, TakesInput}
 use Rattle.devices.specs.declared.halt.Halt.{Halt}
 use Rattle.devices.specs.declared.halt.Halt.TheVariants.{Read, Write, Memory}
-use Rattle.tsview_cli.specs.CapturedStreams.{IsSoFar, after_parts, events_last, events_of, has_slips, is_good_input, is_whole, last_events, left_in, parts_in}
+use Rattle.tsview_cli.specs.CapturedStreams.{IsSoFar, after_parts, events_last, events_of, is_good_input, is_whole, last_events, left_in, parts_in}
 use Rattle.tsview_cli.specs.declared.captured.CapturedView.{CapturedView}
 use Rattle.tsview_cli.specs.declared.viewing.Viewed.{Viewed}
 use Rattle.tsview_cli.specs.declared.viewing.Viewed.TheVariants as is_viewed
@@ -88,7 +88,7 @@ pub record EndShows (rate : Option ℕ) (json : Bool) (first : AnalysisState) (b
   pub parts_are : parts_in bytes ≡ found ++ more
   pub text_is : text ≡ lines_of json (events_of (after_parts first found) more
       ++ last_events rate (capture_of bytes).form (after_parts first (parts_in bytes)) (left_in bytes))
-  pub good_is : good ≡ is_whole rate (capture_of bytes).form (after_parts first (parts_in bytes)) (left_in bytes) (has_slips (parts_in bytes))
+  pub good_is : good ≡ is_whole rate (capture_of bytes).form (after_parts first (parts_in bytes)) (left_in bytes)
 
 -- a front of the input, of `size` bytes, was viewed, and then so many units of a stream waited that no more of the input is viewed
 pub record Crowds (json : Bool) (first : AnalysisState) (input output : Device) (now : CapturedView) (size : ℕ) : Type 0 where

@@ -1,7 +1,7 @@
 //! A capture that is viewed as its bytes come.
-ghost use Rattle.std.specs.Prelude.{◌≡◌, ◌++◌, ◌∷◌, ℕ, List, [], IfOk, OnOk, false};
+ghost use Rattle.std.specs.Prelude.{◌≡◌, ◌++◌, ℕ, List, [], IfOk, OnOk, false};
 ghost use Rattle.capture.specs.Captures.{Part};
-ghost use Rattle.analysis.specs.Analysis.{AnalysisState, IsAnalysed, end_events, is_good, start};
+ghost use Rattle.analysis.specs.Analysis.{AnalysisState, IsAnalysed, start};
 ghost use Rattle.analysis.specs.Analysis.{is_crowded};
 ghost use Rattle.tsview_cli.specs.CapturedStreams as spec;
 ghost use Rattle.tsview_cli.specs.CapturedStreams.{IsEnded, IsMore, IsSoFar, TakesParts};
@@ -9,17 +9,18 @@ ghost use Rattle.tsview_cli.specs.CapturedStreams.{IsEnded, IsMore, IsSoFar, Tak
 use analysis::Analyser;
 use arrival::Arrival;
 use capture::{CaptureEnd, CaptureReader, PartTaker, bytes_apart};
-use events::{ClockTotals, Event, FileForm, InputEvent, OtherRate, ReportEnd, SlippedBytes};
+use events::{
+    ClockTotals, Event, FileForm, InputEvent, OtherRate, ReportEnd, SlippedBytes, TimedEvent,
+};
 use packet_sync::{OtherPackets, Slip};
 use std::alloc::{AllocError, Global};
 use ts_report::ViewRequest;
 
-/// The view of the parts of a capture, whether a slip is among them, and room for the events that they settle.
+/// The view of the parts of a capture, and room for the events that they settle.
 #[derive(Drop)]
 pub struct ViewedParts {
     pub view: Analyser,
-    pub slipped: bool,
-    pub events: Vec<Event>,
+    pub events: Vec<TimedEvent>,
 }
 
 /// A capture that is viewed: its reader, and the view of the parts that are settled.
@@ -52,7 +53,7 @@ impl PartTaker for ViewedParts {
     ghost has_taken = { λ first parts now. TakesParts parts first now };
 
     fn take_size(&mut self, other: OtherPackets) -> Result<(), AllocError> {
-        self.events.push(size_event(other))?;
+        self.view.take_event(size_event(other), &mut self.events)?;
         Ok(())
     }
 
@@ -62,10 +63,7 @@ impl PartTaker for ViewedParts {
     }
 
     fn take_slip(&mut self, slip: Slip) -> Result<(), AllocError> {
-        let event = slip_event(slip);
-        self.view.counts.take(&event);
-        self.slipped = true;
-        self.events.push(event)?;
+        self.view.take_event(slip_event(slip), &mut self.events)?;
         Ok(())
     }
 }
@@ -155,19 +153,20 @@ fn push_note(note: Option<InputEvent>, events: &mut Vec<Event>) -> Result<(), Al
 fn push_notes(
     rate: Option<u64>,
     form: FileForm,
-    found: &[Event],
+    found: &[TimedEvent],
     events: &mut Vec<Event>,
 ) -> Result<(), AllocError>
     ensures { OnOk result (events.new.items ≡ events.old.items ++ spec.notes rate form found.now) }
 {
     for event in found {
-        push_note(note_of(rate, form, event), events)?;
+        push_note(note_of(rate, form, &event.event), events)?;
     }
     Ok(())
 }
 
 impl ViewedParts {
-    // Appends the last events, and before them what they show of the input. Returns whether nothing is wrong in it.
+    // Appends the last events, before them what they show of the input, and after them what all events come to. Returns whether nothing
+    // is wrong in it.
     fn push_last(
         &mut self,
         alloc: Global,
@@ -177,16 +176,17 @@ impl ViewedParts {
         ensures events { (s : AnalysisState) → IsAnalysed self.old.view s →
             OnOk result (self.new.events.items ≡ self.old.events.items ++ spec.last_events rate end.form s end.left) }
         ensures good { (s : AnalysisState) → IsAnalysed self.old.view s →
-            IfOk result (λ good. good ≡ spec.is_whole rate end.form s end.left self.old.slipped) }
+            IfOk result (λ good. good ≡ spec.is_whole rate end.form s end.left) }
     {
         let mut last = Vec::new(alloc);
         let mut noted = Vec::new(alloc);
         let good = self.view.end(end.left, &mut last)?;
         push_notes(rate, end.form, &last, &mut noted)?;
-        let none_noted = noted.is_empty();
-        self.events.append(&mut noted)?;
+        self.view.take_events(noted, &mut self.events)?;
         self.events.append(&mut last)?;
-        Ok(good && none_noted && !self.slipped)
+        let whole = good && self.view.is_faultless();
+        self.view.conclude(whole, &mut self.events)?;
+        Ok(whole)
     }
 }
 
@@ -201,7 +201,6 @@ impl CapturedView {
             reader: CaptureReader::new(alloc),
             parts: ViewedParts {
                 view: Analyser::new(alloc, request),
-                slipped: false,
                 events: Vec::new(alloc),
             },
         }

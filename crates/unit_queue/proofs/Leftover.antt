@@ -6,7 +6,7 @@ use Rattle.clock27.specs.Release.{release}
 use Rattle.own_slots.specs.Slots.{own_before}
 use Rattle.pes_packet.specs.AccessUnits.{AccessUnit}
 use Rattle.pes_packet.specs.Encoding.{pes_packet_bytes, pes_header_bytes, header_size, on_wire}
-use Rattle.pes_packet.specs.Marks.{field_size, marks_size}
+use Rattle.pes_packet.specs.Marks.{extension_size, field_size, marks_size}
 use Rattle.pes_packet.specs.declared.marks.Marks.{Marks}
 use Rattle.pes_packet.proofs.Written.{header_sizes}
 use Rattle.unit_timing.specs.Schedule.{first_slot as first_own_slot}
@@ -14,23 +14,23 @@ use Rattle.unit_queue.specs.OwnedStreams.{OwnedStream, pes_bytes, packet_count, 
 use Rattle.unit_queue.specs.Places.{place_at, left_at}
 
 -- a header has 14 bytes or more, so that each unit has a packet
-some_by : (long same : Bool) → 14 ≤ cond long 45 (cond same 14 19)
-some_by true same = omega arith
-some_by false true = omega arith
-some_by false false = omega arith
+some_by : (long same : Bool) (more : ℕ) → 14 ≤ cond long 45 (cond same 14 19 + more)
+some_by true same more = omega arith
+some_by false true more = omega arith
+some_by false false more = omega arith
 
 header_some : (marks : Marks) (pts dts : ℕ) → 14 ≤ header_size marks pts dts
-header_some marks pts dts = some_by marks.long (on_wire pts == on_wire dts)
+header_some marks pts dts = some_by marks.long (on_wire pts == on_wire dts) (extension_size marks)
 
-most_by : (long same : Bool) → cond long 45 (cond same 14 19) ≤ 19 + cond long 26 0
-most_by true same = omega arith
-most_by false true = omega arith
-most_by false false = omega arith
+most_by : (long same : Bool) (more : ℕ) → cond long 45 (cond same 14 19 + more) ≤ 19 + cond long 26 more
+most_by true same more = omega arith
+most_by false true more = omega arith
+most_by false false more = omega arith
 
 -- with what is in front of it, it has at most 19 bytes, and what the marks take
 pub header_most : (id size : ℕ) (marks : Marks) (pts dts : ℕ) → field_size marks.random_access + length (pes_header_bytes id size marks pts dts) ≤ 19 + marks_size marks
 header_most id size marks pts dts =
-    let most : header_size marks pts dts ≤ 19 + cond marks.long 26 0 = most_by marks.long (on_wire pts == on_wire dts) in
+    let most : header_size marks pts dts ≤ 19 + cond marks.long 26 (extension_size marks) = most_by marks.long (on_wire pts == on_wire dts) (extension_size marks) in
     omega (arith, header_sizes id size marks pts dts, most)
 
 pub text_some : (l : OwnedStream) (u : AccessUnit) → 14 ≤ length (pes_bytes l u)

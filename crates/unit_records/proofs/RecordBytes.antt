@@ -1,26 +1,41 @@
 -- A written record is read again.
-use Rattle.std.proofs.Common.{◌≡◌, ℕ, ◌+◌, ◌/◌, ◌^◌, ◌≤◌, List, ◌∷◌, ◌++◌, length, take, drop, slice_index, Some, Ok, refl, sym, ap, ◌∙◌, arith, append_assoc, take_at, drop_at}
+use Rattle.std.proofs.Common.{◌≡◌, ℕ, zero, suc, ◌+◌, ◌/◌, ◌^◌, ◌≤◌, Bool, true, false, cond, Option, None, is_some, List, ◌∷◌, ◌++◌, length, take, drop, slice_index, Some, Ok, refl, sym, ap, ap₂, ◌∙◌, arith, append_assoc, take_at, drop_at}
 use Rattle.std.proofs.lemmas.List.{length-append, length-drop, drop-drop}
 use Rattle.byteorder.specs.Endian.{big_number, big_bytes}
 use Rattle.byteorder.specs.Numbers.{length-bytes_high_first, big_number-reads_back}
 use Rattle.pes_packet.specs.AccessUnits.{AccessUnit}
+use Rattle.pes_packet.specs.Marks.{sixteen}
 use Rattle.pes_packet.specs.declared.marks.Marks.{Marks}
-use Rattle.unit_records.specs.Records.{record_at, after_record, record_head, record_bytes, marks_byte, marks_in, word_of, size_in, size_at, unit_at, max_unit_size}
+use Rattle.pes_packet.proofs.Sixteen.{sixteen_size}
+use Rattle.unit_records.specs.Records.{record_at, after_record, record_head, record_bytes, marks_byte, marks_in, bytes_in, byte_at, body_at, private_bytes, private_size, word_of, size_in, size_at, unit_at, max_unit_size}
 use Rattle.unit_records.specs.Laws.{RecordsAreRead, FitsRecord}
 use Rattle.unit_records.proofs.RecordReading.{record_whole}
-use Rattle.unit_records.proofs.RecordWords.{word_below, size_again, marks_again}
+use Rattle.unit_records.proofs.RecordWords.{word_below, size_again, byte_again, marks_again, bytes_again}
+
+-- the bytes behind the head of a record
+abbrev pub body_of : AccessUnit → List ℕ
+body_of unit = private_bytes unit.marks.private_data ++ unit.bytes
+
+-- the size that a record names
+abbrev pub size_of : AccessUnit → ℕ
+size_of unit = private_size unit.marks + length unit.bytes
+
+spread_by : (w d p q b r : List ℕ) → ((w ++ (d ++ (p ++ q))) ++ b) ++ r ≡ w ++ (d ++ (p ++ ((q ++ b) ++ r)))
+spread_by w d p q b r =
+    append_assoc (w ++ (d ++ (p ++ q))) b r
+    ∙ append_assoc w (d ++ (p ++ q)) (b ++ r)
+    ∙ ap (λ (t : List ℕ). w ++ t)
+    (append_assoc d (p ++ q) (b ++ r)
+    ∙ ap (λ (t : List ℕ). d ++ t) (append_assoc p q (b ++ r) ∙ ap (λ (t : List ℕ). p ++ t) (sym (append_assoc q b r))))
 
 -- a record before its rest, one part after the other
 spread : (stream : ℕ) (unit : AccessUnit) (rest : List ℕ)
     → record_bytes stream unit ++ rest
-    ≡ stream ∷ (big_bytes 4 (word_of unit.marks (length unit.bytes)) ++ (big_bytes 8 unit.dts ++ (big_bytes 8 unit.pts ++ (unit.bytes ++ rest))))
+    ≡ stream ∷ (big_bytes 4 (word_of unit.marks (size_of unit)) ++ (big_bytes 8 unit.dts ++ (big_bytes 8 unit.pts ++ (body_of unit ++ rest))))
 unfolding record_head
 spread stream unit rest =
-    append_assoc (record_head stream unit.marks (length unit.bytes) unit.dts unit.pts) unit.bytes rest
-    ∙ ap (λ (t : List ℕ). stream ∷ t)
-    (append_assoc (big_bytes 4 (word_of unit.marks (length unit.bytes))) (big_bytes 8 unit.dts ++ big_bytes 8 unit.pts) (unit.bytes ++ rest)
-    ∙ ap (λ (t : List ℕ). big_bytes 4 (word_of unit.marks (length unit.bytes)) ++ t)
-    (append_assoc (big_bytes 8 unit.dts) (big_bytes 8 unit.pts) (unit.bytes ++ rest)))
+    ap (λ (t : List ℕ). stream ∷ t)
+    (spread_by (big_bytes 4 (word_of unit.marks (size_of unit))) (big_bytes 8 unit.dts) (big_bytes 8 unit.pts) (private_bytes unit.marks.private_data) unit.bytes rest)
 
 -- the places of its parts
 parts : (stream : ℕ) (size dts pts last : List ℕ) → length size ≡ 4 → length dts ≡ 8 → length pts ≡ 8
@@ -39,58 +54,83 @@ same_unit : (dts pts : ℕ) (marks : Marks) (bytes : List ℕ) (unit : AccessUni
     → ◌≡◌ {A = AccessUnit} (record { dts = dts; pts = pts; marks = marks; bytes = bytes }) unit
 same_unit dts pts marks bytes unit d p m b = rw (d, p, m, b) refl
 
-read_back : (stream : ℕ) (unit : AccessUnit) (rest : List ℕ) → FitsRecord unit
-    → (size_at (stream ∷ (big_bytes 4 (word_of unit.marks (length unit.bytes)) ++ (big_bytes 8 unit.dts ++ (big_bytes 8 unit.pts ++ (unit.bytes ++ rest))))) ≡ length unit.bytes)
-    × (unit_at (stream ∷ (big_bytes 4 (word_of unit.marks (length unit.bytes)) ++ (big_bytes 8 unit.dts ++ (big_bytes 8 unit.pts ++ (unit.bytes ++ rest))))) ≡ unit)
-    × (drop 21 (stream ∷ (big_bytes 4 (word_of unit.marks (length unit.bytes)) ++ (big_bytes 8 unit.dts ++ (big_bytes 8 unit.pts ++ (unit.bytes ++ rest))))) ≡ unit.bytes ++ rest)
-read_back stream unit rest fits =
-    let p = parts stream (big_bytes 4 (word_of unit.marks (length unit.bytes))) (big_bytes 8 unit.dts) (big_bytes 8 unit.pts) (unit.bytes ++ rest)
-    (length-bytes_high_first 4 (word_of unit.marks (length unit.bytes))) (length-bytes_high_first 8 unit.dts) (length-bytes_high_first 8 unit.pts) in
-    let later : List ℕ = big_bytes 8 unit.dts ++ (big_bytes 8 unit.pts ++ (unit.bytes ++ rest)) in
-    let word : big_number 4 (big_bytes 4 (word_of unit.marks (length unit.bytes)) ++ later) ≡ word_of unit.marks (length unit.bytes) =
-    big_number-reads_back 4 (word_of unit.marks (length unit.bytes)) later (word_below unit.marks (length unit.bytes)) in
-    let size : size_in (big_number 4 (big_bytes 4 (word_of unit.marks (length unit.bytes)) ++ later)) ≡ length unit.bytes =
-    ap size_in word ∙ size_again unit.marks (length unit.bytes) fits.size (λ none. ap (λ (m : Marks). marks_byte m) (fits.marked none)) in
-    let marks : marks_in (big_number 4 (big_bytes 4 (word_of unit.marks (length unit.bytes)) ++ later) / 2 ^ 24) ≡ unit.marks =
-    ap (λ (n : ℕ). marks_in (n / 2 ^ 24)) word ∙ marks_again unit.marks (length unit.bytes) fits.size in
-    let dts : big_number 8 (big_bytes 8 unit.dts ++ (big_bytes 8 unit.pts ++ (unit.bytes ++ rest))) ≡ unit.dts =
-    big_number-reads_back 8 unit.dts (big_bytes 8 unit.pts ++ (unit.bytes ++ rest)) fits.dts in
-    let pts : big_number 8 (big_bytes 8 unit.pts ++ (unit.bytes ++ rest)) ≡ unit.pts =
-    big_number-reads_back 8 unit.pts (unit.bytes ++ rest) fits.pts in
-    let body : take (length unit.bytes) (unit.bytes ++ rest) ≡ unit.bytes = take_at unit.bytes rest (length unit.bytes) refl in (
-      size,
-      same_unit _ _ _ _ unit
-          (ap (big_number 8) p.0 ∙ dts) (ap (big_number 8) p.1 ∙ pts) marks
-          (ap (λ (n : ℕ). take n (drop 21 (stream ∷ (big_bytes 4 (word_of unit.marks (length unit.bytes)) ++ (big_bytes 8 unit.dts ++ (big_bytes 8 unit.pts ++ (unit.bytes ++ rest))))))) size
-          ∙ ap (take {A = ℕ} (length unit.bytes)) p.2 ∙ body),
-      p.2,
-    )
+body_by : (o : Option (List ℕ)) (bytes : List ℕ) → length (private_bytes o ++ bytes) ≡ cond (is_some o) 16 0 + length bytes
+body_by None bytes = omega arith
+body_by (Some p) bytes = omega (arith, length-append (sixteen p) bytes, sixteen_size p)
 
-pub record_of : (xs : List ℕ) (stream : ℕ) (unit : AccessUnit) (rest : List ℕ) → slice_index xs 0 ≡ stream → size_at xs ≡ length unit.bytes → unit_at xs ≡ unit
-    → drop 21 xs ≡ unit.bytes ++ rest → 21 ≤ length xs → length unit.bytes ≤ max_unit_size
+body_size : (unit : AccessUnit) → length (body_of unit) ≡ size_of unit
+body_size unit = body_by unit.marks.private_data unit.bytes
+
+-- a record without bytes has no marks
+no_more : (b : Bool) (n : ℕ) → cond b 16 0 + n ≡ 0 → n ≡ 0
+no_more true n e = omega (arith, e)
+no_more false n e = omega (arith, e)
+
+unmarked : (unit : AccessUnit) → FitsRecord unit → size_of unit ≡ 0 → marks_byte unit.marks ≡ 0
+unmarked unit fits none = ap (λ (m : Marks). marks_byte m) (fits.marked (no_more (is_some unit.marks.private_data) (length unit.bytes) none))
+
+-- one with PES_private_data has its bytes, and one of the unit
+with_private : (o : Option (List ℕ)) (n : ℕ) → (n ≡ 0 → o ≡ None) → is_some o ≡ true → 17 ≤ cond (is_some o) 16 0 + n
+with_private None n none is = absurd cc
+with_private (Some p) zero none is = absurd (let no : Some p ≡ None = none refl in cc (no))
+with_private (Some p) (suc n) none is = omega arith
+
+some_private : (unit : AccessUnit) → FitsRecord unit → is_some unit.marks.private_data ≡ true → 17 ≤ size_of unit
+some_private unit fits is =
+    with_private unit.marks.private_data (length unit.bytes) (λ none. ap (λ (m : Marks). m.private_data) (fits.marked none)) is
+
+read_back : (stream : ℕ) (unit : AccessUnit) (rest : List ℕ) → FitsRecord unit
+    → (size_at (stream ∷ (big_bytes 4 (word_of unit.marks (size_of unit)) ++ (big_bytes 8 unit.dts ++ (big_bytes 8 unit.pts ++ (body_of unit ++ rest))))) ≡ length (body_of unit))
+    × (unit_at (stream ∷ (big_bytes 4 (word_of unit.marks (size_of unit)) ++ (big_bytes 8 unit.dts ++ (big_bytes 8 unit.pts ++ (body_of unit ++ rest))))) ≡ unit)
+    × (drop 21 (stream ∷ (big_bytes 4 (word_of unit.marks (size_of unit)) ++ (big_bytes 8 unit.dts ++ (big_bytes 8 unit.pts ++ (body_of unit ++ rest))))) ≡ body_of unit ++ rest)
+read_back stream unit rest fits =
+    let p = parts stream (big_bytes 4 (word_of unit.marks (size_of unit))) (big_bytes 8 unit.dts) (big_bytes 8 unit.pts) (body_of unit ++ rest)
+    (length-bytes_high_first 4 (word_of unit.marks (size_of unit))) (length-bytes_high_first 8 unit.dts) (length-bytes_high_first 8 unit.pts) in
+    let later : List ℕ = big_bytes 8 unit.dts ++ (big_bytes 8 unit.pts ++ (body_of unit ++ rest)) in
+    let all : List ℕ = stream ∷ (big_bytes 4 (word_of unit.marks (size_of unit)) ++ later) in
+    let word : big_number 4 (big_bytes 4 (word_of unit.marks (size_of unit)) ++ later) ≡ word_of unit.marks (size_of unit) =
+    big_number-reads_back 4 (word_of unit.marks (size_of unit)) later (word_below unit.marks (size_of unit)) in
+    let long : size_of unit ≡ length (body_of unit) = sym (body_size unit) in
+    let size : size_at all ≡ length (body_of unit) =
+    ap size_in word ∙ size_again unit.marks (size_of unit) fits.size (unmarked unit fits) (some_private unit fits) ∙ long in
+    let byte : byte_at all ≡ marks_byte unit.marks = ap (λ (n : ℕ). n / 2 ^ 24) word ∙ byte_again unit.marks (size_of unit) fits.size in
+    let dts : big_number 8 (big_bytes 8 unit.dts ++ (big_bytes 8 unit.pts ++ (body_of unit ++ rest))) ≡ unit.dts =
+    big_number-reads_back 8 unit.dts (big_bytes 8 unit.pts ++ (body_of unit ++ rest)) fits.dts in
+    let pts : big_number 8 (big_bytes 8 unit.pts ++ (body_of unit ++ rest)) ≡ unit.pts =
+    big_number-reads_back 8 unit.pts (body_of unit ++ rest) fits.pts in
+    let body : body_at all ≡ body_of unit =
+    ap (λ (n : ℕ). take n (drop 21 all)) size ∙ ap (take {A = ℕ} (length (body_of unit))) p.2 ∙ take_at (body_of unit) rest (length (body_of unit)) refl in
+    let marks : marks_in (byte_at all) (body_at all) ≡ unit.marks =
+    ap₂ (λ (n : ℕ) (xs : List ℕ). marks_in n xs) byte body ∙ marks_again unit.marks unit.bytes fits.sixteen in
+    let bytes : bytes_in (byte_at all) (body_at all) ≡ unit.bytes =
+    ap₂ (λ (n : ℕ) (xs : List ℕ). bytes_in n xs) byte body ∙ bytes_again unit.marks unit.bytes in
+    (size, same_unit _ _ _ _ unit (ap (big_number 8) p.0 ∙ dts) (ap (big_number 8) p.1 ∙ pts) marks bytes, p.2)
+
+pub record_of : (xs : List ℕ) (stream : ℕ) (unit : AccessUnit) (body rest : List ℕ) → slice_index xs 0 ≡ stream → size_at xs ≡ length body → unit_at xs ≡ unit
+    → drop 21 xs ≡ body ++ rest → 21 ≤ length xs → length body ≤ max_unit_size
     → (record_at xs ≡ Ok (Some (stream, unit))) × (after_record xs ≡ rest)
-record_of xs stream unit rest first size is after long most =
+record_of xs stream unit body rest first size is after long most =
     let whole : 21 + size_at xs ≤ length xs =
-    omega (arith, size, long, ap (length {A = ℕ}) after, length-append unit.bytes rest, length-drop 21 xs) in
+    omega (arith, size, long, ap (length {A = ℕ}) after, length-append body rest, length-drop 21 xs) in
     let left : drop (21 + size_at xs) xs ≡ rest =
-    ap (λ (n : ℕ). drop (21 + n) xs) size ∙ sym (drop-drop (length unit.bytes) 21 xs)
-    ∙ ap (drop {A = ℕ} (length unit.bytes)) after ∙ drop_at unit.bytes rest (length unit.bytes) refl in
+    ap (λ (n : ℕ). drop (21 + n) xs) size ∙ sym (drop-drop (length body) 21 xs)
+    ∙ ap (drop {A = ℕ} (length body)) after ∙ drop_at body rest (length body) refl in
     (record_whole xs whole (omega (arith, size)) ∙ rw (first, is) refl, left)
 
 pub records_are_read : RecordsAreRead
 records_are_read stream unit rest fits =
     let b = read_back stream unit rest fits in
-    let long : 21 ≤ length (stream ∷ (big_bytes 4 (word_of unit.marks (length unit.bytes)) ++ (big_bytes 8 unit.dts ++ (big_bytes 8 unit.pts ++ (unit.bytes ++ rest))))) =
+    let long : 21 ≤ length (stream ∷ (big_bytes 4 (word_of unit.marks (size_of unit)) ++ (big_bytes 8 unit.dts ++ (big_bytes 8 unit.pts ++ (body_of unit ++ rest))))) =
     omega (
       arith,
-      length-append (big_bytes 4 (word_of unit.marks (length unit.bytes))) (big_bytes 8 unit.dts ++ (big_bytes 8 unit.pts ++ (unit.bytes ++ rest))),
-      length-append (big_bytes 8 unit.dts) (big_bytes 8 unit.pts ++ (unit.bytes ++ rest)),
-      length-append (big_bytes 8 unit.pts) (unit.bytes ++ rest),
-      length-bytes_high_first 4 (word_of unit.marks (length unit.bytes)),
+      length-append (big_bytes 4 (word_of unit.marks (size_of unit))) (big_bytes 8 unit.dts ++ (big_bytes 8 unit.pts ++ (body_of unit ++ rest))),
+      length-append (big_bytes 8 unit.dts) (big_bytes 8 unit.pts ++ (body_of unit ++ rest)),
+      length-append (big_bytes 8 unit.pts) (body_of unit ++ rest),
+      length-bytes_high_first 4 (word_of unit.marks (size_of unit)),
       length-bytes_high_first 8 unit.dts,
       length-bytes_high_first 8 unit.pts,
     ) in
-    let whole = record_of _ stream unit rest refl b.0 b.1 b.2 long fits.size in
+    let whole = record_of _ stream unit (body_of unit) rest refl b.0 b.1 b.2 long (omega (arith, body_size unit, fits.size)) in
     record {
       record_is = ap record_at (spread stream unit rest) ∙ whole.0;
       rest_is = ap (λ (xs : List ℕ). after_record xs) (spread stream unit rest) ∙ whole.1;

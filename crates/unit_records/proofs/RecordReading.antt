@@ -5,8 +5,7 @@ use Rattle.std.proofs.lemmas.List.{length-drop, drop-drop}
 use Rattle.byteorder.specs.Endian.{big_number}
 use Rattle.bit_fields.proofs.Bind.{ok_is, ok_not_err}
 use Rattle.pes_packet.specs.AccessUnits.{AccessUnit}
-use Rattle.pes_packet.specs.declared.marks.Marks.{Marks}
-use Rattle.unit_records.specs.Records.{marks_at, size_at, unit_at, record_at, max_unit_size, ReadsRecord, StopsWithin}
+use Rattle.unit_records.specs.Records.{byte_at, bytes_in, marks_in, size_at, unit_at, record_at, max_unit_size, ReadsRecord, StopsWithin}
 use Rattle.unit_records.specs.RecordParts.{ReadsStart, ReadsStamps, ReadsBytes}
 use Rattle.unit_records.specs.declared.reading.UnitFileError.{UnitFileError}
 use Rattle.unit_records.specs.declared.reading.UnitFileError.TheVariants.{Cut, Size, Device, Memory}
@@ -73,11 +72,11 @@ start_refused xs left Device s = record { read = s.read; within = omega (arith, 
 start_refused xs left Memory s = absurd s
 
 -- the size that was read
-size_read : (xs : List ℕ) (start : ℕ × Marks × ℕ) → start ≡ (slice_index xs 0, marks_at xs, size_at xs) → start.2 ≡ size_at xs
-size_read xs start e = ap (λ (x : ℕ × Marks × ℕ). x.2) e
+size_read : (xs : List ℕ) (start : ℕ × ℕ × ℕ) → start ≡ (slice_index xs 0, byte_at xs, size_at xs) → start.2 ≡ size_at xs
+size_read xs start e = ap (λ (x : ℕ × ℕ × ℕ). x.2) e
 
 -- its stamps were
-pub stamps_refused : (xs : List ℕ) (first left : Option (List ℕ)) (start : ℕ × Marks × ℕ) (e : UnitFileError) → ReadsStart xs first (Ok (Some start))
+pub stamps_refused : (xs : List ℕ) (first left : Option (List ℕ)) (start : ℕ × ℕ × ℕ) (e : UnitFileError) → ReadsStart xs first (Ok (Some start))
     → ((ys : List ℕ) → first ≡ Some ys → ReadsStamps ys left (Err e)) → ReadsRecord xs left (Err e)
 stamps_refused xs first left start e s k = by_cause e (k (drop 5 xs) s.3)
   where
@@ -88,7 +87,7 @@ stamps_refused xs first left start e s k = by_cause e (k (drop 5 xs) s.3)
     by_cause Memory h = absurd h
 
 -- its bytes were
-pub bytes_refused : (xs : List ℕ) (first second left : Option (List ℕ)) (start : ℕ × Marks × ℕ) (stamps : ℕ × ℕ) (e : UnitFileError)
+pub bytes_refused : (xs : List ℕ) (first second left : Option (List ℕ)) (start : ℕ × ℕ × ℕ) (stamps : ℕ × ℕ) (e : UnitFileError)
     → ReadsStart xs first (Ok (Some start))
     → ((ys : List ℕ) → first ≡ Some ys → ReadsStamps ys second (Ok stamps))
     → ((ys : List ℕ) → second ≡ Some ys → ReadsBytes ys start.2 left (Err e)) → ReadsRecord xs left (Err e)
@@ -103,16 +102,16 @@ bytes_refused xs first second left start stamps e s k b =
     by_cause Memory head h = (head, s.2, h ∙ ap Some (drop-drop 16 5 xs))
 
 -- a whole record
-pub whole_record : (xs : List ℕ) (first second left : Option (List ℕ)) (start : ℕ × Marks × ℕ) (stamps : ℕ × ℕ) (bytes : List ℕ)
+pub whole_record : (xs : List ℕ) (first second left : Option (List ℕ)) (start : ℕ × ℕ × ℕ) (stamps : ℕ × ℕ) (bytes : List ℕ)
     → ReadsStart xs first (Ok (Some start))
     → ((ys : List ℕ) → first ≡ Some ys → ReadsStamps ys second (Ok stamps))
     → ((ys : List ℕ) → second ≡ Some ys → ReadsBytes ys start.2 left (Ok bytes))
-    → ReadsRecord xs left (Ok (Some (start.0, record { dts = stamps.0; pts = stamps.1; marks = start.1; bytes = bytes })))
+    → ReadsRecord xs left (Ok (Some (start.0, record { dts = stamps.0; pts = stamps.1; marks = marks_in start.1 bytes; bytes = bytes_in start.1 bytes })))
 whole_record xs first second left start stamps bytes s k b =
     let t = k (drop 5 xs) s.3 in
     let u = b (drop 16 (drop 5 xs)) t.3 in
-    let stream : start.0 ≡ slice_index xs 0 = ap (λ (x : ℕ × Marks × ℕ). x.0) s.1 in
-    let marks : start.1 ≡ marks_at xs = ap (λ (x : ℕ × Marks × ℕ). x.1) s.1 in
+    let stream : start.0 ≡ slice_index xs 0 = ap (λ (x : ℕ × ℕ × ℕ). x.0) s.1 in
+    let byte : start.1 ≡ byte_at xs = ap (λ (x : ℕ × ℕ × ℕ). x.1) s.1 in
     let size : start.2 ≡ size_at xs = size_read xs start s.1 in
     let after : drop 16 (drop 5 xs) ≡ drop 21 xs = drop-drop 16 5 xs in
     let last : drop 8 (drop 5 xs) ≡ drop 13 xs = drop-drop 8 5 xs in
@@ -122,4 +121,4 @@ whole_record xs first second left start stamps bytes s k b =
     let body : bytes ≡ take (size_at xs) (drop 21 xs) = u.1 ∙ ap (λ (n : ℕ). take n (drop 16 (drop 5 xs))) size ∙ ap (take {A = ℕ} (size_at xs)) after in
     let rest : left ≡ Some (drop (21 + size_at xs) xs) =
     u.2 ∙ ap (λ (n : ℕ). Some (drop n (drop 16 (drop 5 xs)))) size ∙ ap (λ (ys : List ℕ). Some (drop (size_at xs) ys)) after ∙ ap Some (drop-drop (size_at xs) 21 xs) in
-    (record_whole xs all s.2 ∙ rw (stream, marks, dts, pts, body) refl, rest)
+    (record_whole xs all s.2 ∙ rw (stream, byte, dts, pts, body) refl, rest)

@@ -7,7 +7,7 @@ use Rattle.byteorder.specs.Numbers.{big_from-take}
 use Rattle.pes_packet.specs.AccessUnits.{AccessUnit}
 use Rattle.pes_packet.specs.declared.marks.Marks.{Marks}
 use Rattle.unit_records.specs.OpenRecords.{EndsRecord, IsOpen, IsPart, NamesSize, StaysRefused, come_of, entry_of}
-use Rattle.unit_records.specs.Records.{after_record, marks_at, marks_in, max_unit_size, record_at, size_at, size_in, unit_at}
+use Rattle.unit_records.specs.Records.{after_record, body_at, byte_at, bytes_in, marks_in, max_unit_size, record_at, size_at, size_in, unit_at}
 use Rattle.unit_records.specs.declared.taking.OpenRecord.{OpenRecord}
 use Rattle.unit_records.specs.declared.reading.UnitFileError.{UnitFileError}
 use Rattle.unit_records.specs.declared.reading.UnitFileError.TheVariants.{Cut, Size, Device, Memory}
@@ -28,8 +28,8 @@ number_after at n xs more h =
 size_front : (head more : List ℕ) → 5 ≤ length head → size_at (head ++ more) ≡ size_at head
 size_front head more h = ap size_in (number_after 1 4 head more (omega (arith, h)))
 
-marks_front : (head more : List ℕ) → 5 ≤ length head → marks_at (head ++ more) ≡ marks_at head
-marks_front head more h = ap (λ (n : ℕ). marks_in (n / 2 ^ 24)) (number_after 1 4 head more (omega (arith, h)))
+byte_front : (head more : List ℕ) → 5 ≤ length head → byte_at (head ++ more) ≡ byte_at head
+byte_front head more h = ap (λ (n : ℕ). n / 2 ^ 24) (number_after 1 4 head more (omega (arith, h)))
 
 first_front : (head more : List ℕ) → 0 < length head → slice_index (head ++ more) 0 ≡ slice_index head 0
 first_front [] more h = absurd (omega (arith, h))
@@ -127,14 +127,15 @@ whole_front head unit rest full s max =
     let all = head ++ (unit ++ rest) in
     let size : size_at all ≡ length unit = size_front head (unit ++ rest) (omega (arith, full)) ∙ s in
     let after : drop 21 all ≡ unit ++ rest = drop_at head (unit ++ rest) 21 full in
-    let body : take (size_at all) (drop 21 all) ≡ unit =
+    let body : body_at all ≡ unit =
     ap (λ (k : ℕ). take k (drop 21 all)) size ∙ ap (take {A = ℕ} (length unit)) after ∙ take_at unit rest (length unit) refl in
     let dts : big_number 8 (drop 5 all) ≡ big_number 8 (drop 5 head) = number_after 5 8 head (unit ++ rest) (omega (arith, full)) in
     let pts : big_number 8 (drop 13 all) ≡ big_number 8 (drop 13 head) = number_after 13 8 head (unit ++ rest) (omega (arith, full)) in
-    let marks : marks_at all ≡ marks_at head = marks_front head (unit ++ rest) (omega (arith, full)) in
-    let unit_is : unit_at all ≡ (entry_of head unit).1 = unit_same _ _ _ _ _ _ _ _ dts pts marks body in
+    let byte : byte_at all ≡ byte_at head = byte_front head (unit ++ rest) (omega (arith, full)) in
+    let unit_is : unit_at all ≡ (entry_of head unit).1 =
+    unit_same _ _ _ _ _ _ _ _ dts pts (ap₂ (λ (b : ℕ) (xs : List ℕ). marks_in b xs) byte body) (ap₂ (λ (b : ℕ) (xs : List ℕ). bytes_in b xs) byte body) in
     let count = length-append head (unit ++ rest) in
-    record_of all (slice_index head 0) (entry_of head unit).1 rest (first_front head (unit ++ rest) (omega (arith, full))) size unit_is after (omega (arith, count, full)) max
+    record_of all (slice_index head 0) (entry_of head unit).1 unit rest (first_front head (unit ++ rest) (omega (arith, full))) size unit_is after (omega (arith, count, full)) max
 
 pub ends : (head unit bytes : List ℕ) (n m size : ℕ) → IsPart (head ++ unit) → Fills head unit bytes n → FillsUnit unit bytes n size m →
     21 ≤ length (head ++ take n bytes) → size ≡ size_at (head ++ take n bytes) → size ≤ max_unit_size → size ≤ length (unit ++ take m (drop n bytes)) →

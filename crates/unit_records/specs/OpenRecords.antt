@@ -2,7 +2,7 @@
 use Rattle.std.specs.Prelude.{◌≡◌, ◌≤◌, ◌<◌, ℕ, ◌+◌, List, [], ◌++◌, length, drop, slice_index, Option, Some, None, Result, Ok, Err, ⊤}
 use Rattle.byteorder.specs.Endian.{big_number}
 use Rattle.pes_packet.specs.AccessUnits.{AccessUnit}
-use Rattle.unit_records.specs.Records.{after_record, head_size, marks_at, max_unit_size, record_at, size_at}
+use Rattle.unit_records.specs.Records.{after_record, byte_at, bytes_in, head_size, marks_in, max_unit_size, record_at, size_at}
 use Rattle.unit_records.specs.declared.reading.UnitFileError.{UnitFileError}
 use Rattle.unit_records.specs.declared.reading.UnitFileError.TheVariants.{Cut, Size, Device, Memory}
 use Rattle.unit_records.specs.declared.taking.OpenRecord.{OpenRecord}
@@ -46,10 +46,17 @@ NamesSize head (Err Cut) = ⊥
 NamesSize head (Err Device) = ⊥
 NamesSize head (Err Memory) = ⊥
 
--- the entry of a whole head and a unit
+-- the entry of a whole head and the bytes behind it
 abbrev pub entry_of : List ℕ → List ℕ → ℕ × AccessUnit
-entry_of head unit =
-    (slice_index head 0, record { dts = big_number 8 (drop 5 head); pts = big_number 8 (drop 13 head); marks = marks_at head; bytes = unit })
+entry_of head unit = (
+  slice_index head 0,
+  record {
+    dts = big_number 8 (drop 5 head);
+    pts = big_number 8 (drop 13 head);
+    marks = marks_in (byte_at head) unit;
+    bytes = bytes_in (byte_at head) unit;
+  },
+)
 
 -- the entry was taken out, or its unit still lacks bytes
 abbrev pub ClosesRecord : ℕ → OpenRecord → OpenRecord → Option (ℕ × AccessUnit) → Type 0

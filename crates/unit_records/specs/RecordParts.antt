@@ -1,8 +1,7 @@
 -- The parts of a record, as they are read one by one.
 use Rattle.std.specs.Prelude.{◌≡◌, ◌≤◌, ◌<◌, ℕ, List, [], length, take, drop, slice_index, Option, Some, None, Result, Ok, Err}
 use Rattle.byteorder.specs.Endian.{big_number}
-use Rattle.pes_packet.specs.declared.marks.Marks.{Marks}
-use Rattle.unit_records.specs.Records.{StopsWithin, marks_at, max_unit_size, size_at}
+use Rattle.unit_records.specs.Records.{StopsWithin, byte_at, max_unit_size, size_at}
 use Rattle.unit_records.specs.declared.reading.UnitFileError.{UnitFileError}
 use Rattle.unit_records.specs.declared.reading.UnitFileError.TheVariants.{Cut, Size, Device, Memory}
 
@@ -14,11 +13,11 @@ FillsWhole xs left part (Err Size) = ⊥
 FillsWhole xs left part (Err Device) = StopsWithin (length part) xs left
 FillsWhole xs left part (Err Memory) = ⊥
 
--- the stream, the marks and the size
-abbrev pub ReadsStart : List ℕ → Option (List ℕ) → Result (Option (ℕ × Marks × ℕ)) UnitFileError → Type 0
+-- the stream, the byte of marks and the size
+abbrev pub ReadsStart : List ℕ → Option (List ℕ) → Result (Option (ℕ × ℕ × ℕ)) UnitFileError → Type 0
 ReadsStart xs left (Ok None) = (xs ≡ []) × (left ≡ Some [])
 ReadsStart xs left (Ok (Some start)) =
-    (5 ≤ length xs) × (start ≡ (slice_index xs 0, marks_at xs, size_at xs)) × (size_at xs ≤ max_unit_size) × (left ≡ Some (drop 5 xs))
+    (5 ≤ length xs) × (start ≡ (slice_index xs 0, byte_at xs, size_at xs)) × (size_at xs ≤ max_unit_size) × (left ≡ Some (drop 5 xs))
 ReadsStart xs left (Err Cut) = (0 < length xs) × (length xs < 5) × (left ≡ Some [])
 ReadsStart xs left (Err Size) = (5 ≤ length xs) × (max_unit_size < size_at xs) × (left ≡ Some (drop 5 xs))
 ReadsStart xs left (Err Device) = StopsWithin 5 xs left
@@ -33,7 +32,7 @@ ReadsStamps xs left (Err Size) = ⊥
 ReadsStamps xs left (Err Device) = StopsWithin 16 xs left
 ReadsStamps xs left (Err Memory) = ⊥
 
--- the bytes of a unit
+-- the bytes behind the head
 abbrev pub ReadsBytes : List ℕ → ℕ → Option (List ℕ) → Result (List ℕ) UnitFileError → Type 0
 ReadsBytes xs size left (Ok bytes) = (size ≤ length xs) × (bytes ≡ take size xs) × (left ≡ Some (drop size xs))
 ReadsBytes xs size left (Err Cut) = (length xs < size) × (left ≡ Some [])

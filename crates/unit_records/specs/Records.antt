@@ -1,38 +1,61 @@
--- Records of access units: stream 1 byte, marks 1, size 3, DTS 8, PTS 8, the highest byte first, then the unit's bytes.
-use Rattle.std.specs.Prelude.{◌≡◌, ◌≤◌, ◌<◌, ℕ, ◌+◌, ◌-◌, ◌*◌, ◌/◌, ◌%◌, ◌^◌, ◌==◌, ◌&&◌, not, nat_lt, Bool, if◌then◌else◌, List, [], ◌∷◌, ◌++◌, length, take, drop, slice_index, Option, Some, None, Result, Ok, Err}
+-- Records of access units: stream 1 byte, marks 1, size 3, DTS 8, PTS 8, the highest byte first, then PES_private_data, if it is a mark, and
+-- the unit's bytes; the size counts both.
+use Rattle.std.specs.Prelude.{◌≡◌, ◌≤◌, ◌<◌, ℕ, ◌+◌, ◌-◌, ◌*◌, ◌/◌, ◌%◌, ◌^◌, ◌==◌, ◌&&◌, nat_le, nat_lt, Bool, if◌then◌else◌, List, [], ◌∷◌, ◌++◌, length, take, drop, slice_index, Option, Some, None, is_some, Result, Ok, Err}
 use Rattle.byteorder.specs.Endian.{big_number, big_bytes}
 use Rattle.counted_io.specs.Device.{Failed}
 use Rattle.bit_fields.specs.Fields.{bit, flag}
-use Rattle.pes_packet.specs.Marks.{flag_bits, flags_in}
+use Rattle.pes_packet.specs.Marks.{first_sixteen, flag_bits, flags_in, sixteen}
 use Rattle.pes_packet.specs.declared.marks.Marks.{Marks}
 use Rattle.pes_packet.specs.AccessUnits.{AccessUnit}
 use Rattle.unit_records.specs.declared.reading.UnitFileError.{UnitFileError}
 use Rattle.unit_records.specs.declared.reading.UnitFileError.TheVariants.{Cut, Size, Device, Memory}
 
--- the number of bytes before those of the unit
+-- the number of bytes before PES_private_data and those of the unit
 abbrev pub head_size : ℕ
 head_size = 21
 
--- the maximum size of a unit in a record
+-- the maximum size that a record names
 abbrev pub max_unit_size : ℕ
 max_unit_size = 4_000_000
 
--- the marks of a unit in one byte: 0x40 the random_access_indicator, the bit that it has in an adaptation field, 0x10 a header of 45 bytes,
--- the four flags as in the first flag byte of a PES header
+-- the marks of a unit in one byte: 0x40 the random_access_indicator, the bit that it has in an adaptation field, 0x20 PES_private_data, 0x10 a
+-- header of 45 bytes, the four flags as in the first flag byte of a PES header
 abbrev pub marks_byte : Marks → ℕ
-marks_byte marks = bit marks.random_access * 64 + bit marks.long * 16 + flag_bits marks.flags
+marks_byte marks = bit marks.random_access * 64 + bit (is_some marks.private_data) * 32 + bit marks.long * 16 + flag_bits marks.flags
 
--- the marks that a byte names
-unfoldable pub marks_in : ℕ → Marks
-marks_in byte = record { random_access = flag byte 64; flags = flags_in byte; long = flag byte 16 }
+-- the bytes of PES_private_data in a record
+abbrev pub private_bytes : Option (List ℕ) → List ℕ
+private_bytes None = []
+private_bytes (Some bytes) = sixteen bytes
+
+-- and their number
+abbrev pub private_size : Marks → ℕ
+private_size marks = if is_some marks.private_data then 16 else 0
+
+-- the marks that a byte names, with the bytes behind the head of a record
+unfoldable pub marks_in : ℕ → List ℕ → Marks
+marks_in byte bytes = record {
+  random_access = flag byte 64;
+  flags = flags_in byte;
+  long = flag byte 16;
+  private_data = if flag byte 32 then first_sixteen bytes else None;
+}
+
+-- the bytes of the unit among them
+abbrev pub bytes_in : ℕ → List ℕ → List ℕ
+bytes_in byte bytes = if flag byte 32 then drop 16 bytes else bytes
 
 -- the word of a record: a byte of marks and three bytes of size; where three bytes do not name the size, a word that no reader takes
 abbrev pub word_of : Marks → ℕ → ℕ
 word_of marks size = if nat_lt size (2 ^ 24) then marks_byte marks * 2 ^ 24 + size else 2 ^ 32 - 1
 
--- each bit of the byte of marks that is set says something, and the unit has bytes
+-- the least number of bytes behind the head of a record with marks: those of PES_private_data, and one of the unit
+abbrev pub least_size : ℕ → ℕ
+least_size byte = if flag byte 32 then 17 else 1
+
+-- each bit of the byte of marks that is set says something, and the bytes are enough
 abbrev pub is_known : ℕ → Bool
-is_known word = nat_lt (word / 2 ^ 24) 128 && nat_lt (word / 2 ^ 24 % 64) 32 && not (word % 2 ^ 24 == 0)
+is_known word = nat_lt (word / 2 ^ 24) 128 && nat_le (least_size (word / 2 ^ 24)) (word % 2 ^ 24)
 
 -- the size in a word; the whole word, which is 0 or over each size, if a bit that says nothing is set or the unit has no bytes
 unfoldable pub size_in : ℕ → ℕ
@@ -46,17 +69,21 @@ word_at xs = big_number 4 (drop 1 xs)
 abbrev pub size_at : List ℕ → ℕ
 size_at xs = size_in (word_at xs)
 
--- the marks that a record names
-abbrev pub marks_at : List ℕ → Marks
-marks_at xs = marks_in (word_at xs / 2 ^ 24)
+-- the byte of marks of a record
+abbrev pub byte_at : List ℕ → ℕ
+byte_at xs = word_at xs / 2 ^ 24
+
+-- the bytes behind the head of a record
+abbrev pub body_at : List ℕ → List ℕ
+body_at xs = take (size_at xs) (drop head_size xs)
 
 -- the unit of a record that is whole
 abbrev pub unit_at : List ℕ → AccessUnit
 unit_at xs = record {
   dts = big_number 8 (drop 5 xs);
   pts = big_number 8 (drop 13 xs);
-  marks = marks_at xs;
-  bytes = take (size_at xs) (drop head_size xs);
+  marks = marks_in (byte_at xs) (body_at xs);
+  bytes = bytes_in (byte_at xs) (body_at xs);
 }
 
 -- what is at the front of an input: nothing if it is empty, a record, or why it is none;
@@ -73,9 +100,10 @@ record_at xs =
 abbrev pub after_record : List ℕ → List ℕ
 after_record xs = drop (head_size + size_at xs) xs
 
--- the bytes of a record before those of its unit
+-- the bytes of a record before those of its unit, which has `size`
 unfoldable pub record_head : ℕ → Marks → ℕ → ℕ → ℕ → List ℕ
-record_head stream marks size dts pts = stream ∷ (big_bytes 4 (word_of marks size) ++ (big_bytes 8 dts ++ big_bytes 8 pts))
+record_head stream marks size dts pts =
+    stream ∷ (big_bytes 4 (word_of marks (private_size marks + size)) ++ (big_bytes 8 dts ++ (big_bytes 8 pts ++ private_bytes marks.private_data)))
 
 -- a record as it is written
 abbrev pub record_bytes : ℕ → AccessUnit → List ℕ

@@ -6,10 +6,10 @@ ghost use Rattle.unit_records.specs.Codes.{file_code};
 ghost use Rattle.unit_records.specs.Records.{ReadsRecord, NamesReader};
 ghost use Rattle.unit_records.specs.RecordParts.{FillsWhole, ReadsBytes, ReadsStart, ReadsStamps};
 
-use crate::words::{marks_in, size_in};
+use crate::words::{byte_in, parted, size_in};
 use byteorder::{BigEndian, ByteOrder};
 use counted_io::{Source, read_part};
-use pes_packet::{Marks, Unit};
+use pes_packet::Unit;
 use std::alloc::Allocator;
 use thiserror::Error;
 
@@ -48,7 +48,8 @@ impl UnitFileError {
 pub(crate) const MAX_UNIT_SIZE: usize = 4_000_000;
 
 /// Reads the record at the front of the input: the number of its stream and its unit, or `None` if no byte is left.
-/// A record is stream (1 byte), marks (1), size (3), DTS (8) and PTS (8), the highest byte first, then the unit's bytes.
+/// A record is stream (1 byte), marks (1), size (3), DTS (8) and PTS (8), the highest byte first, then PES_private_data, if
+/// it is a mark, and the unit's bytes.
 /// After a refusal the reader is inside the record.
 pub fn read_unit<A: Allocator, R: Source>(
     alloc: A,
@@ -61,7 +62,7 @@ pub fn read_unit<A: Allocator, R: Source>(
     ensures fault { NamesReader result (R.fault_count from.old) (R.fault_count from.new) }
     ensures later { R.fault_count from.old ≤ R.fault_count from.new }
 {
-    let (stream, marks, size) = match read_start(from) {
+    let (stream, byte, size) = match read_start(from) {
         Ok(Some(start)) => start,
         Ok(None) => return Ok(None),
         Err(refusal) => return Err(refusal),
@@ -72,6 +73,7 @@ pub fn read_unit<A: Allocator, R: Source>(
     };
     match read_bytes(alloc, from, size) {
         Ok(bytes) => {
+            let (marks, bytes) = parted(byte, bytes);
             let unit = Unit {
                 dts,
                 pts,
@@ -101,8 +103,8 @@ fn fill<R: Source>(from: &mut R, part: &mut [u8]) -> Result<(), UnitFileError>
     }
 }
 
-// The stream, the marks and the size, or None where no byte is left.
-fn read_start<R: Source>(from: &mut R) -> Result<Option<(u8, Marks, usize)>, UnitFileError>
+// The stream, the byte of marks and the size, or None where no byte is left.
+fn read_start<R: Source>(from: &mut R) -> Result<Option<(u8, u8, usize)>, UnitFileError>
     ensures known { (xs : List ℕ) → R.remaining from.old ≡ Some xs → ReadsStart xs (R.remaining from.new) result }
     ensures fault { NamesReader result (R.fault_count from.old) (R.fault_count from.new) }
     ensures later { R.fault_count from.old ≤ R.fault_count from.new }
@@ -119,7 +121,7 @@ fn read_start<R: Source>(from: &mut R) -> Result<Option<(u8, Marks, usize)>, Uni
             if size > MAX_UNIT_SIZE {
                 return Err(UnitFileError::Size);
             }
-            Ok(Some((start[0], marks_in(word), size)))
+            Ok(Some((start[0], byte_in(word), size)))
         }
         Err(_) => Err(UnitFileError::Device),
     }
@@ -141,7 +143,7 @@ fn read_stamps<R: Source>(from: &mut R) -> Result<(u64, u64), UnitFileError>
     }
 }
 
-// The bytes of a unit of this size, in memory of their own.
+// So many bytes behind a head, in memory of their own.
 fn read_bytes<A: Allocator, R: Source>(
     alloc: A,
     from: &mut R,

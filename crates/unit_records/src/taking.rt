@@ -5,7 +5,7 @@ ghost use Rattle.unit_records.specs.OpenRecords.{ClosesRecord, IsOpen, NamesSize
 ghost use Rattle.unit_records.specs.Records.{record_at};
 
 use crate::reading::{MAX_UNIT_SIZE, UnitFileError};
-use crate::words::{marks_in, size_in};
+use crate::words::{byte_in, parted, size_in};
 use arrayvec::ArrayVec;
 use bit_fields::append;
 use byteorder::{BigEndian, ByteOrder};
@@ -13,16 +13,16 @@ use pes_packet::Unit;
 use std::alloc::Global;
 use std::mem;
 
-/// The bytes of a record before those of its unit.
+/// The bytes of a record before PES_private_data and those of its unit.
 const HEAD: usize = 21;
 
 /// A record that is not whole yet. Its unit's bytes are put into a room of their size as they arrive.
 #[derive(Drop)]
 pub struct OpenRecord {
     alloc: Global,
-    /// The bytes before those of the unit: stream and marks (1 byte each), size (3), DTS and PTS (8 each).
+    /// The bytes before the rest: stream and marks (1 byte each), size (3), DTS and PTS (8 each).
     head: ArrayVec<u8, HEAD>,
-    /// The bytes of the unit.
+    /// PES_private_data, if it is a mark, and the bytes of the unit.
     unit: Vec<u8>,
 }
 
@@ -93,11 +93,12 @@ impl OpenRecord {
         }
         let head = self.head.as_slice();
         let stream = head[0];
-        let marks = marks_in(BigEndian::read_u32(&head[1..]));
+        let byte = byte_in(BigEndian::read_u32(&head[1..]));
         let dts = BigEndian::read_u64(&head[5..]);
         let pts = BigEndian::read_u64(&head[13..]);
         let bytes = mem::replace(&mut self.unit, Vec::new(self.alloc));
         self.head.clear();
+        let (marks, bytes) = parted(byte, bytes);
         let unit = Unit {
             dts,
             pts,

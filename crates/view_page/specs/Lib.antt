@@ -2,6 +2,7 @@ pub mod HtmlTexts
 pub mod PageLabels
 pub mod Cells
 pub mod RowCells
+pub mod MarkCells
 pub mod InputCells
 pub mod RowTexts
 pub mod Rows

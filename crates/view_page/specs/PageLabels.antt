@@ -1,7 +1,7 @@
 -- What PIDs carry, by what comes of them in windows: the last of a PID that has a program counts, and the last name of a program's service.
 use Rattle.std.specs.Prelude.{ℕ, ◌==◌, if◌then◌else◌, unwrap_or, List, Option, Some, None}
 use Rattle.events.specs.declared.event.Event.{Event}
-use Rattle.events.specs.declared.event.Event.TheVariants.{Input, Stream, Window, Held, Units, Excess, MainExcess, MultiplexingExcess, ElementaryExcess, SystemExcess, SystemMainExcess, Late, ElementaryLate, Ahead, PcrRepetition, PcrDiscontinuity, PcrAccuracy, TableRepetition, Unclocked, Refused, Continuity, CheckWord, Transport, Main, Multiplexing, Elementary, System, Clock, Table, Pid, Unreferenced, Missing, Check, End}
+use Rattle.events.specs.declared.event.Event.TheVariants.{Input, Stream, Window, Held, Units, Excess, MainExcess, MultiplexingExcess, ElementaryExcess, SystemExcess, SystemMainExcess, Late, ElementaryLate, Ahead, PcrRepetition, PcrDiscontinuity, PcrAccuracy, TableRepetition, Unclocked, Refused, Continuity, CheckWord, Transport, Main, Multiplexing, Elementary, Marks, System, Clock, Table, Pid, Unreferenced, Missing, Check, End, Rule, Summary}
 use Rattle.events.specs.Windows.{WindowView}
 use Rattle.page_charts.specs.PidLabels.{LabelsState, with_program, with_service}
 use Rattle.view_page.specs.HtmlTexts.{html_text}
@@ -44,6 +44,7 @@ with_event l (Transport e) = l
 with_event l (Main e) = l
 with_event l (Multiplexing e) = l
 with_event l (Elementary e) = l
+with_event l (Marks e) = l
 with_event l (System e) = l
 with_event l (Clock e) = l
 with_event l (Table e) = l
@@ -52,3 +53,5 @@ with_event l (Unreferenced e) = l
 with_event l (Missing e) = l
 with_event l (Check e) = l
 with_event l (End e) = l
+with_event l (Rule e) = l
+with_event l (Summary e) = l

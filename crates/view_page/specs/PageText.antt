@@ -11,6 +11,7 @@ use Rattle.events.specs.declared.event.ReportEnd.{ReportEnd}
 use Rattle.view_page.specs.declared.page_text.TheConstants.{APART, BACK, BUFFERS, CHECKS, CLOCKS, FAULTS, FRONT, MAINS, PIDS, RATES, SLACKS, STREAMS, SYSTEMS, TABLES, TRANSPORTS}
 use Rattle.page_charts.specs.PidLabels.{LabelsState}
 use Rattle.view_page.specs.Cells.{carried_cell}
+use Rattle.view_page.specs.MarkCells.{marks_text}
 use Rattle.view_page.specs.RowTexts.{RowTexts, StreamText}
 
 -- texts that are always the same
@@ -85,9 +86,11 @@ row_head pid = codes "<tr><td>" ++ decimal pid
 unfoldable pub stream_row : LabelsState → StreamText → List ℕ
 stream_row labels r = row_head r.pid ++ (carried_cell labels r.pid ++ (r.cells ++ codes "\n"))
 
+unfoldable pub figures : RowTexts → List ℕ
+figures r = (buffers_text ++ r.buffers) ++ ((marks_text ++ r.marks) ++ ((systems_text ++ r.systems) ++ (clocks_text ++ r.clocks)))
+
 unfoldable pub measures : LabelsState → RowTexts → List ℕ
-measures labels r = (checks_text ++ r.checks) ++ ((faults_text ++ r.faults) ++ ((streams_text ++ flat_map (stream_row labels) r.streams)
-    ++ ((buffers_text ++ r.buffers) ++ ((systems_text ++ r.systems) ++ (clocks_text ++ r.clocks)))))
+measures labels r = (checks_text ++ r.checks) ++ ((faults_text ++ r.faults) ++ ((streams_text ++ flat_map (stream_row labels) r.streams) ++ figures r))
 
 unfoldable pub lists : RowTexts → List ℕ
 lists r = (tables_text ++ r.tables) ++ ((pids_text ++ r.pids) ++ (apart_text ++ r.apart))

@@ -1,7 +1,8 @@
 -- What a page keeps of a stream, by its events and nothing else.
 use Rattle.std.specs.Prelude.{◌≡◌, ℕ, List, [], ◌∷◌}
 use Rattle.events.specs.declared.event.Event.{Event}
-use Rattle.events.specs.declared.event.Event.TheVariants.{Input, Stream, Window, Held, Units, Excess, MainExcess, MultiplexingExcess, ElementaryExcess, SystemExcess, SystemMainExcess, Late, ElementaryLate, Ahead, PcrRepetition, PcrDiscontinuity, PcrAccuracy, TableRepetition, Unclocked, Refused, Continuity, CheckWord, Transport, Main, Multiplexing, Elementary, System, Clock, Table, Pid, Unreferenced, Missing, Check, End}
+use Rattle.events.specs.declared.timed_event.TimedEvent.{TimedEvent}
+use Rattle.events.specs.declared.event.Event.TheVariants.{Input, Stream, Window, Held, Units, Excess, MainExcess, MultiplexingExcess, ElementaryExcess, SystemExcess, SystemMainExcess, Late, ElementaryLate, Ahead, PcrRepetition, PcrDiscontinuity, PcrAccuracy, TableRepetition, Unclocked, Refused, Continuity, CheckWord, Transport, Main, Multiplexing, Elementary, Marks, System, Clock, Table, Pid, Unreferenced, Missing, Check, End, Rule, Summary}
 use Rattle.events.specs.declared.event.ReportEnd.{ReportEnd}
 use Rattle.view_page.specs.declared.page.Page.{Page}
 use Rattle.page_charts.specs.PidLabels.{LabelsState, no_labels}
@@ -57,6 +58,7 @@ end_after end (Transport e) = end
 end_after end (Main e) = end
 end_after end (Multiplexing e) = end
 end_after end (Elementary e) = end
+end_after end (Marks e) = end
 end_after end (System e) = end
 end_after end (Clock e) = end
 end_after end (Table e) = end
@@ -64,6 +66,8 @@ end_after end (Pid e) = end
 end_after end (Unreferenced e) = end
 end_after end (Missing e) = end
 end_after end (Check e) = end
+end_after end (Rule e) = end
+end_after end (Summary e) = end
 
 abbrev pub with_end : PageState → Event → PageState
 with_end s event = record s { end = end_after s.end event }
@@ -78,6 +82,6 @@ after_event s event = record {
   end = end_after s.end event;
 }
 
-unfoldable pub after_events : PageState → List Event → PageState
+unfoldable pub after_events : PageState → List TimedEvent → PageState
 after_events s [] = s
-after_events s (event ∷ events) = after_events (after_event s event) events
+after_events s (event ∷ events) = after_events (after_event s event.event) events

@@ -10,6 +10,7 @@ pub record RowTexts : Type 0 where
   pub checks : List ℕ
   pub streams : List StreamText
   pub buffers : List ℕ
+  pub marks : List ℕ
   pub systems : List ℕ
   pub clocks : List ℕ
   pub tables : List ℕ

@@ -1,7 +1,7 @@
 -- The rows that an event adds.
 use Rattle.std.specs.Prelude.{ℕ, ◌+◌, ◌-◌, ◌^◌, min, nat_lt, if◌then◌else◌, List, [], ◌∷◌, ◌++◌, flat_map}
 use Rattle.events.specs.declared.event.Event.{Event}
-use Rattle.events.specs.declared.event.Event.TheVariants.{Input, Stream, Window, Held, Units, Excess, MainExcess, MultiplexingExcess, ElementaryExcess, SystemExcess, SystemMainExcess, Late, ElementaryLate, Ahead, PcrRepetition, PcrDiscontinuity, PcrAccuracy, TableRepetition, Unclocked, Refused, Continuity, CheckWord, Transport, Main, Multiplexing, Elementary, System, Clock, Table, Pid, Unreferenced, Missing, Check, End}
+use Rattle.events.specs.declared.event.Event.TheVariants.{Input, Stream, Window, Held, Units, Excess, MainExcess, MultiplexingExcess, ElementaryExcess, SystemExcess, SystemMainExcess, Late, ElementaryLate, Ahead, PcrRepetition, PcrDiscontinuity, PcrAccuracy, TableRepetition, Unclocked, Refused, Continuity, CheckWord, Transport, Main, Multiplexing, Elementary, Marks, System, Clock, Table, Pid, Unreferenced, Missing, Check, End, Rule, Summary}
 use Rattle.events.specs.declared.event.StreamBegin.{StreamBegin}
 use Rattle.events.specs.declared.input_event.InputEvent.{InputEvent}
 use Rattle.events.specs.declared.input_event.InputEvent.TheVariants as inputs
@@ -12,10 +12,11 @@ use Rattle.view_page.specs.Cells.{cell, row}
 use Rattle.view_page.specs.RowCells.{ahead_cells, check_cells, check_word_cells, clock_cells, clock_place_cells, clock_time_cells, continuity_cells, elementary_cells, elementary_late_cells, excess_cells, late_cells, main_cells, multiplexing_cells, pid_cells, program_excess_cells, reference_cells, refused_cells, stream_cells, system_cells, table_cells, table_fault_cells, transport_cells, unclocked_cells}
 use Rattle.view_page.specs.InputCells.{empty_cells, no_stream_cells, other_rate_cells, packet_size_cells, slip_cells}
 use Rattle.page_charts.specs.PidLabels.{LabelsState}
+use Rattle.view_page.specs.MarkCells.{mark_cells}
 use Rattle.view_page.specs.RowTexts.{RowTexts}
 
 abbrev pub no_rows : RowTexts
-no_rows = record { checks = []; streams = []; buffers = []; systems = []; clocks = []; tables = []; pids = []; apart = []; faults = []; count = 0 }
+no_rows = record { checks = []; streams = []; buffers = []; marks = []; systems = []; clocks = []; tables = []; pids = []; apart = []; faults = []; count = 0 }
 
 -- a fault has a row if fewer than 100 have come before it; their number stops at 2^64 - 1
 abbrev pub with_fault : LabelsState → RowTexts → List Cell → RowTexts
@@ -51,6 +52,7 @@ with_fault_event labels r (Transport e) = r
 with_fault_event labels r (Main e) = r
 with_fault_event labels r (Multiplexing e) = r
 with_fault_event labels r (Elementary e) = r
+with_fault_event labels r (Marks e) = r
 with_fault_event labels r (System e) = r
 with_fault_event labels r (Clock e) = r
 with_fault_event labels r (Table e) = r
@@ -59,6 +61,8 @@ with_fault_event labels r (Unreferenced e) = r
 with_fault_event labels r (Missing e) = r
 with_fault_event labels r (Check e) = r
 with_fault_event labels r (End e) = r
+with_fault_event labels r (Rule e) = r
+with_fault_event labels r (Summary e) = r
 
 -- how the bytes of the input are packets: packets of another size are no fault
 unfoldable pub with_input : LabelsState → RowTexts → InputEvent → RowTexts
@@ -101,6 +105,7 @@ with_event labels r (Transport e) = with_buffer labels r (transport_cells e)
 with_event labels r (Main e) = with_buffer labels r (main_cells e)
 with_event labels r (Multiplexing e) = with_buffer labels r (multiplexing_cells e)
 with_event labels r (Elementary e) = with_buffer labels r (elementary_cells e)
+with_event labels r (Marks e) = record r { marks = r.marks ++ row labels (mark_cells e) }
 with_event labels r (System e) = record r { systems = r.systems ++ row labels (system_cells e) }
 with_event labels r (Clock e) = record r { clocks = r.clocks ++ row labels (clock_cells e) }
 with_event labels r (Table e) = record r { tables = r.tables ++ row labels (table_cells e) }
@@ -109,3 +114,5 @@ with_event labels r (Unreferenced e) = record r { apart = r.apart ++ row labels 
 with_event labels r (Missing e) = record r { apart = r.apart ++ row labels (reference_cells words.Missing e) }
 with_event labels r (Check e) = record r { checks = r.checks ++ row labels (check_cells e) }
 with_event labels r (End e) = with_fault_event labels r (End e)
+with_event labels r (Rule e) = with_fault_event labels r (Rule e)
+with_event labels r (Summary e) = with_fault_event labels r (Summary e)

@@ -1,7 +1,7 @@
 -- The curves of the page, by the events that have come and nothing else.
 use Rattle.std.specs.Prelude.{◌≡◌, ℕ, ◌+◌, ◌-◌, ◌/◌, ◌^◌, min, max, List, [], Option, Some, None}
 use Rattle.events.specs.declared.event.Event.{Event}
-use Rattle.events.specs.declared.event.Event.TheVariants.{Input, Stream, Window, Held, Units, Excess, MainExcess, MultiplexingExcess, ElementaryExcess, SystemExcess, SystemMainExcess, Late, ElementaryLate, Ahead, PcrRepetition, PcrDiscontinuity, PcrAccuracy, TableRepetition, Unclocked, Refused, Continuity, CheckWord, Transport, Main, Multiplexing, Elementary, System, Clock, Table, Pid, Unreferenced, Missing, Check, End}
+use Rattle.events.specs.declared.event.Event.TheVariants.{Input, Stream, Window, Held, Units, Excess, MainExcess, MultiplexingExcess, ElementaryExcess, SystemExcess, SystemMainExcess, Late, ElementaryLate, Ahead, PcrRepetition, PcrDiscontinuity, PcrAccuracy, TableRepetition, Unclocked, Refused, Continuity, CheckWord, Transport, Main, Multiplexing, Elementary, Marks, System, Clock, Table, Pid, Unreferenced, Missing, Check, End, Rule, Summary}
 use Rattle.events.specs.declared.event.HeldFigures.{HeldFigures}
 use Rattle.events.specs.declared.event.StreamBegin.{StreamBegin}
 use Rattle.events.specs.declared.event.UnitFigures.{UnitFigures}
@@ -94,6 +94,7 @@ with_event v (Transport e) = v
 with_event v (Main e) = v
 with_event v (Multiplexing e) = v
 with_event v (Elementary e) = v
+with_event v (Marks e) = v
 with_event v (System e) = v
 with_event v (Clock e) = v
 with_event v (Table e) = v
@@ -102,3 +103,5 @@ with_event v (Unreferenced e) = v
 with_event v (Missing e) = v
 with_event v (Check e) = v
 with_event v (End e) = v
+with_event v (Rule e) = v
+with_event v (Summary e) = v

@@ -11,6 +11,7 @@
 mod cells;
 mod html_text;
 mod input_cells;
+mod mark_cells;
 mod page;
 mod page_labels;
 mod page_text;

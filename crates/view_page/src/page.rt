@@ -7,7 +7,7 @@ use crate::page_labels::take_label;
 use crate::page_text::write_page;
 use crate::rows::Rows;
 use crate::values::Values;
-use events::{Event, ReportEnd};
+use events::{Event, ReportEnd, TimedEvent};
 use page_charts::PidLabels;
 use std::alloc::{AllocError, Global};
 
@@ -65,11 +65,11 @@ impl Page {
     }
 
     /// Takes events.
-    pub fn take_all(&mut self, events: &[Event]) -> Result<(), AllocError>
+    pub fn take_all(&mut self, events: &[TimedEvent]) -> Result<(), AllocError>
         ensures { (s : PageState) → IsPage self.old s → OnOk result (IsPage self.new (after_events s events.now)) }
     {
         for event in events {
-            self.take(event)?;
+            self.take(&event.event)?;
         }
         Ok(())
     }

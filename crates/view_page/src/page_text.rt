@@ -3,6 +3,7 @@ ghost use Rattle.std.specs.Prelude.{◌≡◌, ◌++◌, OnOk, codes, flat_map, 
 ghost use Rattle.view_page.specs.PageText as spec;
 
 use crate::cells::write_carried;
+use crate::mark_cells::marks_text;
 use crate::page::Page;
 use crate::rows::{Rows, StreamRow};
 use events::ReportEnd;
@@ -356,6 +357,17 @@ fn write_streams(
     write_stream_rows(text, labels, rows)
 }
 
+// The tables of buffers, marks and clock references.
+#[tactic(auto, unfolding(crate::specs::PageText::figures))]
+fn write_figures(text: &mut String, rows: &Rows) -> Result<(), AllocError>
+    ensures { OnOk result (string_bytes text.new ≡ string_bytes text.old ++ spec.figures rows.now) }
+{
+    write_table(text, buffers_text(), &rows.buffers)?;
+    write_table(text, marks_text(), &rows.marks)?;
+    write_table(text, systems_text(), &rows.systems)?;
+    write_table(text, clocks_text(), &rows.clocks)
+}
+
 // The tables of what is measured.
 #[tactic(auto, unfolding(crate::specs::PageText::measures))]
 fn write_measures(text: &mut String, labels: &PidLabels, rows: &Rows) -> Result<(), AllocError>
@@ -364,9 +376,7 @@ fn write_measures(text: &mut String, labels: &PidLabels, rows: &Rows) -> Result<
     write_table(text, checks_text(), &rows.checks)?;
     write_table(text, faults_text(), &rows.faults)?;
     write_streams(text, labels, &rows.streams)?;
-    write_table(text, buffers_text(), &rows.buffers)?;
-    write_table(text, systems_text(), &rows.systems)?;
-    write_table(text, clocks_text(), &rows.clocks)
+    write_figures(text, rows)
 }
 
 // The tables of tables and PIDs.

@@ -6,6 +6,7 @@ use crate::cells::{Cell, CellWord, write_cells, write_row};
 use crate::input_cells::{
     empty_cells, no_stream_cells, other_rate_cells, packet_size_cells, slip_cells,
 };
+use crate::mark_cells::mark_cells;
 use crate::row_cells::{
     ahead_cells, check_cells, check_word_cells, clock_cells, clock_place_cells, clock_time_cells,
     continuity_cells, elementary_cells, elementary_late_cells, excess_cells, late_cells,
@@ -44,6 +45,7 @@ pub struct Rows {
     pub checks: String,
     pub streams: Vec<StreamRow>,
     pub buffers: String,
+    pub marks: String,
     pub systems: String,
     pub clocks: String,
     pub tables: String,
@@ -63,6 +65,7 @@ impl Model for Rows {
       checks = string_bytes r.checks;
       streams = r.streams.items;
       buffers = string_bytes r.buffers;
+      marks = string_bytes r.marks;
       systems = string_bytes r.systems;
       clocks = string_bytes r.clocks;
       tables = string_bytes r.tables;
@@ -83,6 +86,7 @@ impl Rows {
             checks: String::new(alloc),
             streams: Vec::new(alloc),
             buffers: String::new(alloc),
+            marks: String::new(alloc),
             systems: String::new(alloc),
             clocks: String::new(alloc),
             tables: String::new(alloc),
@@ -196,6 +200,7 @@ impl Rows {
             Event::Main(e) => self.take_buffer(labels, &main_cells(e)),
             Event::Multiplexing(e) => self.take_buffer(labels, &multiplexing_cells(e)),
             Event::Elementary(e) => self.take_buffer(labels, &elementary_cells(e)),
+            Event::Marks(e) => write_row(&mut self.marks, labels, &mark_cells(e)),
             Event::System(e) => write_row(&mut self.systems, labels, &system_cells(e)),
             Event::Clock(e) => write_row(&mut self.clocks, labels, &clock_cells(e)),
             Event::Table(e) => write_row(&mut self.tables, labels, &table_cells(e)),

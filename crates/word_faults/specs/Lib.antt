@@ -9,3 +9,4 @@ pub mod WordFaults
 pub mod NamedWords
 pub mod UsageReport
 pub mod SortedWords
+pub mod Commands

@@ -40,10 +40,6 @@ is_input names = false
 abbrev pub marked : List Text → List Text
 marked names = if is_input names then [] else codes "--" ∷ names
 
--- options, then names of files after `--`
-abbrev pub sorted_words : CommandLine → List Text → List Text
-sorted_words c words = option_words c words ++ marked (name_words c words)
-
 -- the value that is given to an option, and the words without both
 abbrev pub value_by : Option Text → List Text → Option Text
 value_by (Some value) rest = Some value

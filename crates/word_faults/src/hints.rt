@@ -120,9 +120,9 @@ fn nearer<'a>(
     Ok(Some(if edits < fewest { other } else { best }))
 }
 
-// The nearest word, if one is near.
+/// Returns the nearest word, if one is near.
 #[tactic(auto, unfolding(crate::specs::Hints::nearest_from))]
-fn nearest<'a>(
+pub fn nearest<'a>(
     alloc: Global,
     others: &'a [String],
     word: &str,

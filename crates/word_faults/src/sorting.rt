@@ -90,8 +90,8 @@ fn is_input(names: &[&str]) -> bool
     }
 }
 
-// With names of files after `--`.
-fn push_marked<'a>(found: &mut Vec<&'a str>, names: &[&'a str]) -> Result<(), AllocError>
+/// Appends names of files after `--`; nothing if the stream is on standard input.
+pub(crate) fn push_marked<'a>(found: &mut Vec<&'a str>, names: &[&'a str]) -> Result<(), AllocError>
     ensures { OnOk result (map (λ s. s.now) found.new.items
         ≡ map (λ s. s.now) found.old.items ++ spec.marked (map (λ s. s.now) names.now)) }
 {
@@ -100,22 +100,6 @@ fn push_marked<'a>(found: &mut Vec<&'a str>, names: &[&'a str]) -> Result<(), Al
     }
     found.push("--")?;
     push_words(found, names)
-}
-
-/// Returns the options, each with its value, then the names of files after `--`; no names if the stream is on standard
-/// input.
-pub fn sorted_words<'a>(
-    alloc: Global,
-    known: KnownWords,
-    words: &[&'a str],
-) -> Result<Vec<&'a str>, AllocError>
-    ensures { IfOk result (λ found. map (λ s. s.now) found.items
-        ≡ spec.sorted_words (known_of known) (map (λ s. s.now) words.now)) }
-{
-    let mut sorted = option_words(alloc, known, words)?;
-    let names = name_words(alloc, known, words)?;
-    push_marked(&mut sorted, &names)?;
-    Ok(sorted)
 }
 
 // The value of an option: with it in its word, or the next word.

@@ -5,7 +5,7 @@ ghost use Rattle.std.specs.Prelude.{◌≡◌, ◌^◌, ◌<◌, ◌≤◌, ◌�
 ghost use Rattle.description.specs.Ranges.{IsStream};
 ghost use Rattle.unit_timing.specs.Allowances.{allowance_rows};
 ghost use Rattle.slot_plan.specs.Conditions.{entries_from};
-ghost use Rattle.slot_plan.specs.SwitchConditions.{lead_switch_entry, elementary_switch_entries};
+ghost use Rattle.slot_plan.specs.SwitchConditions.{lead_switch_entry, elementary_switch_entries, if_changed};
 ghost use Rattle.plan_checker.specs.Failing.{after, search_of};
 ghost use Rattle.plan_checker.specs.SwitchShares.{switch_shares, elementary_shares};
 ghost use Rattle.plan_checker.specs.SwitchShares.{deadline_entry, AreSharesInRange};
@@ -19,6 +19,7 @@ use crate::leads::{group_part, packets_in_row};
 use crate::own_counts::own_count;
 use crate::plans::PlanPair;
 use crate::switch::across::shift_of;
+use crate::switch::continued::continues;
 use crate::switch::shares::{PlanShare, SwitchShares, slots_needed};
 use slot_plan::{Condition, Item, StreamDescription};
 use std::alloc::Allocator;
@@ -31,28 +32,48 @@ impl<A: Allocator> ItemCondition<PlanPair<'_, A>> for LeadSwitches {
 
     ghost items = { λ s. s.description.now.streams };
 
-    ghost entries = { λ s i stream.
-        entries_from (lead_switch_entry s.description.now s.first.now s.second.now i stream) 1
-        (allowance_rows stream.allowance) };
+    ghost entries = { λ s i stream. if_changed s.description.now s.first.now s.second.now i
+        (entries_from (lead_switch_entry s.description.now s.first.now s.second.now i stream) 1
+        (allowance_rows stream.allowance)) };
 
     fn count(plans: &PlanPair<'_, A>) -> usize {
         plans.description.streams().len()
     }
 
     fn check_item(plans: &PlanPair<'_, A>, i: usize, search: &mut FailureSearch) {
-        let stream = &plans.description.streams()[i];
-        let rate = plans.description.rate().bits_per_second();
-        let shares = shares_of(plans, i);
-        row_switches(
-            Condition::LeadSwitch,
-            rate,
-            stream.rx as u64,
-            stream,
-            i,
-            shares,
-            search,
-        );
+        lead_switch(plans, i, &plans.description.streams()[i], search);
     }
+}
+
+/// The deadlines of one stream at its transport buffer, if its own slots change.
+fn lead_switch<A: Allocator>(
+    plans: &PlanPair<'_, A>,
+    i: usize,
+    stream: &StreamDescription,
+    search: &mut FailureSearch,
+)
+    requires stream { i < length plans.now.description.now.streams }
+    requires index { i < 32 }
+    requires ranges { IsStream stream.now }
+    ensures { search_of search.new ≡ after (search_of search.old) (if_changed
+        plans.now.description.now plans.now.first.now plans.now.second.now i
+        (entries_from (lead_switch_entry plans.now.description.now plans.now.first.now plans.now.second.now i stream.now)
+        1 (allowance_rows stream.now.allowance))) }
+{
+    if continues(plans, i) {
+        return;
+    }
+    let rate = plans.description.rate().bits_per_second();
+    let shares = shares_of(plans, i);
+    row_switches(
+        Condition::LeadSwitch,
+        rate,
+        stream.rx as u64,
+        stream,
+        i,
+        shares,
+        search,
+    );
 }
 
 /// The deadlines of all streams with a multiplexing buffer, at the elementary stream buffer (ISO/IEC 13818-1, 2.4.2.3).
@@ -63,16 +84,37 @@ impl<A: Allocator> ItemCondition<PlanPair<'_, A>> for ElementarySwitches {
 
     ghost items = { λ s. s.description.now.streams };
 
-    ghost entries = { λ s i stream.
-        elementary_switch_entries s.description.now s.first.now s.second.now i stream stream.multiplexing };
+    ghost entries = { λ s i stream. if_changed s.description.now s.first.now s.second.now i
+        (elementary_switch_entries s.description.now s.first.now s.second.now i stream stream.multiplexing) };
 
     fn count(plans: &PlanPair<'_, A>) -> usize {
         plans.description.streams().len()
     }
 
     fn check_item(plans: &PlanPair<'_, A>, i: usize, search: &mut FailureSearch) {
-        elementary_switch(plans, i, &plans.description.streams()[i], search);
+        changed_elementary(plans, i, &plans.description.streams()[i], search);
     }
+}
+
+/// The deadlines of one stream at its elementary stream buffer, if its own slots change.
+fn changed_elementary<A: Allocator>(
+    plans: &PlanPair<'_, A>,
+    i: usize,
+    stream: &StreamDescription,
+    search: &mut FailureSearch,
+)
+    requires stream { i < length plans.now.description.now.streams }
+    requires index { i < 32 }
+    requires ranges { IsStream stream.now }
+    ensures { search_of search.new ≡ after (search_of search.old) (if_changed
+        plans.now.description.now plans.now.first.now plans.now.second.now i
+        (elementary_switch_entries plans.now.description.now plans.now.first.now plans.now.second.now i stream.now
+        stream.now.multiplexing)) }
+{
+    if continues(plans, i) {
+        return;
+    }
+    elementary_switch(plans, i, stream, search);
 }
 
 /// The deadlines of one stream at its elementary stream buffer, where it has a multiplexing buffer.

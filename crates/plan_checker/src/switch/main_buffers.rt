@@ -4,7 +4,7 @@ ghost use Rattle.std.specs.Prelude.{◌≡◌, ◌^◌, ◌<◌, ◌≤◌, ◌�
 ghost use Rattle.description.specs.Ranges.{IsStream};
 ghost use Rattle.unit_timing.specs.Conditions.{bytes_across};
 ghost use Rattle.slot_plan.specs.Claims.{led_declaration, stream_share};
-ghost use Rattle.slot_plan.specs.SwitchConditions.{main_switch_entry, frame_switch_entries};
+ghost use Rattle.slot_plan.specs.SwitchConditions.{main_switch_entry, frame_switch_entries, if_changed};
 ghost use Rattle.plan_checker.specs.Failing.{after, search_of};
 
 use crate::comparison::at_most;
@@ -12,6 +12,7 @@ use crate::conditions::ItemCondition;
 use crate::failure_search::FailureSearch;
 use crate::main_buffers::sent_within;
 use crate::plans::PlanPair;
+use crate::switch::continued::continues;
 use crate::switch::frames::frame_switches;
 use crate::waiting_units::bytes_led;
 use slot_plan::{Condition, StreamDescription};
@@ -48,17 +49,39 @@ impl<A: Allocator> ItemCondition<PlanPair<'_, A>> for MainSwitches {
 
     ghost items = { λ s. s.description.now.streams };
 
-    ghost entries = { λ s i stream.
-        main_switch_entry s.description.now s.first.now s.second.now i stream
-        ∷ frame_switch_entries s.description.now s.first.now s.second.now i stream stream.framing };
+    ghost entries = { λ s i stream. if_changed s.description.now s.first.now s.second.now i
+        (main_switch_entry s.description.now s.first.now s.second.now i stream
+        ∷ frame_switch_entries s.description.now s.first.now s.second.now i stream stream.framing) };
 
     fn count(plans: &PlanPair<'_, A>) -> usize {
         plans.description.streams().len()
     }
 
     fn check_item(plans: &PlanPair<'_, A>, i: usize, search: &mut FailureSearch) {
-        main_switches(plans, i, &plans.description.streams()[i], search);
+        changed_mains(plans, i, &plans.description.streams()[i], search);
     }
+}
+
+/// The main buffer of one stream, if its own slots change.
+fn changed_mains<A: Allocator>(
+    plans: &PlanPair<'_, A>,
+    i: usize,
+    stream: &StreamDescription,
+    search: &mut FailureSearch,
+)
+    requires stream { i < length plans.now.description.now.streams }
+    requires index { i < 32 }
+    requires ranges { IsStream stream.now }
+    ensures { search_of search.new ≡ after (search_of search.old) (if_changed
+        plans.now.description.now plans.now.first.now plans.now.second.now i
+        (main_switch_entry plans.now.description.now plans.now.first.now plans.now.second.now i stream.now
+        ∷ frame_switch_entries plans.now.description.now plans.now.first.now plans.now.second.now i stream.now
+        stream.now.framing)) }
+{
+    if continues(plans, i) {
+        return;
+    }
+    main_switches(plans, i, stream, search);
 }
 
 /// The main buffer of one stream, for whole units and for their access units one by one.

@@ -35,6 +35,7 @@ const TERMS: Terms = Terms {
     wait: 0,
     ahead: 900_000,
     slots: None,
+    room: None,
 };
 
 /// At 1,504,000 bits a second a slot lasts 90 units. A unit that is due at 10,600 is released with slot 100, and the run

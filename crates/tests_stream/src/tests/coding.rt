@@ -1,6 +1,8 @@
 //! Beginnings of units as encoders write them.
 
-use stream_coding::{AvcSequence, Coding, HevcSequence, MpegSequence, coding_of, is_ac3};
+use stream_coding::{
+    AvcSequence, Coding, HevcSequence, J2kLimits, MpegSequence, coding_of, is_ac3,
+};
 
 // A sequence extension of main profile, main level, after the end of a sequence header, and one with the escape bit.
 const MPEG: &[u8] = &[0x10, 0, 0, 1, 0xb5, 0x14, 0x8a, 0, 1];
@@ -69,6 +71,36 @@ const HIGH_TIER: &[u8] = &[
     0, 0, 0, 1, 0x42, 1, 1, 0x21, 0x60, 0, 0, 3, 0, 0x90, 0, 0, 3, 0, 0, 3, 0, 0x78, 0xa0,
 ];
 
+// The sequence header and the sequence extension of ffmpeg: 720 by 576, 4:2:2 profile at main level, 50 Mbit/s and a
+// buffer of 9,000,000 bits.
+const CHROMA_422: &[u8] = &[
+    0, 0, 1, 0xb3, 0x2d, 2, 0x40, 0x13, 0x7a, 0x12, 0x31, 0x30, 0, 0, 1, 0xb5, 0x18, 0x5c, 0, 1, 0,
+    0,
+];
+
+// The sequence parameter set of x264 in the High 4:2:2 profile, level 3, up to its picture size; and of x265 in the profiles
+// Main 4:2:2 10 and Main Intra, level 2.1.
+const HIGH_422: &[u8] = &[0, 0, 1, 0x67, 0x7a, 0, 0x1e, 0xb6, 0xcd, 0x94, 0x0b];
+
+const MAIN_422_10: &[u8] = &[
+    0, 0, 1, 0x42, 1, 1, 4, 8, 0, 0, 3, 0, 0x9d, 8, 0, 0, 3, 0, 0, 0x3f, 0xb0,
+];
+
+const MAIN_INTRA: &[u8] = &[
+    0, 0, 1, 0x42, 1, 1, 4, 8, 0, 0, 3, 0, 0x9f, 0xa8, 0, 0, 3, 0, 0, 0x3f, 0xa0,
+];
+
+// SMPTE 302M audio of ffmpeg, 8 channels.
+const PCM: &[u8] = &[5, 4, 0x42, 0x53, 0x53, 0x44];
+
+const PCM_UNIT: &[u8] = &[0x70, 0, 0xc0, 0x20, 0, 0, 0, 0x10];
+
+// Worked by hand: a J2K_video_descriptor of 50 Mbit/s and a buffer of 1,250,000 bytes.
+const J2K: &[u8] = &[
+    0x32, 24, 1, 1, 0, 0, 7, 0x80, 0, 0, 4, 0x38, 2, 0xfa, 0xf0, 0x80, 0, 0x13, 0x12, 0xd0, 0, 1,
+    0, 25, 3, 0,
+];
+
 // ADTS headers of 2, 6 and 8 channels, the last after two other bytes.
 const STEREO: &[u8] = &[0xff, 0xf1, 0x50, 0x80, 0x2e];
 
@@ -84,13 +116,13 @@ const REGISTERED: &[u8] = &[5, 4, 0x41, 0x43, 0x2d, 0x33];
 const SUBTITLES: &[u8] = &[0x59, 8, 0x65, 0x6e, 0x67, 0x10, 0, 1, 0, 2];
 
 // The stream_type, the descriptors, the beginning of a unit, and the coding.
-static CODINGS: [(u8, &[u8], &[u8], Coding); 28] = [
+static CODINGS: [(u8, &[u8], &[u8], Coding); 35] = [
     (
         2,
         &[],
         MPEG,
         Coding::Mpeg(MpegSequence {
-            level: 8,
+            profile_and_level: 0x48,
             bit_rate: 0,
             vbv_buffer_size: 0,
         }),
@@ -100,7 +132,7 @@ static CODINGS: [(u8, &[u8], &[u8], Coding); 28] = [
         &[],
         ESCAPED,
         Coding::Mpeg(MpegSequence {
-            level: 0,
+            profile_and_level: 0x88,
             bit_rate: 0,
             vbv_buffer_size: 0,
         }),
@@ -110,7 +142,7 @@ static CODINGS: [(u8, &[u8], &[u8], Coding); 28] = [
         &[],
         AVC,
         Coding::Mpeg(MpegSequence {
-            level: 0,
+            profile_and_level: 0,
             bit_rate: 0,
             vbv_buffer_size: 0,
         }),
@@ -120,7 +152,7 @@ static CODINGS: [(u8, &[u8], &[u8], Coding); 28] = [
         &[],
         HIGH_1440,
         Coding::Mpeg(MpegSequence {
-            level: 6,
+            profile_and_level: 0x46,
             bit_rate: 25_000,
             vbv_buffer_size: 123,
         }),
@@ -130,7 +162,7 @@ static CODINGS: [(u8, &[u8], &[u8], Coding); 28] = [
         &[],
         MAIN_LEVEL,
         Coding::Mpeg(MpegSequence {
-            level: 8,
+            profile_and_level: 0x48,
             bit_rate: 10_000,
             vbv_buffer_size: 49,
         }),
@@ -140,7 +172,7 @@ static CODINGS: [(u8, &[u8], &[u8], Coding); 28] = [
         &[],
         EXTENDED,
         Coding::Mpeg(MpegSequence {
-            level: 4,
+            profile_and_level: 0x44,
             bit_rate: 272_144,
             vbv_buffer_size: 2_097,
         }),
@@ -151,6 +183,7 @@ static CODINGS: [(u8, &[u8], &[u8], Coding); 28] = [
         AVC,
         Coding::Avc(AvcSequence {
             level: 31,
+            cpb_br_nal_factor: 1_500,
             cpb_size: 0,
         }),
     ),
@@ -160,6 +193,7 @@ static CODINGS: [(u8, &[u8], &[u8], Coding); 28] = [
         NAL_HRD,
         Coding::Avc(AvcSequence {
             level: 30,
+            cpb_br_nal_factor: 1_500,
             cpb_size: 1_000_000,
         }),
     ),
@@ -169,6 +203,7 @@ static CODINGS: [(u8, &[u8], &[u8], Coding); 28] = [
         SCALED,
         Coding::Avc(AvcSequence {
             level: 30,
+            cpb_br_nal_factor: 1_500,
             cpb_size: 1_000_000,
         }),
     ),
@@ -178,6 +213,7 @@ static CODINGS: [(u8, &[u8], &[u8], Coding); 28] = [
         SCHEDULES,
         Coding::Avc(AvcSequence {
             level: 30,
+            cpb_br_nal_factor: 1_200,
             cpb_size: 192_000,
         }),
     ),
@@ -187,6 +223,7 @@ static CODINGS: [(u8, &[u8], &[u8], Coding); 28] = [
         NO_HRD,
         Coding::Avc(AvcSequence {
             level: 30,
+            cpb_br_nal_factor: 1_500,
             cpb_size: 0,
         }),
     ),
@@ -197,6 +234,8 @@ static CODINGS: [(u8, &[u8], &[u8], Coding); 28] = [
         Coding::Hevc(HevcSequence {
             level: 120,
             high_tier: false,
+            cpb_nal_factor: 1_100,
+            br_nal_factor: 1_100,
         }),
     ),
     (
@@ -206,6 +245,8 @@ static CODINGS: [(u8, &[u8], &[u8], Coding); 28] = [
         Coding::Hevc(HevcSequence {
             level: 120,
             high_tier: true,
+            cpb_nal_factor: 1_100,
+            br_nal_factor: 1_100,
         }),
     ),
     (
@@ -215,6 +256,69 @@ static CODINGS: [(u8, &[u8], &[u8], Coding); 28] = [
         Coding::Hevc(HevcSequence {
             level: 0,
             high_tier: false,
+            cpb_nal_factor: 1_100,
+            br_nal_factor: 1_100,
+        }),
+    ),
+    (
+        2,
+        &[],
+        CHROMA_422,
+        Coding::Mpeg(MpegSequence {
+            profile_and_level: 0x85,
+            bit_rate: 125_000,
+            vbv_buffer_size: 550,
+        }),
+    ),
+    (
+        0x1b,
+        &[],
+        HIGH_422,
+        Coding::Avc(AvcSequence {
+            level: 30,
+            cpb_br_nal_factor: 4_800,
+            cpb_size: 0,
+        }),
+    ),
+    (
+        0x24,
+        &[],
+        MAIN_422_10,
+        Coding::Hevc(HevcSequence {
+            level: 63,
+            high_tier: false,
+            cpb_nal_factor: 1_833,
+            br_nal_factor: 1_833,
+        }),
+    ),
+    (
+        0x24,
+        &[],
+        MAIN_INTRA,
+        Coding::Hevc(HevcSequence {
+            level: 63,
+            high_tier: false,
+            cpb_nal_factor: 1_100,
+            br_nal_factor: 1_100,
+        }),
+    ),
+    (6, PCM, PCM_UNIT, Coding::Pcm(4)),
+    (
+        0x21,
+        J2K,
+        &[],
+        Coding::Jpeg2000(J2kLimits {
+            max_bit_rate: 50_000_000,
+            max_buffer_size: 1_250_000,
+        }),
+    ),
+    (
+        0x21,
+        &[],
+        &[],
+        Coding::Jpeg2000(J2kLimits {
+            max_bit_rate: 0,
+            max_buffer_size: 0,
         }),
     ),
     (0x0f, &[], STEREO, Coding::Aac(2)),

@@ -28,6 +28,7 @@ fn pes(pid: u16, packet: u64, stamps: Stamps, body: &'static [u8]) -> Finding<'s
         stamps,
         flags: PesFlags::NONE,
         data_length: 5,
+        private_data: None,
     };
     Finding {
         packet: packet.saturating_add(1),

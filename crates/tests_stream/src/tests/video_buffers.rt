@@ -1,16 +1,16 @@
 //! Buffers of codings, as the tables of the standards give them.
 
 use stream_coding::{
-    AvcSequence, Buffers, Coding, HevcSequence, MpegSequence, buffers_of, joined_buffers_of,
-    multiplexing_of,
+    AvcSequence, Buffers, Coding, HevcSequence, J2kLimits, MpegSequence, buffers_of,
+    joined_buffers_of, multiplexing_of,
 };
 use unit_timing::multiplexing_buffer::MultiplexingBuffer;
 
 // Rx, the main buffer, Rbx and MBS of video, as the tables of the standards give them.
-static VIDEO: [(Coding, u32, u32, u32, u32); 12] = [
+static VIDEO: [(Coding, u32, u32, u32, u32); 15] = [
     (
         Coding::Mpeg(MpegSequence {
-            level: 8,
+            profile_and_level: 0x48,
             bit_rate: 0,
             vbv_buffer_size: 0,
         }),
@@ -21,7 +21,7 @@ static VIDEO: [(Coding, u32, u32, u32, u32); 12] = [
     ),
     (
         Coding::Mpeg(MpegSequence {
-            level: 0,
+            profile_and_level: 0,
             bit_rate: 0,
             vbv_buffer_size: 0,
         }),
@@ -32,7 +32,7 @@ static VIDEO: [(Coding, u32, u32, u32, u32); 12] = [
     ),
     (
         Coding::Mpeg(MpegSequence {
-            level: 8,
+            profile_and_level: 0x48,
             bit_rate: 10_000,
             vbv_buffer_size: 49,
         }),
@@ -43,7 +43,7 @@ static VIDEO: [(Coding, u32, u32, u32, u32); 12] = [
     ),
     (
         Coding::Mpeg(MpegSequence {
-            level: 8,
+            profile_and_level: 0x48,
             bit_rate: 10_000,
             vbv_buffer_size: 200,
         }),
@@ -54,7 +54,7 @@ static VIDEO: [(Coding, u32, u32, u32, u32); 12] = [
     ),
     (
         Coding::Mpeg(MpegSequence {
-            level: 6,
+            profile_and_level: 0x46,
             bit_rate: 25_000,
             vbv_buffer_size: 123,
         }),
@@ -65,7 +65,7 @@ static VIDEO: [(Coding, u32, u32, u32, u32); 12] = [
     ),
     (
         Coding::Mpeg(MpegSequence {
-            level: 4,
+            profile_and_level: 0x44,
             bit_rate: 0,
             vbv_buffer_size: 1_024,
         }),
@@ -77,6 +77,7 @@ static VIDEO: [(Coding, u32, u32, u32, u32); 12] = [
     (
         Coding::Avc(AvcSequence {
             level: 40,
+            cpb_br_nal_factor: 1_200,
             cpb_size: 0,
         }),
         24_000_000,
@@ -87,6 +88,7 @@ static VIDEO: [(Coding, u32, u32, u32, u32); 12] = [
     (
         Coding::Avc(AvcSequence {
             level: 30,
+            cpb_br_nal_factor: 1_200,
             cpb_size: 1_000_000,
         }),
         12_000_000,
@@ -97,6 +99,7 @@ static VIDEO: [(Coding, u32, u32, u32, u32); 12] = [
     (
         Coding::Avc(AvcSequence {
             level: 10,
+            cpb_br_nal_factor: 1_200,
             cpb_size: 0,
         }),
         2_000_000,
@@ -107,6 +110,7 @@ static VIDEO: [(Coding, u32, u32, u32, u32); 12] = [
     (
         Coding::Avc(AvcSequence {
             level: 51,
+            cpb_br_nal_factor: 1_200,
             cpb_size: 0,
         }),
         200_000_000,
@@ -118,6 +122,8 @@ static VIDEO: [(Coding, u32, u32, u32, u32); 12] = [
         Coding::Hevc(HevcSequence {
             level: 120,
             high_tier: false,
+            cpb_nal_factor: 1_100,
+            br_nal_factor: 1_100,
         }),
         13_200_000,
         1_650_000,
@@ -128,11 +134,47 @@ static VIDEO: [(Coding, u32, u32, u32, u32); 12] = [
         Coding::Hevc(HevcSequence {
             level: 120,
             high_tier: true,
+            cpb_nal_factor: 1_100,
+            br_nal_factor: 1_100,
         }),
         33_000_000,
         4_125_000,
         33_000_000,
         22_000,
+    ),
+    (
+        Coding::Mpeg(MpegSequence {
+            profile_and_level: 0x85,
+            bit_rate: 125_000,
+            vbv_buffer_size: 550,
+        }),
+        60_000_000,
+        1_126_400,
+        50_000_000,
+        86_581,
+    ),
+    (
+        Coding::Avc(AvcSequence {
+            level: 40,
+            cpb_br_nal_factor: 1_500,
+            cpb_size: 0,
+        }),
+        30_000_000,
+        4_687_500,
+        30_000_000,
+        20_000,
+    ),
+    (
+        Coding::Hevc(HevcSequence {
+            level: 120,
+            high_tier: false,
+            cpb_nal_factor: 1_833,
+            br_nal_factor: 1_833,
+        }),
+        21_996_000,
+        2_749_500,
+        21_996_000,
+        14_664,
     ),
 ];
 
@@ -140,7 +182,7 @@ static VIDEO: [(Coding, u32, u32, u32, u32); 12] = [
 static JOINED: [(Coding, u32); 4] = [
     (
         Coding::Mpeg(MpegSequence {
-            level: 8,
+            profile_and_level: 0x48,
             bit_rate: 10_000,
             vbv_buffer_size: 49,
         }),
@@ -148,7 +190,7 @@ static JOINED: [(Coding, u32); 4] = [
     ),
     (
         Coding::Mpeg(MpegSequence {
-            level: 6,
+            profile_and_level: 0x46,
             bit_rate: 25_000,
             vbv_buffer_size: 123,
         }),
@@ -157,6 +199,7 @@ static JOINED: [(Coding, u32); 4] = [
     (
         Coding::Avc(AvcSequence {
             level: 30,
+            cpb_br_nal_factor: 1_200,
             cpb_size: 1_000_000,
         }),
         1_508_000,
@@ -165,10 +208,19 @@ static JOINED: [(Coding, u32); 4] = [
 ];
 
 // Other streams: rx and main.
-static OTHERS: [(Coding, u32, u32); 3] = [
+static OTHERS: [(Coding, u32, u32); 5] = [
     (Coding::Aac(2), 2_000_000, 3_584),
     (Coding::Aac(6), 5_529_600, 8_976),
     (Coding::Ac3, 2_000_000, 5_696),
+    (Coding::Pcm(1), 3_225_600, 65_536),
+    (
+        Coding::Jpeg2000(J2kLimits {
+            max_bit_rate: 50_000_000,
+            max_buffer_size: 1_250_000,
+        }),
+        60_000_000,
+        1_250_000,
+    ),
 ];
 
 fn are_others() -> bool {

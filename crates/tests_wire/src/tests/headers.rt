@@ -10,8 +10,9 @@ use pes_packet::{
 const BASE: u64 = 8_589_934_500;
 
 /// stream_id, size, marks, PTS and DTS of units, and their headers: a DTS is written where the stamps differ on the wire.
-/// The fourth is that of a PES packet of teletext (EN 300 472, 4.2), the fifth that of an aligned original of subtitles.
-static WRITTEN: [(u8, usize, Marks, u64, u64, &[u8]); 5] = [
+/// The fourth is that of a PES packet of teletext (EN 300 472, 4.2), the fifth that of an aligned original of subtitles, the
+/// sixth that of a frame of audio description (TS 101 154, annex E).
+static WRITTEN: [(u8, usize, Marks, u64, u64, &[u8]); 6] = [
     (192, 3, Marks::NONE, 90_000, 90_000, PTS_HEADER),
     (
         192,
@@ -38,13 +39,36 @@ static WRITTEN: [(u8, usize, Marks, u64, u64, &[u8]); 5] = [
         90_000,
         b"\x00\x00\x01\xbd\x00\x0b\x85\x80\x05\x21\x00\x05\xbf\x21",
     ),
+    (192, 3, DESCRIBED, 90_000, 90_000, DESCRIBED_HEADER),
 ];
+
+/// An AD_descriptor: its length 8, AD_text_tag DTGAD, version 1, a fade of 16 and a pan of 32.
+const AD_DESCRIPTOR: [u8; 16] = [
+    0xf8, 0x44, 0x54, 0x47, 0x41, 0x44, 0x31, 0x10, 0x20, 0xff, 0xff, 0xff, 0xff, 0xff, 0xff, 0xff,
+];
+
+/// The marks of a frame of audio description.
+const DESCRIBED: Marks = Marks {
+    random_access: false,
+    flags: PesFlags::NONE,
+    long: false,
+    private_data: Some(AD_DESCRIPTOR),
+};
+
+/// PTS_DTS_flags 10 and PES_extension_flag, 22 bytes of header data: the PTS, the flags of the extension, PES_private_data.
+const DESCRIBED_HEADER: &[u8] =
+    b"\x00\x00\x01\xc0\x00\x1c\x80\x81\x16\x21\x00\x05\xbf\x21\x8e\xf8DTGAD1\x10\x20\xff\xff\xff\xff\xff\xff\xff";
+
+/// The same after an ESCR of six bytes, without a PES_packet_length.
+const CLOCKED_HEADER: &[u8] =
+    b"\x00\x00\x01\xc0\x00\x00\x80\xa1\x1c\x21\x00\x05\xbf\x21\x01\x02\x03\x04\x05\x06\x8e\xf8DTGAD1\x10\x20\xff\xff\xff\xff\xff\xff\xff";
 
 /// The marks of teletext and VBI data: aligned, with a header of 45 bytes.
 const TELETEXT: Marks = Marks {
     random_access: false,
     flags: ALIGNED_ALONE,
     long: true,
+    private_data: None,
 };
 
 /// The flags of teletext and VBI data.
@@ -65,6 +89,7 @@ const ALIGNED: Marks = Marks {
         original: true,
     },
     long: false,
+    private_data: None,
 };
 
 /// A PTS of 90,000 and 31 stuffing bytes: with 139 bytes of data the PES packet has 184, and 178 after its length.
@@ -83,7 +108,7 @@ fn headers_are_written(rt: HostRuntime) {
 }
 
 /// Headers, their fields, and their sizes.
-static READ: [(&[u8], PesHeader, usize); 4] = [
+static READ: [(&[u8], PesHeader, usize); 6] = [
     (
         TELETEXT_HEADER,
         PesHeader {
@@ -92,8 +117,33 @@ static READ: [(&[u8], PesHeader, usize); 4] = [
             stamps: Stamps::Pts(90_000),
             flags: ALIGNED_ALONE,
             data_length: 36,
+            private_data: None,
         },
         45,
+    ),
+    (
+        DESCRIBED_HEADER,
+        PesHeader {
+            id: 192,
+            len: 28,
+            stamps: Stamps::Pts(90_000),
+            flags: PesFlags::NONE,
+            data_length: 22,
+            private_data: Some(AD_DESCRIPTOR),
+        },
+        31,
+    ),
+    (
+        CLOCKED_HEADER,
+        PesHeader {
+            id: 192,
+            len: 0,
+            stamps: Stamps::Pts(90_000),
+            flags: PesFlags::NONE,
+            data_length: 28,
+            private_data: Some(AD_DESCRIPTOR),
+        },
+        37,
     ),
     (
         PTS_HEADER,
@@ -103,6 +153,7 @@ static READ: [(&[u8], PesHeader, usize); 4] = [
             stamps: Stamps::Pts(90_000),
             flags: PesFlags::NONE,
             data_length: 5,
+            private_data: None,
         },
         14,
     ),
@@ -117,6 +168,7 @@ static READ: [(&[u8], PesHeader, usize); 4] = [
             },
             flags: PesFlags::NONE,
             data_length: 10,
+            private_data: None,
         },
         19,
     ),
@@ -128,6 +180,7 @@ static READ: [(&[u8], PesHeader, usize); 4] = [
             stamps: Stamps::Absent,
             flags: PesFlags::NONE,
             data_length: 0,
+            private_data: None,
         },
         6,
     ),

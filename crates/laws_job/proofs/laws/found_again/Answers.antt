@@ -4,6 +4,7 @@ use Rattle.es_units.specs.CarriedUnits.{wire_units}
 use Rattle.es_units.proofs.KeptDeclarations.{units_kept}
 use Rattle.laws_job.specs.Laws.{schedule_for}
 use Rattle.laws_job.proofs.AcceptedUnits.{all_kept}
+use Rattle.laws_job.proofs.PrivateData.{units_sixteen}
 use Rattle.laws_job.proofs.FoundUnits.{again, same_stamps}
 use Rattle.laws_job.proofs.laws.found_again.Goals as goal
 
@@ -12,12 +13,14 @@ returns-clause-moved c = λ d p findings units n k s base ranges serving are few
     let line = schedule_for d p in
     let kept = (all_kept units_kept false line findings units ranges are).kept k s is in
     let back = (c.carried.ensures d p findings units n ranges serving are few).given_back in
-    again base line (wire_units s.pid findings) units n k s (output_of false line (job_history units n)) (c.accepted_plan.ensures d p ranges serving) is kept moved due back
+    let sixteen = units_sixteen false findings d units are k s is in
+    again base line (wire_units s.pid findings) units n k s (output_of false line (job_history units n)) (c.accepted_plan.ensures d p ranges serving) is kept sixteen moved due back
 
 pub returns-clause-same : goal.returns-clause-same
 returns-clause-same c = λ d p findings units n k s ranges serving are few is moved due stamps.
     let line = schedule_for d p in
     let kept = (all_kept units_kept false line findings units ranges are).kept k s is in
     let back = (c.carried.ensures d p findings units n ranges serving are few).given_back in
-    again d.base0 line (wire_units s.pid findings) units n k s (output_of false line (job_history units n)) (c.accepted_plan.ensures d p ranges serving) is kept moved due back
+    let sixteen = units_sixteen false findings d units are k s is in
+    again d.base0 line (wire_units s.pid findings) units n k s (output_of false line (job_history units n)) (c.accepted_plan.ensures d p ranges serving) is kept sixteen moved due back
     ∙ same_stamps d.base0 (wire_units s.pid findings) stamps

@@ -1,8 +1,9 @@
-use Rattle.std.proofs.Common.{Ok, Err, refl, ◌∙◌}
+use Rattle.std.proofs.Common.{ℕ, Ok, Err, refl, subst, ◌∙◌}
+use Rattle.counted_io.specs.Device.{Failed}
 use Rattle.devices.specs.Devices.{Device, Port, between}
 use Rattle.on_air.specs.declared.answers.Heard.TheVariants.{Ended}
 use Rattle.on_air.proofs.HeardRecords.{names_same}
-use Rattle.tsair_cli.proofs.HeardRecords.{ends, fails, first, next, stops}
+use Rattle.tsair_cli.proofs.HeardRecords.{ends, fails, first, follow_fails, next, stops}
 use Rattle.tsair_cli.proofs.hearing.hear_all.Goals as goal
 
 pub records-init : goal.records-init
@@ -19,16 +20,17 @@ records-preserved-else-stop g c =
     let clean = rw c.in-Ok-Refused.field-0-is at c.in-Ok-Refused.ensures.fault in
     record {
       reads = clean.0 ∙ c.records.invariant.reads;
-      writes = clean.1 ∙ c.records.invariant.writes;
+      writes = c.in-Ok.ensures.clean ∙ clean.1 ∙ c.records.invariant.writes;
       known = λ run start h.
           let m = c.records.invariant.known run start h in
           next run (g.R.Read.remaining c.args.input.now) (g.R.Read.remaining c.records.input) (g.R.Read.remaining c.hear_on.new.input) start
-          (g.W.Write.contents c.records.output) (g.W.Write.contents c.hear_on.new.to)
+          (g.W.Write.contents c.records.output) (g.W.Write.contents c.hear_on.new.to) (g.W.Write.contents c.follow.new.to)
           (record { bytes = g.E.Write.contents c.args.faults.now; failed = g.E.Sink.fault_count c.args.faults.now })
           (record { bytes = g.E.Write.contents c.records.faults; failed = g.E.Sink.fault_count c.records.faults })
           (record { bytes = g.E.Write.contents c.report_refused.new.faults; failed = g.E.Sink.fault_count c.report_refused.new.faults })
-          c.records.has_refused c.records.on_air c.hear_on.new.self c.in-Ok-Refused.index c.in-Ok-Refused.cause m
+          c.records.has_refused c.records.on_air c.hear_on.new.self c.follow.new.self c.in-Ok-Refused.index c.in-Ok-Refused.cause m
           (rw c.in-Ok-Refused.field-0-is at (c.in-Ok-Refused.ensures.heard run m.airs.heard_is.count m.airs.came (g.R.Read.remaining c.args.input.now) start m.state m.airs.heard_is.heard_is))
+          (λ a on. c.in-Ok.ensures.ok run a start on)
           c.report_refused.ensures;
     }
 
@@ -39,17 +41,37 @@ returns-then-stop g c = λ run start h.
     let input : Device = between (record { bytes = g.R.Read.remaining c.args.input.now; failed = g.R.Source.fault_count c.args.input.now })
     (record { bytes = g.R.Read.remaining c.hear_on.new.input; failed = g.R.Source.fault_count c.hear_on.new.input }) in
     let output : Device = between (record { bytes = g.W.Write.contents c.args.output.now; failed = g.W.Sink.fault_count c.args.output.now })
-    (record { bytes = g.W.Write.contents c.hear_on.new.to; failed = g.W.Sink.fault_count c.hear_on.new.to }) in
+    (record { bytes = g.W.Write.contents c.follow.new.to; failed = g.W.Sink.fault_count c.follow.new.to }) in
     let before : Port = record { bytes = g.E.Write.contents c.args.faults.now; failed = g.E.Sink.fault_count c.args.faults.now } in
     let after : Port = record { bytes = g.E.Write.contents c.report_refused.new.faults; failed = g.E.Sink.fault_count c.report_refused.new.faults } in
-    stops run c.args.stop start input output (between before after) c.hear_on.new.self c.if-stop.true
+    stops run c.args.stop start input output (between before after) c.follow.new.self c.if-stop.true
     (next run (g.R.Read.remaining c.args.input.now) (g.R.Read.remaining c.records.input) (g.R.Read.remaining c.hear_on.new.input) start
-    (g.W.Write.contents c.records.output) (g.W.Write.contents c.hear_on.new.to) before
+    (g.W.Write.contents c.records.output) (g.W.Write.contents c.hear_on.new.to) (g.W.Write.contents c.follow.new.to) before
     (record { bytes = g.E.Write.contents c.records.faults; failed = g.E.Sink.fault_count c.records.faults }) after
-    c.records.has_refused c.records.on_air c.hear_on.new.self c.in-Ok-Refused.index c.in-Ok-Refused.cause m
+    c.records.has_refused c.records.on_air c.hear_on.new.self c.follow.new.self c.in-Ok-Refused.index c.in-Ok-Refused.cause m
     (rw c.in-Ok-Refused.field-0-is at (c.in-Ok-Refused.ensures.heard run m.airs.heard_is.count m.airs.came (g.R.Read.remaining c.args.input.now) start m.state m.airs.heard_is.heard_is))
+    (λ a on. c.in-Ok.ensures.ok run a start on)
     c.report_refused.ensures)
-    (clean.0 ∙ c.records.invariant.reads) (clean.1 ∙ c.records.invariant.writes)
+    (clean.0 ∙ c.records.invariant.reads) (c.in-Ok.ensures.clean ∙ clean.1 ∙ c.records.invariant.writes)
+
+pub returns-in-Err-follow : goal.returns-in-Err-follow
+returns-in-Err-follow g c = λ run start h.
+    let clean = rw c.in-Ok-Refused.field-0-is at c.in-Ok-Refused.ensures.fault in
+    let m = c.records.invariant.known run start h in
+    let input : Device = between (record { bytes = g.R.Read.remaining c.args.input.now; failed = g.R.Source.fault_count c.args.input.now })
+    (record { bytes = g.R.Read.remaining c.hear_on.new.input; failed = g.R.Source.fault_count c.hear_on.new.input }) in
+    let output : Device = between (record { bytes = g.W.Write.contents c.args.output.now; failed = g.W.Sink.fault_count c.args.output.now })
+    (record { bytes = g.W.Write.contents c.follow.new.to; failed = g.W.Sink.fault_count c.follow.new.to }) in
+    let before : Port = record { bytes = g.E.Write.contents c.args.faults.now; failed = g.E.Sink.fault_count c.args.faults.now } in
+    let after : Port = record { bytes = g.E.Write.contents c.report_refused.new.faults; failed = g.E.Sink.fault_count c.report_refused.new.faults } in
+    follow_fails run (g.R.Read.remaining c.records.input) start (g.W.Write.contents c.records.output) (g.W.Write.contents c.hear_on.new.to) input output before
+    (record { bytes = g.E.Write.contents c.records.faults; failed = g.E.Sink.fault_count c.records.faults }) after
+    c.records.has_refused c.records.on_air c.hear_on.new.self c.in-Ok-Refused.index c.in-Ok-Refused.cause c.in-Err-follow.fault.sent m
+    (rw c.in-Ok-Refused.field-0-is at (c.in-Ok-Refused.ensures.heard run m.airs.heard_is.count m.airs.came (g.R.Read.remaining c.args.input.now) start m.state m.airs.heard_is.heard_is))
+    (λ a on. c.in-Err-follow.ensures.err run a start on)
+    c.report_refused.ensures
+    (clean.0 ∙ c.records.invariant.reads)
+    (subst (λ (n : ℕ). Failed n (g.W.Sink.fault_count c.follow.new.to)) (clean.1 ∙ c.records.invariant.writes) c.in-Err-follow.ensures.fault)
 
 pub returns-in-Ok-Ended : goal.returns-in-Ok-Ended
 returns-in-Ok-Ended g c = λ run start h.

@@ -1,4 +1,3 @@
-use Rattle.tstd_rows.specs.HeldVideo.{VideoSizes}
 use Rattle.tstd_rows.specs.History.Part.{Carries}
 use Rattle.tstd_rows.proofs.VideoIfAny.{none_found, none_taken, some_found, some_taken}
 use Rattle.std.proofs.Common.{◌∷◌}

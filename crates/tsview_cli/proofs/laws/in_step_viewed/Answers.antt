@@ -1,11 +1,10 @@
-use Rattle.std.proofs.Common.{◌≡◌, ◌∙◌, List, ap, map}
-use Rattle.capture.specs.Captures.{IsPacket, Part}
+use Rattle.std.proofs.Common.{◌∙◌, ap}
 use Rattle.capture.specs.Laws.{IsReadAsItIs}
 use Rattle.capture.proofs.SyncParts.{in_step_is}
 use Rattle.ts_packet.specs.PidList.{cut_packets}
 use Rattle.analysis.specs.Analysis.{start}
-use Rattle.tsview_cli.specs.CapturedStreams.{after_parts, events_of, has_slips}
-use Rattle.tsview_cli.proofs.CapturedParts.{after_packets, events_of_packets, no_slips}
+use Rattle.tsview_cli.specs.CapturedStreams.{after_parts, events_of}
+use Rattle.tsview_cli.proofs.CapturedParts.{after_packets, events_of_packets}
 use Rattle.tsview_cli.proofs.laws.in_step_viewed.Goals as goal
 
 pub returns : goal.returns
@@ -15,5 +14,4 @@ returns c = λ request bytes step.
       kept = ap (after_parts (start request)) r.parts ∙ after_packets (start request) (cut_packets bytes);
       events = ap (events_of (start request)) r.parts ∙ events_of_packets (start request) (cut_packets bytes);
       left = r.rest;
-      no_slip = ap (λ (parts : List Part). has_slips parts) r.parts ∙ no_slips (cut_packets bytes);
     }

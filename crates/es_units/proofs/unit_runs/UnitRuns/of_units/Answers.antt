@@ -1,7 +1,8 @@
-use Rattle.std.proofs.Common.{refl}
-use Rattle.es_units.specs.UnitRuns.{unit_runs}
+use Rattle.std.proofs.Common.{◌∙◌, ap}
+use Rattle.es_units.specs.CountedUnits.{weighed_runs}
+use Rattle.es_units.proofs.UnitWeights.{runs_are}
 use Rattle.es_units.proofs.unit_runs.UnitRuns.of_units.Goals as goal
 
 pub returns : goal.returns
-unfolding unit_runs
-returns g c = λ id. rw (c.in_ok-runs.ensures.steps id, c.max_unit_packets-largest.ensures, c.max_unit_size.ensures.value) refl
+returns g c = λ id.
+    c.in_ok-runs.ensures ∙ ap weighed_runs (c.deref.ensures.value ∙ c.in_ok-weights.ensures.weights id) ∙ runs_are id c.args.base0 c.args.units.now

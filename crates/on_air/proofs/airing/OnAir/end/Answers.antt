@@ -2,7 +2,7 @@ use Rattle.std.proofs.Common.{sym, ap, ◌∙◌, subst}
 use Rattle.mux_core.specs.MuxStates.{MuxState}
 use Rattle.on_air.specs.Airing.{job_of, ended}
 use Rattle.on_air.specs.AirStates.{AirState, Carries}
-use Rattle.on_air.proofs.Aired.{last_same, end_output, ended_on, end_fails}
+use Rattle.on_air.proofs.Aired.{count_fails, counted_on, counted_same, end_output, fails_same, last_same}
 use Rattle.on_air.proofs.airing.OnAir.end.Goals as goal
 
 pub returns-in-Ok-clause-ok : goal.returns-in-Ok-clause-ok
@@ -14,10 +14,11 @@ returns-in-Ok-clause-ok g c = λ run a start h.
     let greatest = ap (λ (x : AirState). x.greatest) c.self.view_is in
     let is = c.last_slot-target.ensures.value ∙ last_same run a start _ c.args.self.now c.self.inside.rate c.self.inside.greatest c.self.inside.terms h rate terms greatest in
     c.flush.ensures.ok run (ended run a) start
-    (ended_on run a c.last_slot-target.result c.self.inside.packets.hex start _ _ c.args.self.now _ h
+    (counted_same run a _ _ start _ _ is
+    (counted_on run a c.last_slot-target.result c.self.inside.packets.hex start _ _ c.args.self.now _ h
     (record { terms = terms; rate = rate; lead = ap (λ (x : AirState). x.lead) c.self.view_is })
-    (ap (λ (x : AirState). x.packets.hex) c.self.view_is) greatest (ap (λ (x : AirState). x.leap) c.self.view_is) (ap (λ (x : AirState). x.records) c.self.view_is) is
-    (c.in-Ok.ensures.ok run (job_of a) start carries (end_output run a start _ c.args.self.now c.self.inside.packets h packets)))
+    (ap (λ (x : AirState). x.packets.hex) c.self.view_is) greatest (ap (λ (x : AirState). x.leap) c.self.view_is) (ap (λ (x : AirState). x.records) c.self.view_is)
+    (c.in-Ok.ensures.ok run (job_of a) start carries (end_output run a start _ c.args.self.now c.self.inside.packets h packets))))
 
 pub returns-in-Ok-clause-err : goal.returns-in-Ok-clause-err
 returns-in-Ok-clause-err g c = λ run a start h.
@@ -28,10 +29,11 @@ returns-in-Ok-clause-err g c = λ run a start h.
     let greatest = ap (λ (x : AirState). x.greatest) c.self.view_is in
     let is = c.last_slot-target.ensures.value ∙ last_same run a start _ c.args.self.now c.self.inside.rate c.self.inside.greatest c.self.inside.terms h rate terms greatest in
     c.flush.ensures.err run (ended run a) start
-    (ended_on run a c.last_slot-target.result c.self.inside.packets.hex start _ _ c.args.self.now _ h
+    (counted_same run a _ _ start _ _ is
+    (counted_on run a c.last_slot-target.result c.self.inside.packets.hex start _ _ c.args.self.now _ h
     (record { terms = terms; rate = rate; lead = ap (λ (x : AirState). x.lead) c.self.view_is })
-    (ap (λ (x : AirState). x.packets.hex) c.self.view_is) greatest (ap (λ (x : AirState). x.leap) c.self.view_is) (ap (λ (x : AirState). x.records) c.self.view_is) is
-    (c.in-Ok.ensures.ok run (job_of a) start carries (end_output run a start _ c.args.self.now c.self.inside.packets h packets)))
+    (ap (λ (x : AirState). x.packets.hex) c.self.view_is) greatest (ap (λ (x : AirState). x.leap) c.self.view_is) (ap (λ (x : AirState). x.records) c.self.view_is)
+    (c.in-Ok.ensures.ok run (job_of a) start carries (end_output run a start _ c.args.self.now c.self.inside.packets h packets))))
 
 pub returns-in-Err-clause-err : goal.returns-in-Err-clause-err
 returns-in-Err-clause-err g c = λ run a start h.
@@ -41,5 +43,6 @@ returns-in-Err-clause-err g c = λ run a start h.
     let rate = ap (λ (x : AirState). x.rate) c.self.view_is in
     let greatest = ap (λ (x : AirState). x.greatest) c.self.view_is in
     let is = c.last_slot-target.ensures.value ∙ last_same run a start _ c.args.self.now c.self.inside.rate c.self.inside.greatest c.self.inside.terms h rate terms greatest in
-    end_fails run a c.last_slot-target.result c.in-Err.fault.sent c.self.inside.packets.hex start _ _ c.args.self.now h (ap (λ (x : AirState). x.packets.hex) c.self.view_is) is
-    (c.in-Err.ensures.err run (job_of a) start carries (end_output run a start _ c.args.self.now c.self.inside.packets h packets))
+    fails_same run a _ _ c.in-Err.fault.sent start _ is
+    (count_fails run a c.last_slot-target.result c.in-Err.fault.sent c.self.inside.packets.hex start _ _ c.args.self.now h (ap (λ (x : AirState). x.packets.hex) c.self.view_is)
+    (c.in-Err.ensures.err run (job_of a) start carries (end_output run a start _ c.args.self.now c.self.inside.packets h packets)))

@@ -6,7 +6,7 @@ use Rattle.plan_checker.specs.Served.{Served}
 use Rattle.mux_core.specs.Histories.{empty_history}
 use Rattle.mux_core.specs.NewMux.{is_capacity, is_periods}
 use Rattle.mux_core.specs.WholeJobs.{switch_schedule}
-use Rattle.on_air.specs.Airing.{greatest_lead, room_of}
+use Rattle.on_air.specs.Airing.{greatest_lead, room_by, room_of}
 use Rattle.on_air.specs.AirStates.{Carries, Promises, switch_run}
 use Rattle.on_air.proofs.FirstStates.{switch_begun}
 use Rattle.on_air.proofs.airing.OnAir.with_switch.Goals as goal
@@ -18,7 +18,7 @@ returns-in-Ok-clause-refused g c =
 pub returns-in-Ok-clause-begun : goal.returns-in-Ok-clause-begun
 returns-in-Ok-clause-begun g c = λ start.
     let same = c.description.ensures.description ∙ ap (λ (p : Served). p.description) c.first.ensures.first in
-    let room = c.numbers_of-of.ensures.room ∙ ap (λ (d : Described). room_of (greatest_lead d.streams + c.args.terms.wait) d.streams) same in
+    let room = c.numbers_of-of.ensures.room ∙ ap (λ (d : Described). room_by c.args.terms.room (room_of (greatest_lead d.streams + c.args.terms.wait) d.streams)) same in
     let carries : Carries (switch_run c.args.switch c.args.periods c.args.terms c.args.hex) empty_history c.in-Ok.mux =
     record { stands = c.in-Ok.ensures.stands; scheduled = c.in-Ok.ensures.schedule; capacity = c.in-Ok.ensures.capacity ∙ room } in
     let again = c.description-2.ensures.description ∙ ap (λ (p : Served). p.description) c.first-2.ensures.first in

@@ -15,7 +15,7 @@ returns-clause-held c = λ h k.
     let times : times_of c.row-row.result ≡ times_at c.args.arrival.now h.rx c.args.byte c.args.count =
     c.row-row.ensures.times ∙ ap (λ (r : ℕ). times_at c.args.arrival.now r c.args.byte c.args.count) (c.from.ensures ∙ k.rx) in
     carried_held old _ h (times_of c.row-row.result) (times_at c.args.arrival.now h.rx c.args.byte c.args.count)
-    c.carry-carried.result.found.main c.carry-carried.new.self.transport.last k times refl seen.view seen.buffer seen.size old.view.paced.some seen.main refl c.see.ensures.size c.see.ensures.under_way
+    c.carry-carried.result.found.main c.carry-carried.new.self.transport.last k times refl seen.view seen.buffer seen.size old.view.paced.some seen.main refl c.see.ensures.size c.see.ensures.under_way refl
 
 pub returns-clause-main : goal.returns-clause-main
 returns-clause-main c = λ h k.

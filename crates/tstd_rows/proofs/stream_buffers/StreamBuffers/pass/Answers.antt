@@ -1,11 +1,18 @@
-use Rattle.std.proofs.Common.{◌≡◌, ◌∙◌, ℕ, ◌^◌, ap, arith}
+use Rattle.std.proofs.Common.{◌≡◌, ◌∙◌, ℕ, ◌^◌, refl, ap, arith}
 use Rattle.arrival.specs.Arrivals.{times_at}
 use Rattle.arrival.specs.Rows.{times_of}
 use Rattle.tstd_rows.proofs.Views.{bytes_more}
-use Rattle.tstd_rows.proofs.Rows.{transport_most_found}
+use Rattle.tstd_rows.proofs.Rows.{passed_held, transport_most_found}
 use Rattle.tstd_rows.specs.declared.transport_buffer.TransportBuffer.{TransportBuffer}
 use Rattle.tstd_rows.proofs.VideoRows.{video_passed}
 use Rattle.tstd_rows.proofs.stream_buffers.StreamBuffers.pass.Goals as goal
+
+pub returns-clause-held : goal.returns-clause-held
+returns-clause-held c = λ h k.
+    let times : times_of c.row-row.result ≡ times_at c.args.arrival.now h.rx c.args.byte c.args.count =
+    c.row-row.ensures.times ∙ ap (λ (r : ℕ). times_at c.args.arrival.now r c.args.byte c.args.count) (c.from.ensures ∙ k.rx) in
+    passed_held c.args.self.now _ h (times_of c.row-row.result) (times_at c.args.arrival.now h.rx c.args.byte c.args.count) k times refl
+    c.pass.ensures.view c.pass.ensures.buffer c.pass.ensures.size refl c.see.ensures
 
 pub returns-clause-bytes : goal.returns-clause-bytes
 returns-clause-bytes c = omega (

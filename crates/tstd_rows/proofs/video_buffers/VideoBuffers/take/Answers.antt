@@ -8,7 +8,7 @@ pub returns-clause-held : goal.returns-clause-held
 returns-clause-held c = λ sizes rate parts times k is.
     let seen = c.leak-found.ensures in
     video_held c.args.self.now _ sizes rate parts (times_left c.args.leaving.now) times c.leak-found.result.elementary c.leak-found.new.self.transport.last k is
-    (seen.view (leaked rate parts) k.view) seen.step seen.size (seen.elementary (leaked rate parts) k.view) refl c.see.ensures.size c.see.ensures.under_way
+    (seen.view (leaked rate parts) k.view) seen.step seen.size (seen.elementary (leaked rate parts) k.view) refl c.see.ensures.size c.see.ensures.under_way c.see_leaving.ensures
 
 pub returns-clause-entered : goal.returns-clause-entered
 returns-clause-entered c = λ sizes rate parts times k is.

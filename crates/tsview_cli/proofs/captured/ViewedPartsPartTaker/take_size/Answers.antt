@@ -1,11 +1,14 @@
-use Rattle.std.proofs.Common.{◌∙◌, ◌∷◌, ◌++◌, [], List, ap, refl}
+use Rattle.std.proofs.Common.{◌∙◌, ◌∷◌, ◌++◌, [], List, ap, subst}
 use Rattle.events.specs.declared.event.Event.{Event}
-use Rattle.tsview_cli.specs.CapturedStreams.{HasParts}
+use Rattle.analysis.specs.Analysis.{IsAnalysed, timed, with_event}
+use Rattle.tsview_cli.specs.CapturedStreams.{HasParts, after_parts}
 use Rattle.tsview_cli.proofs.CapturedParts.{size_more}
 use Rattle.tsview_cli.proofs.captured.ViewedPartsPartTaker.take_size.Goals as goal
 
 pub returns : goal.returns
 returns c = λ first parts taken s is.
     let h : HasParts first c.args.self.now s parts = taken s is in
-    size_more first c.args.self.now _ s parts c.args.other h refl
-    (c.in_ok-push.ensures.items ∙ ap (λ (e : Event). c.args.self.now.events.items ++ e ∷ []) c.size_event.ensures) refl
+    let now = after_parts s parts in
+    size_more first c.args.self.now _ s parts c.args.other h
+    (subst (λ (e : Event). IsAnalysed c.take_event.new.self (with_event now e)) c.size_event.ensures (c.in_ok-take_event.ensures.analysed now h.view))
+    (c.in_ok-take_event.ensures.found now h.view ∙ ap (λ (e : Event). c.args.self.now.events.items ++ timed now.view e ∷ []) c.size_event.ensures)

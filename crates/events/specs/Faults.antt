@@ -1,0 +1,172 @@
+-- The fault that an event says there is: what is wrong, where, at which packet, from which moment to which, and how far beyond which limit.
+use Rattle.std.specs.Prelude.{ℕ, ◌-◌, Option, Some, None}
+use Rattle.events.specs.declared.event.BufferExcess.{BufferExcess}
+use Rattle.events.specs.declared.event.ClockFault.{ClockFault}
+use Rattle.events.specs.declared.event.Event.{Event}
+use Rattle.events.specs.declared.event.Event.TheVariants as events
+use Rattle.events.specs.declared.event.ProgramExcess.{ProgramExcess}
+use Rattle.events.specs.declared.event.TableFault.{TableFault}
+use Rattle.events.specs.declared.fault.Fault.{Fault}
+use Rattle.events.specs.declared.fault.Measured.{Measured}
+use Rattle.events.specs.declared.fault_kind.FaultKind.{FaultKind}
+use Rattle.events.specs.declared.fault_kind.FaultKind.TheVariants as kinds
+use Rattle.events.specs.declared.fault_kind.FaultSource.{FaultSource}
+use Rattle.events.specs.declared.fault_kind.FaultSource.TheVariants.{Whole, Stream, Program, Table}
+use Rattle.events.specs.declared.input_event.InputEvent.{InputEvent}
+use Rattle.events.specs.declared.input_event.InputEvent.TheVariants as inputs
+use Rattle.events.specs.declared.packet_fault.RefusalCause.{RefusalCause}
+use Rattle.events.specs.declared.packet_fault.RefusalCause.TheVariants as causes
+use Rattle.events.specs.declared.rule_event.BufferKind.{BufferKind}
+use Rattle.events.specs.declared.rule_event.BufferKind.TheVariants as buffers
+use Rattle.events.specs.declared.rule_event.BufferStay.{BufferStay}
+use Rattle.events.specs.declared.rule_event.RuleEvent.{RuleEvent}
+use Rattle.events.specs.declared.rule_event.RuleEvent.TheVariants as rules
+
+-- 1. Forms
+
+-- at a packet, at its moment if that is known
+abbrev pub point : FaultKind → FaultSource → ℕ → Option ℕ → Fault
+point kind source packet at = record { kind = kind; source = source; packet = packet; from = at; to = at; measured = None }
+
+abbrev pub stream : ℕ → FaultSource
+stream pid = Stream pid
+
+abbrev pub measured_fault : FaultKind → FaultSource → ℕ → Option ℕ → Measured → Fault
+measured_fault kind source packet at measured =
+    record { kind = kind; source = source; packet = packet; from = at; to = at; measured = Some measured }
+
+-- over a time
+abbrev pub span : FaultKind → FaultSource → ℕ → ℕ → ℕ → Measured → Fault
+span kind source packet begin end measured =
+    record { kind = kind; source = source; packet = packet; from = Some begin; to = Some end; measured = Some measured }
+
+-- 2. By events
+
+abbrev pub excess_fault : FaultKind → BufferExcess → Fault
+excess_fault kind e = span kind (Stream e.pid) e.packet e.begin e.end (record { value = e.peak; limit = e.size })
+
+abbrev pub program_fault : FaultKind → ProgramExcess → Fault
+program_fault kind e = span kind (Program e.program) e.packet e.begin e.end (record { value = e.peak; limit = e.size })
+
+-- a unit is late from its DTS to the moment of its last byte
+abbrev pub late_fault : FaultKind → ℕ → ℕ → ℕ → ℕ → ℕ → Fault
+late_fault kind pid packet due left by = span kind (Stream pid) packet due left (record { value = by; limit = 0 })
+
+abbrev pub clock_fault : FaultKind → ClockFault → Option ℕ → Fault
+clock_fault kind e at = measured_fault kind (Stream e.pid) e.packet at (record { value = e.value; limit = e.limit })
+
+abbrev pub table_fault : FaultKind → TableFault → Option ℕ → Fault
+table_fault kind e at = measured_fault kind (Table e.pid e.table) e.packet at (record { value = e.value; limit = e.limit })
+
+-- a buffer of a stream, or of a program's tables
+unfoldable pub owner_of : BufferKind → ℕ → FaultSource
+owner_of buffers.Transport number = Stream number
+owner_of buffers.Multiplexing number = Stream number
+owner_of buffers.Elementary number = Stream number
+owner_of buffers.Main number = Stream number
+owner_of buffers.TableTransport number = Program number
+owner_of buffers.System number = Program number
+
+abbrev pub stay_fault : FaultKind → BufferStay → Fault
+stay_fault kind e = span kind (owner_of e.buffer e.number) e.packet e.begin e.end (record { value = e.end - e.begin; limit = e.limit })
+
+unfoldable pub kind_of_cause : RefusalCause → FaultKind
+kind_of_cause causes.SyncByte = kinds.SyncByte
+kind_of_cause causes.Header = kinds.Header
+kind_of_cause causes.TransportError = kinds.TransportError
+
+-- packets of another size are no fault
+unfoldable pub input_fault : InputEvent → Option ℕ → Option Fault
+input_fault (inputs.Slip e) at = Some (point kinds.Slip Whole e.packet at)
+input_fault (inputs.PacketSize size) at = None
+input_fault inputs.Empty at = Some (point kinds.Empty Whole 0 None)
+input_fault (inputs.NoStream form) at = Some (point kinds.NoStream Whole 0 None)
+input_fault (inputs.OtherRate e) at = Some (point kinds.OtherRate (Stream e.pid) 0 None)
+
+unfoldable pub rule_fault : RuleEvent → Option ℕ → Option Fault
+rule_fault (rules.PtsRepetition e) at = Some (clock_fault kinds.PtsRepetition e at)
+rule_fault (rules.SectionDistance e) at = Some (table_fault kinds.SectionDistance e at)
+rule_fault (rules.OtherTable e) at = Some (point kinds.OtherTable (Table e.pid e.table) e.packet at)
+rule_fault (rules.ScrambledTable e) at = Some (point kinds.ScrambledTable (Stream e.pid) e.packet at)
+rule_fault (rules.NoCat e) at = Some (point kinds.NoCat (Stream e.pid) e.packet at)
+rule_fault (rules.NotEmpty e) at = Some (stay_fault kinds.NotEmpty e)
+rule_fault (rules.Delayed e) at = Some (stay_fault kinds.Delayed e)
+rule_fault (rules.VariableRate e) at = None
+
+unfoldable pub buffer_fault : Event → Option ℕ → Option Fault
+buffer_fault (events.Input e) at = None
+buffer_fault (events.Stream e) at = None
+buffer_fault (events.Window e) at = None
+buffer_fault (events.Held e) at = None
+buffer_fault (events.Units e) at = None
+buffer_fault (events.Excess e) at = Some (excess_fault kinds.Excess e)
+buffer_fault (events.MainExcess e) at = Some (excess_fault kinds.MainExcess e)
+buffer_fault (events.MultiplexingExcess e) at = Some (excess_fault kinds.MultiplexingExcess e)
+buffer_fault (events.ElementaryExcess e) at = Some (excess_fault kinds.ElementaryExcess e)
+buffer_fault (events.SystemExcess e) at = Some (program_fault kinds.SystemExcess e)
+buffer_fault (events.SystemMainExcess e) at = Some (program_fault kinds.SystemMainExcess e)
+buffer_fault (events.Late e) at = Some (late_fault kinds.Late e.pid e.packet e.due e.left e.by)
+buffer_fault (events.ElementaryLate e) at = Some (late_fault kinds.ElementaryLate e.pid e.packet e.due e.left e.by)
+buffer_fault (events.Ahead e) at = Some (measured_fault kinds.Ahead (Stream e.pid) e.packet at (record { value = e.by; limit = e.limit }))
+buffer_fault (events.PcrRepetition e) at = None
+buffer_fault (events.PcrDiscontinuity e) at = None
+buffer_fault (events.PcrAccuracy e) at = None
+buffer_fault (events.TableRepetition e) at = None
+buffer_fault (events.Unclocked e) at = None
+buffer_fault (events.Refused e) at = None
+buffer_fault (events.Continuity e) at = None
+buffer_fault (events.CheckWord e) at = None
+buffer_fault (events.Transport e) at = None
+buffer_fault (events.Main e) at = None
+buffer_fault (events.Multiplexing e) at = None
+buffer_fault (events.Elementary e) at = None
+buffer_fault (events.Marks e) at = None
+buffer_fault (events.System e) at = None
+buffer_fault (events.Clock e) at = None
+buffer_fault (events.Table e) at = None
+buffer_fault (events.Pid e) at = None
+buffer_fault (events.Unreferenced e) at = None
+buffer_fault (events.Missing e) at = None
+buffer_fault (events.Check e) at = None
+buffer_fault (events.End e) at = None
+buffer_fault (events.Rule e) at = None
+buffer_fault (events.Summary e) at = None
+
+unfoldable pub fault_of : Event → Option ℕ → Option Fault
+fault_of (events.Input e) at = input_fault e at
+fault_of (events.Stream e) at = buffer_fault (events.Stream e) at
+fault_of (events.Window e) at = buffer_fault (events.Window e) at
+fault_of (events.Held e) at = buffer_fault (events.Held e) at
+fault_of (events.Units e) at = buffer_fault (events.Units e) at
+fault_of (events.Excess e) at = buffer_fault (events.Excess e) at
+fault_of (events.MainExcess e) at = buffer_fault (events.MainExcess e) at
+fault_of (events.MultiplexingExcess e) at = buffer_fault (events.MultiplexingExcess e) at
+fault_of (events.ElementaryExcess e) at = buffer_fault (events.ElementaryExcess e) at
+fault_of (events.SystemExcess e) at = buffer_fault (events.SystemExcess e) at
+fault_of (events.SystemMainExcess e) at = buffer_fault (events.SystemMainExcess e) at
+fault_of (events.Late e) at = buffer_fault (events.Late e) at
+fault_of (events.ElementaryLate e) at = buffer_fault (events.ElementaryLate e) at
+fault_of (events.Ahead e) at = buffer_fault (events.Ahead e) at
+fault_of (events.PcrRepetition e) at = Some (clock_fault kinds.PcrRepetition e at)
+fault_of (events.PcrDiscontinuity e) at = Some (clock_fault kinds.PcrDiscontinuity e at)
+fault_of (events.PcrAccuracy e) at = Some (clock_fault kinds.PcrAccuracy e at)
+fault_of (events.TableRepetition e) at = Some (table_fault kinds.TableRepetition e at)
+fault_of (events.Unclocked e) at = Some (point kinds.Unclocked Whole e.packet None)
+fault_of (events.Refused e) at = Some (point (kind_of_cause e.cause) Whole e.packet at)
+fault_of (events.Continuity e) at = Some (point kinds.Continuity (Stream e.pid) e.packet at)
+fault_of (events.CheckWord e) at = Some (point kinds.CheckWord (Stream e.pid) e.packet at)
+fault_of (events.Transport e) at = buffer_fault (events.Transport e) at
+fault_of (events.Main e) at = buffer_fault (events.Main e) at
+fault_of (events.Multiplexing e) at = buffer_fault (events.Multiplexing e) at
+fault_of (events.Elementary e) at = buffer_fault (events.Elementary e) at
+fault_of (events.Marks e) at = buffer_fault (events.Marks e) at
+fault_of (events.System e) at = buffer_fault (events.System e) at
+fault_of (events.Clock e) at = buffer_fault (events.Clock e) at
+fault_of (events.Table e) at = buffer_fault (events.Table e) at
+fault_of (events.Pid e) at = buffer_fault (events.Pid e) at
+fault_of (events.Unreferenced e) at = Some (point kinds.Unreferenced (Stream e) 0 None)
+fault_of (events.Missing e) at = Some (point kinds.Missing (Stream e) 0 None)
+fault_of (events.Check e) at = buffer_fault (events.Check e) at
+fault_of (events.End e) at = buffer_fault (events.End e) at
+fault_of (events.Rule e) at = rule_fault e at
+fault_of (events.Summary e) at = buffer_fault (events.Summary e) at

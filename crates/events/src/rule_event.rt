@@ -1,0 +1,101 @@
+//! Faults by checks of ETSI TR 101 290 that no other event has, as plain data.
+ghost use Rattle.std.specs.Prelude.{◌≡◌};
+ghost use Rattle.events.specs.BufferKinds as spec;
+
+use crate::event::{ClockFault, TableFault};
+
+/// A buffer of the decoder model (ISO/IEC 13818-1, 2.4.2.3): TB, MB, EB and B of a stream, and both buffers of a program's tables.
+#[derive(Clone, Copy)]
+pub enum BufferKind {
+    Transport,
+    Multiplexing,
+    Elementary,
+    Main,
+    TableTransport,
+    System,
+}
+
+/// Bytes stay in a buffer for longer than they may: from when to when, and for how long they may, in ticks.
+#[derive(Clone, Copy)]
+pub struct BufferStay {
+    /// The PID of the stream, or the number of the program whose tables they are.
+    pub number: u16,
+    pub buffer: BufferKind,
+    pub packet: u64,
+    pub begin: u128,
+    pub end: u128,
+    pub limit: u64,
+}
+
+/// A section of a table that does not belong on its PID.
+#[derive(Clone, Copy)]
+pub struct OtherTable {
+    pub pid: u16,
+    /// Its table_id.
+    pub table: u8,
+    pub packet: u64,
+}
+
+/// A packet whose transport_scrambling_control is not 00.
+#[derive(Clone, Copy)]
+pub struct ScrambledPacket {
+    pub pid: u16,
+    pub packet: u64,
+}
+
+/// The clock references of a stream give no constant rate: where that is decided.
+#[derive(Clone, Copy)]
+pub struct VariableRate {
+    pub packet: u64,
+    /// Two rates in a row that the references give, and how many of them are apart.
+    pub pairs: u64,
+    pub apart: u64,
+}
+
+/// A fault by a check of ETSI TR 101 290, or a check that can't be made, by the word of its line.
+#[derive(Clone, Copy)]
+pub enum RuleEvent {
+    /// A PTS that comes too long after the one before it (2.5).
+    PtsRepetition(ClockFault),
+    /// A section that begins too soon after the one before it (3.1 to 3.8).
+    SectionDistance(TableFault),
+    OtherTable(OtherTable),
+    /// A packet of a PAT or of a PMT is scrambled (1.3.a, 1.5.a).
+    ScrambledTable(ScrambledPacket),
+    /// A stream has scrambled packets and no CAT (2.6).
+    NoCat(ScrambledPacket),
+    /// A transport buffer or a multiplexing buffer is not empty for too long (3.9).
+    NotEmpty(BufferStay),
+    /// Bytes stay in the buffers of a stream for too long (3.10).
+    Delayed(BufferStay),
+    /// The accuracy of clock references (2.4) says nothing.
+    VariableRate(VariableRate),
+}
+
+impl BufferKind {
+    /// Returns the word of a buffer.
+    #[tactic(auto, unfolding(crate::specs::BufferKinds::word_of))]
+    pub fn word(self) -> &'static str
+        ensures { result.now ≡ spec.word_of self }
+    {
+        match self {
+            BufferKind::Transport => "transport",
+            BufferKind::Multiplexing => "multiplexing",
+            BufferKind::Elementary => "elementary",
+            BufferKind::Main => "main",
+            BufferKind::TableTransport => "table_transport",
+            BufferKind::System => "system",
+        }
+    }
+
+    /// Returns the word of the number of its owner: the PID of a stream, or the number of a program.
+    #[tactic(auto, unfolding(crate::specs::BufferKinds::owner_word))]
+    pub fn owner_word(self) -> &'static str
+        ensures { result.now ≡ spec.owner_word self }
+    {
+        match self {
+            BufferKind::TableTransport | BufferKind::System => "program",
+            _ => "pid",
+        }
+    }
+}

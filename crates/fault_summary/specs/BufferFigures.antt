@@ -1,0 +1,127 @@
+-- What the buffers of a stream come to.
+use Rattle.std.specs.Prelude.{ℕ, ◌+◌, ◌-◌, ◌*◌, ◌^◌, ◌==◌, min, not, nat_lt, if◌then◌else◌, Bool, Option, Some, None}
+use Rattle.events.specs.declared.event.Event.{Event}
+use Rattle.events.specs.declared.event.Event.TheVariants as events
+use Rattle.events.specs.declared.event.MainTotals.{MainTotals}
+use Rattle.events.specs.declared.event.SystemTotals.{SystemTotals}
+use Rattle.events.specs.declared.fault_kind.FaultKind.{FaultKind}
+use Rattle.events.specs.declared.fault_kind.FaultKind.TheVariants as faults
+use Rattle.events.specs.declared.fault_kind.FaultSource.{FaultSource}
+use Rattle.events.specs.declared.rule_event.BufferKind.{BufferKind}
+use Rattle.events.specs.declared.rule_event.BufferKind.TheVariants as kinds
+use Rattle.events.specs.declared.summary.BufferVerdict.{BufferVerdict}
+use Rattle.events.specs.declared.summary.FaultTotals.{FaultTotals}
+use Rattle.events.specs.declared.summary.UnitVerdict.{UnitVerdict}
+use Rattle.events.specs.declared.summary.WorstBuffer.{WorstBuffer}
+use Rattle.events.specs.Faults.{owner_of}
+use Rattle.fault_summary.specs.FaultRows.{RowEntries, key_of, row_at}
+use Rattle.fault_summary.specs.declared.buffer_figures.BufferFigures.{BufferFigures}
+use Rattle.fault_summary.specs.declared.buffer_figures.BufferMost.{BufferMost}
+
+abbrev pub no_buffer : BufferFigures
+no_buffer = record { buffers = 0; over = 0; worst = None; units = 0; late = 0 }
+
+abbrev pub buffer : ℕ → BufferKind → ℕ → ℕ → BufferMost
+buffer number kind most size = record { number = number; buffer = kind; most = most; size = size }
+
+-- further over its size, by the parts of it; products stop at 2^128 - 1
+abbrev pub parts : ℕ → ℕ → ℕ
+parts a b = min (a * b) (2 ^ 128 - 1)
+
+abbrev pub is_further : BufferMost → BufferMost → Bool
+is_further next than = nat_lt (parts than.most next.size) (parts next.most than.size)
+
+unfoldable pub worst_of : Option BufferMost → BufferMost → Option BufferMost
+worst_of None next = Some next
+worst_of (Some before) next = Some (if is_further next before then next else before)
+
+abbrev pub more : ℕ → ℕ → ℕ
+more a b = min (a + b) (2 ^ 64 - 1)
+
+-- a buffer more, which was over its size if it has an excess
+abbrev pub with_buffer : BufferFigures → BufferMost → ℕ → BufferFigures
+with_buffer s next excesses = record {
+  buffers = more s.buffers 1;
+  over = more s.over (if not (excesses == 0) then 1 else 0);
+  worst = if not (excesses == 0) then worst_of s.worst next else s.worst;
+  units = s.units;
+  late = s.late;
+}
+
+abbrev pub with_units : BufferFigures → ℕ → ℕ → BufferFigures
+with_units s units late = record { buffers = s.buffers; over = s.over; worst = s.worst; units = more s.units units; late = more s.late late }
+
+abbrev pub with_main : BufferFigures → MainTotals → BufferFigures
+with_main s e = with_units (with_buffer s (buffer e.pid kinds.Main e.most e.size) e.excesses) e.units e.late
+
+abbrev pub with_system : BufferFigures → SystemTotals → BufferFigures
+with_system s e = with_buffer (with_buffer s (buffer e.program kinds.TableTransport e.transport e.transport_size) e.transport_excesses)
+    (buffer e.program kinds.System e.main e.main_size) e.main_excesses
+
+unfoldable pub with_event : BufferFigures → Event → BufferFigures
+with_event s (events.Input e) = s
+with_event s (events.Stream e) = s
+with_event s (events.Window e) = s
+with_event s (events.Held e) = s
+with_event s (events.Units e) = s
+with_event s (events.Excess e) = s
+with_event s (events.MainExcess e) = s
+with_event s (events.MultiplexingExcess e) = s
+with_event s (events.ElementaryExcess e) = s
+with_event s (events.SystemExcess e) = s
+with_event s (events.SystemMainExcess e) = s
+with_event s (events.Late e) = s
+with_event s (events.ElementaryLate e) = s
+with_event s (events.Ahead e) = s
+with_event s (events.PcrRepetition e) = s
+with_event s (events.PcrDiscontinuity e) = s
+with_event s (events.PcrAccuracy e) = s
+with_event s (events.TableRepetition e) = s
+with_event s (events.Unclocked e) = s
+with_event s (events.Refused e) = s
+with_event s (events.Continuity e) = s
+with_event s (events.CheckWord e) = s
+with_event s (events.Transport e) = with_buffer s (buffer e.pid kinds.Transport e.most e.size) e.excesses
+with_event s (events.Main e) = with_main s e
+with_event s (events.Multiplexing e) = with_buffer s (buffer e.pid kinds.Multiplexing e.most e.size) e.excesses
+with_event s (events.Elementary e) = with_buffer s (buffer e.pid kinds.Elementary e.most e.size) e.excesses
+with_event s (events.Marks e) = s
+with_event s (events.System e) = with_system s e
+with_event s (events.Clock e) = s
+with_event s (events.Table e) = s
+with_event s (events.Pid e) = s
+with_event s (events.Unreferenced e) = s
+with_event s (events.Missing e) = s
+with_event s (events.Check e) = s
+with_event s (events.End e) = s
+with_event s (events.Rule e) = s
+with_event s (events.Summary e) = s
+
+abbrev pub unit_verdict : BufferFigures → UnitVerdict
+unit_verdict s = record { units = s.units; late = s.late }
+
+-- the times of the worst buffer: from the beginning of its first excess to the end of its last one
+unfoldable pub excess_kind : BufferKind → FaultKind
+excess_kind kinds.Transport = faults.Excess
+excess_kind kinds.Multiplexing = faults.MultiplexingExcess
+excess_kind kinds.Elementary = faults.ElementaryExcess
+excess_kind kinds.Main = faults.MainExcess
+excess_kind kinds.TableTransport = faults.SystemExcess
+excess_kind kinds.System = faults.SystemMainExcess
+
+abbrev pub owner : BufferKind → ℕ → FaultSource
+owner kind number = owner_of kind number
+
+unfoldable pub times_by : Option FaultTotals → Option ℕ × Option ℕ
+times_by None = (None, None)
+times_by (Some t) = (t.count.from, t.count.to)
+
+abbrev pub worst_by : BufferMost → Option ℕ × Option ℕ → WorstBuffer
+worst_by w times = record { number = w.number; buffer = w.buffer; most = w.most; size = w.size; from = times.0; to = times.1 }
+
+unfoldable pub worst_in : Option BufferMost → RowEntries → Option WorstBuffer
+worst_in None rows = None
+worst_in (Some w) rows = Some (worst_by w (times_by (row_at rows (key_of (excess_kind w.buffer) (owner w.buffer w.number)))))
+
+abbrev pub buffer_verdict : BufferFigures → RowEntries → BufferVerdict
+buffer_verdict s rows = record { buffers = s.buffers; over = s.over; worst = worst_in s.worst rows }

@@ -1,0 +1,95 @@
+-- The verdict on a stream, as sentences.
+use Rattle.std.specs.Prelude.{ℕ, ◌+◌, ◌-◌, ◌^◌, ◌==◌, ◌&&◌, min, not, is_none, if◌then◌else◌, Bool, List, [], ◌∷◌, ◌++◌, length, Option, Some, None}
+use Rattle.events.specs.declared.check_counts.CheckTotals.{CheckTotals}
+use Rattle.events.specs.declared.event.Event.{Event}
+use Rattle.events.specs.declared.event.Event.TheVariants as events
+use Rattle.events.specs.declared.summary.CheckVerdict.{CheckVerdict}
+use Rattle.events.specs.declared.summary.SummaryEvent.TheVariants as summaries
+use Rattle.events.specs.declared.summary.Verdict.{Verdict}
+use Rattle.events.specs.declared.summary.Verdict.TheVariants.{NoFault, Faults, Buffers, Units, Checks}
+use Rattle.fault_summary.specs.BufferFigures.{buffer_verdict, unit_verdict}
+use Rattle.fault_summary.specs.FaultRows.{RowEntries}
+use Rattle.fault_summary.specs.declared.buffer_figures.BufferFigures.{BufferFigures}
+
+-- 1. Checks: those that could be made, those of them that failed, and the first of these
+
+abbrev pub no_check : CheckVerdict
+no_check = record { checks = 0; failed = 0; first = None }
+
+abbrev pub has_failed : CheckTotals → Bool
+has_failed t = is_none t.untold && not (t.count.faults == 0)
+
+unfoldable pub first_failed : Option CheckTotals → CheckTotals → Option CheckTotals
+first_failed (Some first) t = Some first
+first_failed None t = if has_failed t then Some t else None
+
+abbrev pub one_if : Bool → ℕ
+one_if b = if b then 1 else 0
+
+abbrev pub with_check : CheckVerdict → CheckTotals → CheckVerdict
+with_check v t = record {
+  checks = min (v.checks + one_if (is_none t.untold)) (2 ^ 64 - 1);
+  failed = min (v.failed + one_if (has_failed t)) (2 ^ 64 - 1);
+  first = first_failed v.first t;
+}
+
+unfoldable pub with_event : CheckVerdict → Event → CheckVerdict
+with_event v (events.Input e) = v
+with_event v (events.Stream e) = v
+with_event v (events.Window e) = v
+with_event v (events.Held e) = v
+with_event v (events.Units e) = v
+with_event v (events.Excess e) = v
+with_event v (events.MainExcess e) = v
+with_event v (events.MultiplexingExcess e) = v
+with_event v (events.ElementaryExcess e) = v
+with_event v (events.SystemExcess e) = v
+with_event v (events.SystemMainExcess e) = v
+with_event v (events.Late e) = v
+with_event v (events.ElementaryLate e) = v
+with_event v (events.Ahead e) = v
+with_event v (events.PcrRepetition e) = v
+with_event v (events.PcrDiscontinuity e) = v
+with_event v (events.PcrAccuracy e) = v
+with_event v (events.TableRepetition e) = v
+with_event v (events.Unclocked e) = v
+with_event v (events.Refused e) = v
+with_event v (events.Continuity e) = v
+with_event v (events.CheckWord e) = v
+with_event v (events.Transport e) = v
+with_event v (events.Main e) = v
+with_event v (events.Multiplexing e) = v
+with_event v (events.Elementary e) = v
+with_event v (events.Marks e) = v
+with_event v (events.System e) = v
+with_event v (events.Clock e) = v
+with_event v (events.Table e) = v
+with_event v (events.Pid e) = v
+with_event v (events.Unreferenced e) = v
+with_event v (events.Missing e) = v
+with_event v (events.Check e) = with_check v e
+with_event v (events.End e) = v
+with_event v (events.Rule e) = v
+with_event v (events.Summary e) = v
+
+unfoldable pub with_events : CheckVerdict → List Event → CheckVerdict
+with_events v [] = v
+with_events v (e ∷ es) = with_events (with_event v e) es
+
+abbrev pub check_verdict : List Event → CheckVerdict
+check_verdict rows = with_events no_check rows
+
+-- 2. Sentences
+
+abbrev pub sentence_events : Verdict → List Event
+sentence_events verdict = events.Summary (summaries.Verdict verdict) ∷ []
+
+abbrev pub fault_sentence : Bool → ℕ → RowEntries → List Event
+fault_sentence good faults rows = sentence_events (if good then NoFault else Faults (record { faults = faults; rows = length rows }))
+
+abbrev pub buffer_sentences : BufferFigures → RowEntries → List Event
+buffer_sentences s rows =
+    if s.buffers == 0 then [] else sentence_events (Buffers (buffer_verdict s rows)) ++ sentence_events (Units (unit_verdict s))
+
+abbrev pub verdict_events : Bool → ℕ → BufferFigures → RowEntries → CheckVerdict → List Event
+verdict_events good faults s rows checks = fault_sentence good faults rows ++ (buffer_sentences s rows ++ sentence_events (Checks checks))

@@ -1,0 +1,53 @@
+-- Lines that say of a loss are reported where all are, and where not.
+use Rattle.std.proofs.Common.{◌≡◌, ◌∙◌, ◌&&◌, ◌||◌, Bool, true, false, List, [], ◌∷◌, length, ap, refl, sym, inl, inr}
+use Rattle.std.specs.Prelude.{◌==◌, filter, not}
+use Rattle.std.specs.List.{list_any}
+use Rattle.std.proofs.lemmas.Bool.{cases_Bool}
+use Rattle.other_tables.specs.OtherTables.{other_tables}
+use Rattle.other_tables.specs.TableKinds.{is_loss}
+use Rattle.other_tables.specs.declared.tables.OtherTable.{OtherTable}
+use Rattle.packet_sync.specs.Fields.{is_loss as is_field_loss}
+use Rattle.packet_sync.specs.declared.left_out.FieldLeftOut.{FieldLeftOut}
+use Rattle.stream_jobs.specs.JobInput.{carries_table}
+use Rattle.stream_jobs.specs.Warnings.{is_damage}
+use Rattle.stream_jobs.specs.declared.warning.Warning.{Warning}
+use Rattle.job_run.specs.FieldLines as fields
+use Rattle.job_run.specs.Laws.{StatusStays}
+use Rattle.job_run.specs.TableLines as tables
+use Rattle.job_run.specs.WarningLines.{is_open_ended, is_told}
+
+-- of what is kept, and of what is kept and lost or asked for, the same is lost
+pub any_kept : {A : Type 0} (keep lost : A → Bool) (all : Bool) (xs : List A) →
+    list_any lost (filter (λ x. keep x && (all || lost x)) xs) ≡ list_any lost (filter keep xs)
+any_kept keep lost true xs = any_same keep lost xs
+  where
+    any_same : {A : Type 0} (keep lost : A → Bool) (xs : List A) → list_any lost (filter (λ x. keep x && (true || lost x)) xs) ≡ list_any lost (filter keep xs)
+    any_same keep lost [] = refl
+    any_same keep lost (x ∷ xs) = elim (cases_Bool (keep x)) [
+      | inl e ↦ rw e (ap (λ (b : Bool). lost x || b) (any_same keep lost xs))
+      | inr e ↦ rw e (any_same keep lost xs)
+    ]
+any_kept keep lost false [] = refl
+any_kept keep lost false (x ∷ xs) = elim (cases_Bool (keep x)) [
+  | inl e ↦ elim (cases_Bool (lost x)) [
+    | inl l ↦ rw (e, l) refl
+    | inr l ↦ rw (e, l) (any_kept keep lost false xs)
+  ]
+  | inr e ↦ rw e (any_kept keep lost false xs)
+]
+
+four : (s a b c d e f : Bool) → a ≡ d → b ≡ e → c ≡ f → (s || a || b || c) ≡ (s || d || e || f)
+four s a b c d e f p q r = rw (p, q, r) refl
+
+pub stays : StatusStays
+unfolding is_told
+stays whole quiet all other_quiet other_all notes findings m =
+    let fields_kept : FieldLeftOut → Bool = λ f. fields.is_carried m f in
+    let fields_lost : FieldLeftOut → Bool = λ f. is_field_loss f.field in
+    let tables_kept : OtherTable → Bool = λ t. not (carries_table m t.pid) in
+    let tables_lost : OtherTable → Bool = λ t. is_loss t.kind in
+    let warnings_kept : Warning → Bool = λ w. not (whole && is_open_ended w) in
+    four (not (length notes.slips == 0)) _ _ _ _ _ _
+    (any_kept fields_kept fields_lost all notes.fields ∙ sym (any_kept fields_kept fields_lost other_all notes.fields))
+    (any_kept tables_kept tables_lost all (other_tables findings) ∙ sym (any_kept tables_kept tables_lost other_all (other_tables findings)))
+    (any_kept warnings_kept is_damage all m.warnings ∙ sym (any_kept warnings_kept is_damage other_all m.warnings))

@@ -1,0 +1,13 @@
+-- What is reported of a stream changes nothing of what is made of it.
+use Rattle.std.specs.Prelude.{◌≡◌, Bool, List}
+use Rattle.demux.specs.Views.{FindingView}
+use Rattle.stream_jobs.specs.JobInput.{JobInputView}
+use Rattle.job_run.specs.Outcomes.{is_told_less}
+use Rattle.job_run.specs.Streams.{PacketNotesView}
+use Rattle.job_run.specs.declared.job_arguments.Reporting.{Reporting}
+
+-- whether something is lost, whichever lines are reported
+abbrev pub StatusStays : Type 0
+StatusStays = (whole quiet all other_quiet other_all : Bool) (notes : PacketNotesView) (findings : List FindingView) (m : JobInputView) →
+    is_told_less (record { whole = whole; quiet = quiet; all = all }) notes findings m
+    ≡ is_told_less (record { whole = whole; quiet = other_quiet; all = other_all }) notes findings m

@@ -1,0 +1,117 @@
+-- Files that are named: their bytes one after another, and what is reported of them.
+use Rattle.std.proofs.Common.{◌≡◌, ◌∙◌, ◌<◌, ◌≤◌, ◌+◌, ℕ, Option, Some, true, false, Bool, Err, zero, suc, List, [], ◌∷◌, ◌++◌, length, map, take, drop, get_or, refl, sym, ap, subst, inl, inr, add-one, append_assoc, append-nil, arith}
+use Rattle.std.specs.Borrow.{Bor}
+use Rattle.std.proofs.Math.Seq.{drop-cons}
+use Rattle.std.proofs.lemmas.List.{length-map, take-append-drop, take_all, take_more}
+use Rattle.devices.specs.Devices.{Device, HasFailed, IsClean, Port, Takes, between}
+use Rattle.devices.specs.Files.{Files, IsAsKnown, IsOpened, IsUnopened}
+use Rattle.devices.specs.Lines.{Reports, Stopped, Tells}
+use Rattle.devices.specs.WholeInput.{IsWhole, ReadsInput}
+use Rattle.devices.specs.declared.halt.Halt.{Halt}
+use Rattle.devices.specs.declared.halt.Halt.TheVariants as halt
+use Rattle.devices.proofs.NamedReaders.{is_unread}
+use Rattle.named_files.specs.ReadFiles.{HasBytes, HaveBytes, StopsAt, StopsAtOne, TellsUnread}
+use Rattle.named_files.specs.Reports.{TellsOf, uncreated_text, unopened_text, unwritten_text}
+use Rattle.named_files.specs.Saving.{Keeps, SavesFile}
+
+-- two texts, one after the other
+pub told_both : (before mid after : Port) (first second : List ℕ) → Reports (between before mid) first → Reports (between mid after) second → Tells before after (first ∷ second ∷ [])
+unfolding Tells
+told_both before mid after first second r s = (mid, r, (after, s, refl))
+
+abbrev pub port : Option (List ℕ) → ℕ → Port
+port bytes failed = record { bytes = bytes; failed = failed }
+
+has_more : (files : Files) (names : List (List ℕ)) (bytes name part : List ℕ) → HaveBytes files names bytes → HasBytes files name part →
+    HaveBytes files (names ++ name ∷ []) (bytes ++ part)
+unfolding HaveBytes
+has_more files [] bytes name part all one = (part, ([], (one, (refl, ap (λ (xs : List ℕ). xs ++ part) all ∙ sym (append-nil part)))))
+has_more files (n ∷ ns) bytes name part all one =
+    let later = has_more files ns all.1.0 name part all.1.1.1.0 one in
+    (all.0, (all.1.0 ++ part, (all.1.1.0, (later, ap (λ (xs : List ℕ). xs ++ part) all.1.1.1.1 ∙ append_assoc all.0 all.1.0 part))))
+
+mapped_at : (words : List (Bor (List ℕ))) (k : ℕ) (d : Bor (List ℕ)) (e : List ℕ) → k < length words → (get_or words k d).now ≡ get_or (map (λ s. s.now) words) k e
+mapped_at [] k d e within = absurd (let no : ⊥ = omega (arith, within) in no)
+mapped_at (w ∷ ws) zero d e within = refl
+mapped_at (w ∷ ws) (suc k) d e within = mapped_at ws k d e (let less : k < length ws = omega (arith, within) in less)
+
+names_inside : (words : List (Bor (List ℕ))) (k : ℕ) → k < length words → k < length (map (λ s. s.now) words)
+names_inside words k within = let size = length-map words (λ s. s.now) in omega (arith, size, within)
+
+pub read_more : (files : Files) (words : List (Bor (List ℕ))) (k : ℕ) (d : Bor (List ℕ)) (bytes next part : List ℕ) → k < length words →
+    HaveBytes files (take k (map (λ s. s.now) words)) bytes → HasBytes files (get_or words k d).now part → next ≡ bytes ++ part →
+    HaveBytes files (take (k + 1) (map (λ s. s.now) words)) next
+read_more files words k d bytes next part within all one grown =
+    let names = map (λ s. s.now) words in
+    let name = (get_or words k d).now in
+    let at : name ≡ get_or names k name = mapped_at words k d name within in
+    let longer : take k names ++ name ∷ [] ≡ take (k + 1) names = ap (λ (n : List ℕ). take k names ++ n ∷ []) at ∙ sym (take_more names k name (names_inside words k within)) in
+    subst (λ (xs : List ℕ). HaveBytes files (take (k + 1) names) xs) (sym grown)
+    (subst (λ (ns : List (List ℕ)). HaveBytes files ns (bytes ++ part)) longer (has_more files (take k names) bytes name part all one))
+
+pub all_read : (files : Files) (words : List (Bor (List ℕ))) (k : ℕ) (bytes : List ℕ) → length words ≤ k → HaveBytes files (take k (map (λ s. s.now) words)) bytes →
+    HaveBytes files (map (λ s. s.now) words) bytes
+all_read files words k bytes over all =
+    let names = map (λ s. s.now) words in
+    let size = length-map words (λ s. s.now) in
+    let past : length names ≤ k = omega (arith, size, over) in
+    subst (λ (ns : List (List ℕ)). HaveBytes files ns bytes) (take_all k names past) all
+
+pub stops_at_one : (files : Files) (words : List (Bor (List ℕ))) (k : ℕ) (d : Bor (List ℕ)) (faults : Device) (status : ℕ) → k < length words →
+    StopsAt files (get_or words k d).now faults → status ≡ 3 → StopsAtOne files (map (λ s. s.now) words) faults status
+stops_at_one files words k d faults status within stops is =
+    let names = map (λ s. s.now) words in
+    let name = (get_or words k d).now in
+    let at : name ≡ get_or names k name = mapped_at words k d name within in
+    let here : drop k names ≡ name ∷ drop (k + 1) names = rw (drop-cons names k name (names_inside words k within), add-one k, sym at) refl in
+    record {
+      before = take k names;
+      name = name;
+      after = drop (k + 1) names;
+      is = sym (take-append-drop k names) ∙ ap (λ (ns : List (List ℕ)). take k names ++ ns) here;
+      stops = stops;
+      status_is = is;
+    }
+
+pub no_bytes : (files : Files) (bytes : List ℕ) → bytes ≡ [] → HaveBytes files [] bytes
+unfolding HaveBytes
+no_bytes files bytes is = is
+
+-- the second writer was not used before
+
+pub stops_later : (files : Files) (name : List ℕ) (before later after : Port) → later ≡ before → StopsAt files name (between later after) → StopsAt files name (between before after)
+stops_later files name before later after same stops = subst (λ (p : Port). StopsAt files name (between p after)) same stops
+
+-- a file that can't be read
+
+pub stops_unopened : (files : Files) (name : List ℕ) (faults : Device) → IsUnopened files name → TellsOf name unopened_text faults → StopsAt files name faults
+stops_unopened files name faults is tells = inl (is, tells)
+
+pub stops_unread : (files : Files) (name : List ℕ) (input faults : Device) (why : Halt) → IsOpened files name → input.before.bytes ≡ files.contents name →
+    (files.never_fails ≡ true → HasFailed input → ⊥) → ReadsInput input (Err why) → TellsUnread name why faults → StopsAt files name faults
+stops_unread files name input faults halt.Read opened same never read tells = inr (inl (is_unread files name input opened same never read, tells))
+stops_unread files name input faults halt.Write opened same never read tells = absurd read
+stops_unread files name input faults halt.Memory opened same never read tells = inr (inr tells)
+
+pub tells_unread : (name : List ℕ) (why known : Halt) (faults : Device) → why ≡ known → TellsUnread name known faults → TellsUnread name why faults
+tells_unread name why known faults is tells = subst (λ (h : Halt). TellsUnread name h faults) (sym is) tells
+
+-- a file that was read
+
+pub has_bytes : (files : Files) (name bytes : List ℕ) (input : Device) → IsOpened files name → input.before.bytes ≡ files.contents name → IsWhole input.before.bytes bytes → HasBytes files name bytes
+has_bytes files name bytes input opened same whole = (opened, subst (λ (k : Option (List ℕ)). IsWhole k bytes) same whole)
+
+-- what becomes of a new file
+
+pub saved : (creates : Option Bool) (name bytes : List ℕ) (ended : ℕ) (file faults : Device) (status : ℕ) → IsAsKnown creates true → ((xs : List ℕ) → file.before.bytes ≡ Some xs → xs ≡ []) →
+    Takes file bytes × IsClean file → Keeps name ended faults status → SavesFile creates name bytes ended faults status
+saved creates name bytes ended file faults status created empty written keeps = inl (record { file = file; new = record { created = created; empty = empty }; written = written.0; clean = written.1; keeps = keeps })
+
+pub removed : (creates : Option Bool) (name bytes : List ℕ) (ended : ℕ) (file faults : Device) (status : ℕ) → IsAsKnown creates true → ((xs : List ℕ) → file.before.bytes ≡ Some xs → xs ≡ []) →
+    Stopped bytes file → HasFailed file → TellsOf name unwritten_text faults → status ≡ 3 → SavesFile creates name bytes ended faults status
+removed creates name bytes ended file faults status created empty stopped failed tells is =
+    inr (inl (record { file = file; new = record { created = created; empty = empty }; stopped = stopped; failed = failed; tells = tells; status_is = is }))
+
+pub uncreated : (creates : Option Bool) (name bytes : List ℕ) (ended : ℕ) (faults : Device) (status : ℕ) → IsAsKnown creates false → TellsOf name uncreated_text faults → status ≡ 3 →
+    SavesFile creates name bytes ended faults status
+uncreated creates name bytes ended faults status none tells is = inr (inr (record { uncreated = none; tells = tells; status_is = is }))

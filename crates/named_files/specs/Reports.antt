@@ -1,0 +1,27 @@
+-- What is wrong with a file that is named, in words.
+use Rattle.std.specs.Prelude.{ℕ, List, [], ◌∷◌, codes}
+use Rattle.devices.specs.Devices.{Device}
+use Rattle.devices.specs.Lines.{Tells}
+
+-- its name, then a text
+abbrev pub TellsOf : List ℕ → List ℕ → Device → Type 0
+TellsOf name text faults = Tells faults.before faults.after (name ∷ text ∷ [])
+
+abbrev pub unopened_text : List ℕ
+unopened_text = codes ": can't be opened\n"
+
+abbrev pub unread_text : List ℕ
+unread_text = codes ": can't be read\n"
+
+abbrev pub uncreated_text : List ℕ
+uncreated_text = codes ": can't be created\n"
+
+abbrev pub unnamed_text : List ℕ
+unnamed_text = codes ": can't be renamed\n"
+
+abbrev pub unwritten_text : List ℕ
+unwritten_text = codes ": can't be written\n"
+
+-- packets are not written to a terminal
+abbrev pub terminal_line : List ℕ
+terminal_line = codes "standard output is a terminal: name a file by -o FILE\n"

@@ -1,0 +1,13 @@
+//! Files that a command line names.
+//!
+//! `read_files` has the bytes of files, one after another (`specs/ReadFiles`); `save_file` writes a file whole or not at all
+//! (`specs/Saving`). `reports` says what is wrong with a file (`specs/Reports`).
+#![tactic(auto)]
+
+mod reading;
+mod reports;
+mod saving;
+
+pub use reading::read_files;
+pub use reports::{TERMINAL, report_of};
+pub use saving::save_file;

@@ -1,0 +1,185 @@
+-- After any input, a record that is near is refused for nothing but itself and the units of its stream.
+use Rattle.std.proofs.Common.{◌≡◌, ℕ, zero, suc, ◌+◌, ◌-◌, ◌≤◌, max, Bool, true, false, List, [], ◌∷◌, length, Option, Some, None, Result, Ok, Err, refl, ap, sym, ◌∙◌, subst, cond, arith, All}
+use Rattle.std.specs.Prelude.{⊤, ◌==◌, ◌^◌, map, nat_lt, option_map, slice_get, if◌then◌else◌}
+use Rattle.std.proofs.lemmas.Bool.{le-ltb, ltb-true}
+use Rattle.std.proofs.lemmas.List.Elements.{All-append, All-cons, All-nil, All-weaker}
+use Rattle.clock27.specs.Release.{release}
+use Rattle.description.specs.Described.{DescribedStream}
+use Rattle.description.specs.Ranges.{IsInRange}
+use Rattle.pes_packet.specs.AccessUnits.{AccessUnit}
+use Rattle.pes_packet.specs.Marks.{marks_size}
+use Rattle.pes_packet.specs.Units.{units_of}
+use Rattle.unit_timing.specs.Levels.{is_over}
+use Rattle.unit_timing.specs.declared.allowance.Allowance.{Allowance}
+use Rattle.unit_timing.specs.declared.allowance.Allowance.TheVariants.{Groups, Pace as ByPace}
+use Rattle.unit_queue.specs.OwnedStreams.{OwnedStream, timed}
+use Rattle.unit_queue.specs.Causes.{unit_cause, or_cause, own_cause, time_cause, room_cause, packets_cause, over_cause, is_bad_pts, is_late, is_full, min_next_dts_of}
+use Rattle.unit_queue.specs.declared.refusal.FeedError.{FeedError}
+use Rattle.unit_queue.specs.declared.refusal.FeedError.TheVariants.{Empty, TooLarge, TooSoon, BadPts, TooFar}
+use Rattle.unit_records.specs.Records.{record_at}
+use Rattle.unit_records.specs.declared.reading.UnitFileError.{UnitFileError}
+use Rattle.carry.specs.RecordRuns.{after_records}
+use Rattle.mux_core.specs.Histories.{owned_stream}
+use Rattle.mux_core.specs.MuxStates.{feed_cause}
+use Rattle.mux_core.specs.WholeJobs.{job_history}
+use Rattle.on_air.specs.declared.refusals.AirRefusal.{AirRefusal}
+use Rattle.on_air.specs.declared.refusals.AirRefusal.TheVariants.{Feed, Ahead, Followed}
+use Rattle.on_air.specs.Airing.{Run, Air, silence, lead_of, needed_room, settled_at, is_tick, is_far_from, far_cause, unit_refusal, air_cause, accepted_by, greatest_by, judged_by, caught_up, slots_followed, with_record, heard}
+use Rattle.on_air.specs.AirStates.{Promises}
+use Rattle.on_air.specs.Laws.{ComesNear, IsJudgedAlone, IsOwnCause, NearIsJudgedAlone}
+use Rattle.on_air.proofs.AsMultiplexed.{more_settled, none_taken, release_rises}
+use Rattle.on_air.proofs.InOrder.{AllKept, has_room, kept_more, kept_none, lead_within}
+use Rattle.on_air.proofs.Leaping.{told_of}
+
+-- ---- what holds of a run after any input
+
+record Steady (run : Run) (a : Air) : Type 0 where
+  slots : a.slots ≡ settled_at run a.greatest
+  within : All (λ e. e.1.dts ≤ a.greatest) a.accepted
+  kept : AllKept run.scheduled a.accepted
+
+steady_first : (run : Run) → Steady run silence
+steady_first run = record { slots = (none_taken run).slots; within = All-nil (λ e. e.1.dts ≤ 0); kept = kept_none run.scheduled }
+
+later : (g h : ℕ) (units : List (ℕ × AccessUnit)) → g ≤ h → All (λ e. e.1.dts ≤ g) units → All (λ e. e.1.dts ≤ h) units
+later g h units le all = All-weaker (λ e. e.1.dts ≤ g) (λ e. e.1.dts ≤ h) (λ e few. omega (arith, le, few)) units all
+
+-- a unit that is accepted
+fed_none : (far tick : Bool) (cause : AirRefusal) (refused : Option FeedError) → cond far (Some cause) (cond tick None (option_map Feed refused)) ≡ None → tick ≡ false → refused ≡ None
+fed_none true tick cause refused e unit = absurd cc
+fed_none false true cause refused e unit = absurd cc
+fed_none false false cause None e unit = refl
+fed_none false false cause (Some c) e unit = absurd cc
+
+taken_units : (run : Run) (a : Air) (entry : ℕ × AccessUnit) (tick : Bool) → is_tick entry ≡ tick → IsInRange run.scheduled.description → air_cause run a entry ≡ None → Steady run a →
+    All (λ e. e.1.dts ≤ max a.greatest entry.1.dts) (accepted_by a entry None) × AllKept run.scheduled (accepted_by a entry None)
+unfolding accepted_by
+taken_units run a entry true is ranges none so = rw is (later a.greatest (max a.greatest entry.1.dts) a.accepted (omega arith) so.within, so.kept)
+taken_units run a entry false is ranges none so =
+    let fed = fed_none (is_far_from run a entry) (is_tick entry) (far_cause run a entry) (unit_refusal run a entry) none is in
+    rw is (
+      All-append (λ e. e.1.dts ≤ max a.greatest entry.1.dts) a.accepted (entry ∷ []) (later a.greatest (max a.greatest entry.1.dts) a.accepted (omega arith) so.within)
+          (All-cons (λ e. e.1.dts ≤ max a.greatest entry.1.dts) entry [] (omega arith) (All-nil (λ e. e.1.dts ≤ max a.greatest entry.1.dts))),
+      kept_more run.scheduled a.slots run.capacity a.accepted entry ranges fed so.kept,
+    )
+
+steady_by : (run : Run) (a : Air) (entry : ℕ × AccessUnit) (cause : Option AirRefusal) → IsInRange run.scheduled.description → air_cause run a entry ≡ cause → Steady run a →
+    Steady run (caught_up run (judged_by run a entry cause) cause)
+unfolding judged_by slots_followed greatest_by
+steady_by run a entry None ranges is so =
+    let units = taken_units run a entry (is_tick entry) refl ranges is so in
+    record {
+      slots = ap (λ (n : ℕ). n + (settled_at run entry.1.dts - n)) so.slots ∙ more_settled run a.greatest entry.1.dts;
+      within = units.0;
+      kept = units.1;
+    }
+steady_by run a entry (Some (Feed cause)) ranges is so = record { slots = so.slots; within = so.within; kept = so.kept }
+steady_by run a entry (Some Ahead) ranges is so = record { slots = so.slots; within = so.within; kept = so.kept }
+steady_by run a entry (Some (Followed packet from to)) ranges is so =
+    let told = told_of run a entry packet from to is in
+    let far = ltb-true run.terms.ahead (entry.1.dts - a.greatest) told.is_far in
+    let after : a.greatest ≤ to = omega (arith, far, told.to_is) in
+    let last : max a.greatest to ≡ to = omega (arith, after) in
+    record {
+      slots = ap (λ (n : ℕ). n + (settled_at run to - n)) so.slots ∙ more_settled run a.greatest to ∙ ap (λ (g : ℕ). settled_at run g) last;
+      within = later a.greatest to a.accepted after so.within;
+      kept = so.kept;
+    }
+
+steady_with : (run : Run) (a : Air) (found : Result (Option (ℕ × AccessUnit)) UnitFileError) → IsInRange run.scheduled.description → Steady run a → Steady run (with_record run found a)
+unfolding with_record
+steady_with run a (Err fault) ranges so = so
+steady_with run a (Ok None) ranges so = so
+steady_with run a (Ok (Some entry)) ranges so = steady_by run a entry (air_cause run a entry) ranges refl so
+
+steady : (run : Run) (n : ℕ) (xs : List ℕ) → IsInRange run.scheduled.description → Steady run (heard run n xs)
+unfolding heard
+steady run zero xs ranges = steady_first run
+steady run (suc n) xs ranges = steady_with run (heard run n xs) (record_at (after_records n xs)) ranges (steady run n xs ranges)
+
+-- ---- causes
+
+abbrev IsOwn : Option FeedError → Type 0
+IsOwn None = ⊤
+IsOwn (Some cause) = IsOwnCause cause
+
+own_or : (a b : Option FeedError) → IsOwn a → IsOwn b → IsOwn (or_cause a b)
+unfolding or_cause
+own_or None b own other = other
+own_or (Some cause) b own other = own
+
+own_four : (empty large soon bad : Bool) → IsOwn (if empty then Some Empty else (if large then Some TooLarge else (if soon then Some TooSoon else (if bad then Some BadPts else None))))
+own_four true large soon bad = tt
+own_four false true soon bad = tt
+own_four false false true bad = tt
+own_four false false false true = tt
+own_four false false false false = tt
+
+own_itself : (largest soonest : ℕ) (u : AccessUnit) → IsOwn (own_cause largest soonest u)
+unfolding own_cause
+own_itself largest soonest u =
+    own_four (length u.bytes == 0) (nat_lt largest (length u.bytes + marks_size u.marks)) (nat_lt u.dts soonest) (is_bad_pts u.dts u.pts)
+
+own_far : (far : Bool) → IsOwn (if far then Some TooFar else None)
+own_far true = tt
+own_far false = tt
+
+own_time : (dts : ℕ) → IsOwn (time_cause false dts)
+unfolding time_cause
+own_time dts = own_far (nat_lt (2 ^ 52) dts)
+
+own_packets : (allowance : Allowance) (over : Bool) → IsOwn (packets_cause allowance over)
+own_packets (Groups g most) true = tt
+own_packets (Groups g most) false = tt
+own_packets (ByPace burst pace) true = tt
+own_packets (ByPace burst pace) false = tt
+
+own_room : (over : Option FeedError) → IsOwn over → IsOwn (room_cause false over)
+unfolding room_cause
+own_room over own = own
+
+own_unit : (l : OwnedStream) (slots capacity : ℕ) (us : List AccessUnit) (u : AccessUnit) → is_late l slots u ≡ false → is_full l slots capacity us ≡ false →
+    IsOwn (unit_cause l slots capacity us u)
+own_unit l slots capacity us u late full =
+    let over = over_cause l us u in
+    let time : IsOwn (time_cause (is_late l slots u) u.dts) = subst (λ (b : Bool). IsOwn (time_cause b u.dts)) (sym late) (own_time u.dts) in
+    let room : IsOwn (room_cause (is_full l slots capacity us) over) =
+    subst (λ (b : Bool). IsOwn (room_cause b over)) (sym full)
+    (own_room over (own_packets l.parameters.allowance (is_over l.parameters.allowance (map (timed l) us) (timed l u)))) in
+    own_or (own_cause l.parameters.size (min_next_dts_of l us) u) (or_cause (time_cause (is_late l slots u) u.dts) (room_cause (is_full l slots capacity us) over))
+    (own_itself l.parameters.size (min_next_dts_of l us) u)
+    (own_or (time_cause (is_late l slots u) u.dts) (room_cause (is_full l slots capacity us) over) time room)
+
+-- ---- a record that is near
+
+own_stream : (run : Run) (a : Air) (entry : ℕ × AccessUnit) (o : Option DescribedStream) → slice_get run.scheduled.description.streams entry.0 ≡ o → Promises run.scheduled →
+    needed_room (lead_of run) run.scheduled.description.streams ≤ run.capacity → ComesNear run a entry → Steady run a →
+    IsOwn (feed_cause run.scheduled run.capacity (job_history a.accepted a.slots) entry.0 entry.1 o)
+unfolding feed_cause
+own_stream run a entry None is promises room comes so = tt
+own_stream run a entry (Some s) is promises room comes so =
+    let d = run.scheduled in
+    let written : a.slots ≡ release run.scheduled.description.rate (lead_of run) a.greatest = omega (arith, so.slots, comes.early) in
+    let lead = lead_within d.description.streams entry.0 s is in
+    let rises = release_rises d.description.rate (lead_of run) a.greatest s.lead entry.1.dts (omega (arith, comes.in_order, comes.begun, lead)) in
+    let begun : nat_lt entry.1.dts s.lead ≡ false = le-ltb entry.1.dts s.lead (omega (arith, lead, comes.begun)) in
+    let early : nat_lt (release run.scheduled.description.rate s.lead entry.1.dts) a.slots ≡ false =
+    le-ltb (release run.scheduled.description.rate s.lead entry.1.dts) a.slots (omega (arith, written, rises)) in
+    let late : is_late (owned_stream run.scheduled entry.0 s) a.slots entry.1 ≡ false = rw (begun, early) refl in
+    let full = has_room run entry.0 a.slots a.greatest a.accepted s promises room is so.kept written so.within in
+    own_unit (owned_stream run.scheduled entry.0 s) a.slots run.capacity (units_of entry.0 a.accepted) entry.1 late full
+
+alone_by : (far tick : Bool) (cause : AirRefusal) (refused : Option FeedError) → far ≡ false → IsOwn refused →
+    IsJudgedAlone (cond far (Some cause) (cond tick None (option_map Feed refused)))
+alone_by true tick cause refused near own = absurd cc
+alone_by false true cause refused near own = tt
+alone_by false false cause None near own = tt
+alone_by false false cause (Some c) near own = own
+
+pub near_is_judged_alone : NearIsJudgedAlone
+near_is_judged_alone run n xs entry promises room comes =
+    let a = heard run n xs in
+    let so = steady run n xs promises.ranges in
+    let near : is_far_from run (heard run n xs) entry ≡ false = le-ltb run.terms.ahead (entry.1.dts - (heard run n xs).greatest) (omega (arith, comes.near)) in
+    alone_by (is_far_from run a entry) (is_tick entry) (far_cause run a entry) (unit_refusal run a entry) near
+    (own_stream run (heard run n xs) entry (slice_get run.scheduled.description.streams entry.0) refl promises room comes so)

@@ -1,0 +1,4 @@
+pub mod HalfRecords
+pub mod Writers
+pub mod Steps
+pub mod Unframing

@@ -1,0 +1,5 @@
+pub mod Frames
+pub mod OpenFrames
+pub mod Laws
+pub mod Readings
+pub mod Passing

@@ -1,0 +1,26 @@
+-- When packets arrive: ticks of 27 MHz from the stream's first byte on.
+use Rattle.std.specs.Prelude.{ℕ, ◌*◌, ◌/◌, ◌-◌, Bool, true, false, Option, Some, None}
+use Rattle.arrival.specs.Arrivals.{moment_on}
+use Rattle.arrival.specs.declared.arrival.Arrival.{Arrival}
+use Rattle.arrival.specs.declared.arrival.Arrival.TheVariants.{Unknown, AtRate, OnLines}
+use Rattle.ts_report.specs.declared.view_options.ViewOptions.{ViewOptions}
+use Rattle.ts_report.specs.Clocks.{first_byte}
+
+-- at a rate, rounded down
+abbrev pub ticks_at : ℕ → ℕ → ℕ
+ticks_at rate byte = byte * 216000000 / rate
+
+-- of a byte
+unfoldable pub moment_by : Arrival → ℕ → ℕ → Option ℕ
+moment_by Unknown origin byte = None
+moment_by (AtRate rate) origin byte = Some (ticks_at rate byte)
+moment_by (OnLines lines) origin byte = Some (moment_on lines byte - origin)
+
+-- of the packet at an index
+abbrev pub moment_at : ViewOptions → ℕ → Option ℕ
+moment_at options index = moment_by options.arrival options.origin (first_byte index)
+
+unfoldable pub has_moments : Arrival → Bool
+has_moments Unknown = false
+has_moments (AtRate rate) = true
+has_moments (OnLines lines) = true

@@ -1,0 +1,42 @@
+//! When packets arrive.
+ghost use Rattle.std.specs.Prelude.{◌≡◌};
+ghost use Rattle.ts_report.specs.Moments as spec;
+
+use crate::clocks::first_byte;
+use crate::view_options::ViewOptions;
+use arrival::Arrival;
+use clock27::Rate;
+use clock27::units::BYTE_TICKS_AT_1BPS;
+
+// The time of bytes at a rate, in ticks, rounded down.
+fn ticks_at(rate: Rate, byte: u64) -> u128
+    ensures { result ≡ spec.ticks_at rate byte }
+{
+    u128::from(byte) * BYTE_TICKS_AT_1BPS / u128::from(rate.bits_per_second())
+}
+
+/// Returns the moment of the first byte of the packet at an index, in ticks from the stream's first byte on, as packets arrive.
+#[tactic(auto, unfolding(crate::specs::Moments::moment_by))]
+pub(crate) fn moment_at(options: &ViewOptions, index: u64) -> Option<u128>
+    ensures { result ≡ spec.moment_at options.now index }
+{
+    let byte = first_byte(index);
+    match &options.arrival {
+        Arrival::Unknown => None,
+        Arrival::AtRate(rate) => Some(ticks_at(*rate, byte)),
+        Arrival::OnLines(lines) => Some(u128::from(
+            lines.moment(byte).saturating_sub(options.origin),
+        )),
+    }
+}
+
+/// Returns whether packets have moments.
+#[tactic(auto, unfolding(crate::specs::Moments::has_moments))]
+pub(crate) fn has_moments(options: &ViewOptions) -> bool
+    ensures { result ≡ spec.has_moments options.now.arrival }
+{
+    match &options.arrival {
+        Arrival::Unknown => false,
+        Arrival::AtRate(_) | Arrival::OnLines(_) => true,
+    }
+}

@@ -1,0 +1,122 @@
+-- The program for words as people type them: files without `--` before them, short names of options, a file that is written.
+use Rattle.std.specs.Prelude.{◌≡◌, ◌⊎◌, ℕ, ◌==◌, ◌&&◌, ◌||◌, not, Bool, true, false, List, length, Option, Some, None, if◌then◌else◌, codes, map, option_and_then}
+use Rattle.std.specs.Str.{bytes_eq}
+use Rattle.devices.specs.Devices.{Device, IsUntouched, Port, between}
+use Rattle.devices.specs.Files.{Files, IsAsKnown}
+use Rattle.devices.specs.Lines.{Reports}
+use Rattle.devices.specs.Runs.{LacksMemory}
+use Rattle.named_files.specs.Reports.{terminal_line}
+use Rattle.named_files.specs.Saving.{SavesFile}
+use Rattle.word_faults.specs.CommandLine.{CommandLine, Text}
+use Rattle.word_faults.specs.Commands as commands
+use Rattle.word_faults.specs.SortedWords.{are_taken, value_given, words_without}
+use Rattle.word_faults.specs.UsageReport.{AnswersWords}
+use Rattle.tsjob_cli.specs.Explaining.{ExplainsFiles}
+use Rattle.tsjob_cli.specs.FileWords.{file_words}
+use Rattle.tsjob_cli.specs.MadeJobs.{MakesJob, RunsJob, is_kept}
+use Rattle.tsjob_cli.specs.Options.{explain_words, known_for, sorting_words, usage_text}
+use Rattle.tsjob_cli.specs.declared.command.TheConstants.{SHORT_NAMES}
+
+-- 1. The words
+
+abbrev pub output_word : Text
+output_word = codes "--output"
+
+abbrev pub shorts : List commands.Short
+shorts = map commands.constant_short SHORT_NAMES
+
+-- with long names of options: the subcommand, the options, then the names of files after `--`
+abbrev pub sorted_words : List Text → List Text
+sorted_words words = commands.sorted_command sorting_words (commands.long_words shorts words)
+
+-- sorted words ask for an explanation; of all others it is known what is known of the words of `run`
+abbrev pub is_explain_word : Option Text → Bool
+is_explain_word None = false
+is_explain_word (Some w) = bytes_eq w (codes "explain")
+
+abbrev pub is_explained : List Text → Bool
+is_explained words = is_explain_word (commands.command_of sorting_words words)
+
+abbrev pub known_words : List Text → CommandLine
+known_words words = if is_explained words then explain_words else known_for words
+
+-- the file that is written; none if it is standard output
+abbrev pub unless_output : Text → Option Text
+unless_output name = if bytes_eq name (codes "-") then None else Some name
+
+abbrev pub output_file : List Text → Option Text
+output_file words = option_and_then unless_output (value_given output_word words)
+
+-- what is written is text
+abbrev pub is_text_word : Option Text → Bool
+is_text_word None = false
+is_text_word (Some w) = bytes_eq w (codes "describe") || (bytes_eq w (codes "why") || bytes_eq w (codes "explain"))
+
+abbrev pub is_text : List Text → Bool
+is_text words = is_text_word (commands.command_of sorting_words words)
+
+-- 2. What is written
+
+-- what is known of files that are written: whether one can be created, and whether standard output is a terminal
+pub record Outputs : Type 0 where
+  pub creates : List ℕ → Option Bool
+  pub shows : Option Bool
+
+abbrev pub outputs_of : (List ℕ → Option Bool) → Option Bool → Outputs
+outputs_of creates shows = record { creates = creates; shows = shows }
+
+-- no packets or units go to a terminal
+pub record IsTerminal (shows : Option Bool) (words : List Text) (input output faults : Device) (status : ℕ) : Type 0 where
+  pub binary : is_text words ≡ false
+  pub shown : IsAsKnown shows true
+  pub unread : IsUntouched input
+  pub unwritten : IsUntouched output
+  pub reports : Reports faults terminal_line
+  pub status_is : status ≡ 2
+
+abbrev pub ToOutput : Option Bool → List Text → Files → Device → Device → Device → ℕ → Type 0
+ToOutput shows words files input output faults status =
+    IsTerminal shows words input output faults status ⊎ RunsJob words files input output faults status
+
+-- what was made is written to a file, if it is to be kept
+abbrev pub Saves : Option Bool → Text → List ℕ → ℕ → Device → ℕ → Type 0
+Saves creates name bytes made faults status =
+    ((is_kept bytes made ≡ false) × ((status ≡ made) × IsUntouched faults))
+    ⊎ ((is_kept bytes made ≡ true) × SavesFile creates name bytes made faults status)
+
+pub record ToFile (creates : Option Bool) (name : Text) (words : List Text) (files : Files) (input faults : Device) (status : ℕ) : Type 0 where
+  pub bytes : List ℕ
+  pub made : ℕ
+  -- the second writer between both
+  pub told : Port
+  pub makes : MakesJob words files input (between faults.before told) bytes made
+  pub saves : Saves creates name bytes made (between told faults.after) status
+
+abbrev pub WritesTo : Outputs → Option Text → List Text → Files → Device → Device → Device → ℕ → Type 0
+WritesTo outputs None words files input output faults status = ToOutput outputs.shows words files input output faults status
+WritesTo outputs (Some name) words files input output faults status =
+    ToFile (outputs.creates name) name words files input faults status × IsUntouched output
+
+-- memory runs out for the words
+abbrev pub LacksWords : Device → Device → Device → ℕ → Type 0
+LacksWords input output faults status = LacksMemory input output faults status
+
+abbrev pub PerformsWords : Outputs → List Text → Files → Device → Device → Device → ℕ → Type 0
+PerformsWords outputs words files input output faults status =
+    WritesTo outputs (output_file words) (words_without output_word words) files input output faults status ⊎ LacksWords input output faults status
+
+-- an explanation of files, or what `run` does
+abbrev pub explains_files : List Text → Bool
+explains_files words = is_explained words && not (length (file_words words) == 0)
+
+pub record Answers (outputs : Outputs) (words : List Text) (files : Files) (input output faults : Device) (status : ℕ) : Type 0 where
+  pub explains : explains_files words ≡ true → ExplainsFiles files (file_words words) output faults status × IsUntouched input
+  pub performs : explains_files words ≡ false → PerformsWords outputs words files input output faults status
+
+-- 3. All of it, of sorted words
+
+pub record Commands (outputs : Outputs) (words : List Text) (files : Files) (input output faults : Device) (status : ℕ) : Type 0 where
+  pub taken : are_taken (known_words words) words ≡ true →
+      Answers outputs words files input output faults status ⊎ LacksWords input output faults status
+  pub other : are_taken (known_words words) words ≡ false →
+      AnswersWords (codes "tsjob") (known_words words) words usage_text input output faults status ⊎ LacksWords input output faults status

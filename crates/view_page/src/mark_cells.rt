@@ -1,0 +1,31 @@
+//! The table of the marks of units: its head, and the cells of a row.
+ghost use Rattle.std.specs.Prelude.{◌≡◌};
+ghost use Rattle.view_page.specs.MarkCells as spec;
+
+use crate::cells::{Cell, CellUnit};
+use events::MarkTotals;
+
+const MARKS: &str =
+    "</table></div><h2>Random access</h2><div class=\"wide\"><table><tr><th>PID<th class=\"word\">carries<th>units<th>random access points<th>greatest distance, ms<th>aligned\n";
+
+/// Returns the head of the table.
+#[tactic(auto, unfolding(crate::specs::MarkCells::marks_text))]
+pub(crate) fn marks_text() -> &'static str
+    ensures { result.now ≡ spec.marks_text }
+{
+    MARKS
+}
+
+/// Returns the cells of the marks of a stream's units.
+pub(crate) fn mark_cells(e: &MarkTotals) -> [Cell; 6]
+    ensures { result ≡ spec.mark_cells e.now }
+{
+    [
+        Cell::Number(u64::from(e.pid), CellUnit::Same),
+        Cell::Carried(e.pid),
+        Cell::Number(e.units, CellUnit::Same),
+        Cell::Number(e.access, CellUnit::Same),
+        Cell::Number(e.distance, CellUnit::Ticks),
+        Cell::Number(e.aligned, CellUnit::Same),
+    ]
+}
