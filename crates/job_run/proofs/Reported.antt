@@ -1,8 +1,7 @@
 -- Lines that say of a loss are reported where all are, and where not.
-use Rattle.std.proofs.Common.{◌≡◌, ◌∙◌, ◌&&◌, ◌||◌, Bool, true, false, List, [], ◌∷◌, length, ap, refl, sym, inl, inr}
+use Rattle.std.proofs.Common.{◌≡◌, ◌∙◌, ◌&&◌, ◌||◌, Bool, true, false, List, [], ◌∷◌, length, if◌then◌else◌, ap, refl, sym}
 use Rattle.std.specs.Prelude.{◌==◌, filter, not}
 use Rattle.std.specs.List.{list_any}
-use Rattle.std.proofs.lemmas.Bool.{cases_Bool}
 use Rattle.other_tables.specs.OtherTables.{other_tables}
 use Rattle.other_tables.specs.TableKinds.{is_loss}
 use Rattle.other_tables.specs.declared.tables.OtherTable.{OtherTable}
@@ -13,28 +12,22 @@ use Rattle.stream_jobs.specs.Warnings.{is_damage}
 use Rattle.stream_jobs.specs.declared.warning.Warning.{Warning}
 use Rattle.job_run.specs.FieldLines as fields
 use Rattle.job_run.specs.Laws.{StatusStays}
-use Rattle.job_run.specs.TableLines as tables
 use Rattle.job_run.specs.WarningLines.{is_open_ended, is_told}
+
+-- of an element and of what is kept after it
+one_kept : {A : Type 0} (lost : A → Bool) (keep all is_lost : Bool) (x : A) (more kept : List A) → lost x ≡ is_lost → list_any lost more ≡ list_any lost kept →
+    list_any lost (if keep && (all || is_lost) then x ∷ more else more) ≡ list_any lost (if keep then x ∷ kept else kept)
+one_kept lost false all is_lost x more kept is same = same
+one_kept lost true true is_lost x more kept is same = ap (λ (b : Bool). lost x || b) same
+one_kept lost true false true x more kept is same = ap (λ (b : Bool). lost x || b) same
+one_kept lost true false false x more kept is same = same ∙ sym (ap (λ (b : Bool). b || list_any lost kept) is)
 
 -- of what is kept, and of what is kept and lost or asked for, the same is lost
 pub any_kept : {A : Type 0} (keep lost : A → Bool) (all : Bool) (xs : List A) →
     list_any lost (filter (λ x. keep x && (all || lost x)) xs) ≡ list_any lost (filter keep xs)
-any_kept keep lost true xs = any_same keep lost xs
-  where
-    any_same : {A : Type 0} (keep lost : A → Bool) (xs : List A) → list_any lost (filter (λ x. keep x && (true || lost x)) xs) ≡ list_any lost (filter keep xs)
-    any_same keep lost [] = refl
-    any_same keep lost (x ∷ xs) = elim (cases_Bool (keep x)) [
-      | inl e ↦ rw e (ap (λ (b : Bool). lost x || b) (any_same keep lost xs))
-      | inr e ↦ rw e (any_same keep lost xs)
-    ]
-any_kept keep lost false [] = refl
-any_kept keep lost false (x ∷ xs) = elim (cases_Bool (keep x)) [
-  | inl e ↦ elim (cases_Bool (lost x)) [
-    | inl l ↦ rw (e, l) refl
-    | inr l ↦ rw (e, l) (any_kept keep lost false xs)
-  ]
-  | inr e ↦ rw e (any_kept keep lost false xs)
-]
+any_kept keep lost all [] = refl
+any_kept keep lost all (x ∷ xs) =
+    one_kept lost (keep x) all (lost x) x (filter (λ y. keep y && (all || lost y)) xs) (filter keep xs) refl (any_kept keep lost all xs)
 
 four : (s a b c d e f : Bool) → a ≡ d → b ≡ e → c ≡ f → (s || a || b || c) ≡ (s || d || e || f)
 four s a b c d e f p q r = rw (p, q, r) refl

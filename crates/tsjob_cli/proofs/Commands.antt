@@ -1,18 +1,12 @@
 -- The program for words as people type them.
 use Rattle.std.proofs.Common.{◌≡◌, ◌∙◌, ℕ, Bool, true, false, List, Option, Some, None, inl, inr, refl, sym, ap, subst}
-use Rattle.word_faults.specs.CommandLine.{CommandLine, Text}
-use Rattle.word_faults.specs.SortedWords.{are_taken, words_without}
-use Rattle.word_faults.specs.UsageReport.{AnswersWords}
+use Rattle.word_faults.specs.CommandLine.{Text}
 use Rattle.devices.specs.Devices.{Device, IsUntouched, Port, between}
-use Rattle.devices.specs.Files.{Files, IsAsKnown}
-use Rattle.devices.specs.Lines.{Reports}
-use Rattle.named_files.specs.Reports.{terminal_line}
-use Rattle.named_files.specs.Saving.{SavesFile}
-use Rattle.tsjob_cli.specs.Command.{Answers, Commands, IsTerminal, LacksWords, Outputs, PerformsWords, Saves, ToFile, ToOutput, WritesTo, explains_files, is_text, known_words, output_file, output_word}
+use Rattle.devices.specs.Files.{Files}
+use Rattle.tsjob_cli.specs.Command.{Answers, Outputs, PerformsWords, Saves, ToFile, WritesTo, explains_files, output_file, words_but_output}
 use Rattle.tsjob_cli.specs.Explaining.{ExplainsFiles}
 use Rattle.tsjob_cli.specs.FileWords.{file_words}
-use Rattle.tsjob_cli.specs.MadeJobs.{MakesJob, RunsJob, is_kept}
-use Rattle.tsjob_cli.specs.Options.{usage_text}
+use Rattle.tsjob_cli.specs.MadeJobs.{MakesJob}
 
 both : (b : Bool) → b ≡ true → b ≡ false → ⊥
 both b is unlike = let clash : true ≡ false = sym is ∙ unlike in absurd cc
@@ -23,9 +17,9 @@ to_file creates name words files input before mid after bytes made status makes 
 
 -- the name and the words are those that are asked for
 pub performed : (outputs : Outputs) (words job : List Text) (name : Option Text) (files : Files) (input output faults : Device) (status : ℕ) → name ≡ output_file words →
-    job ≡ words_without output_word words → WritesTo outputs name job files input output faults status → PerformsWords outputs words files input output faults status
+    job ≡ words_but_output words → WritesTo outputs name job files input output faults status → PerformsWords outputs words files input output faults status
 performed outputs words job name files input output faults status named is writes =
-    inl (subst (λ (n : Option Text). WritesTo outputs n (words_without output_word words) files input output faults status) named
+    inl (subst (λ (n : Option Text). WritesTo outputs n (words_but_output words) files input output faults status) named
     (subst (λ (ws : List Text). WritesTo outputs name ws files input output faults status) is writes))
 
 pub explained : (outputs : Outputs) (words : List Text) (files : Files) (input output faults : Device) (status : ℕ) → explains_files words ≡ true → IsUntouched input →

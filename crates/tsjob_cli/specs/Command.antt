@@ -1,5 +1,5 @@
 -- The program for words as people type them: files without `--` before them, short names of options, a file that is written.
-use Rattle.std.specs.Prelude.{◌≡◌, ◌⊎◌, ℕ, ◌==◌, ◌&&◌, ◌||◌, not, Bool, true, false, List, length, Option, Some, None, if◌then◌else◌, codes, map, option_and_then}
+use Rattle.std.specs.Prelude.{◌≡◌, ◌⊎◌, ℕ, ◌==◌, ◌&&◌, ◌||◌, not, Bool, true, false, List, ◌++◌, length, Option, Some, None, if◌then◌else◌, codes, map, option_and_then}
 use Rattle.std.specs.Str.{bytes_eq}
 use Rattle.devices.specs.Devices.{Device, IsUntouched, Port, between}
 use Rattle.devices.specs.Files.{Files, IsAsKnown}
@@ -12,7 +12,7 @@ use Rattle.word_faults.specs.Commands as commands
 use Rattle.word_faults.specs.SortedWords.{are_taken, value_given, words_without}
 use Rattle.word_faults.specs.UsageReport.{AnswersWords}
 use Rattle.tsjob_cli.specs.Explaining.{ExplainsFiles}
-use Rattle.tsjob_cli.specs.FileWords.{file_words}
+use Rattle.tsjob_cli.specs.FileWords.{file_words, marked_names, option_words}
 use Rattle.tsjob_cli.specs.MadeJobs.{MakesJob, RunsJob, is_kept}
 use Rattle.tsjob_cli.specs.Options.{explain_words, known_for, sorting_words, usage_text}
 use Rattle.tsjob_cli.specs.declared.command.TheConstants.{SHORT_NAMES}
@@ -45,7 +45,11 @@ abbrev pub unless_output : Text → Option Text
 unless_output name = if bytes_eq name (codes "-") then None else Some name
 
 abbrev pub output_file : List Text → Option Text
-output_file words = option_and_then unless_output (value_given output_word words)
+output_file words = option_and_then unless_output (value_given output_word (option_words words))
+
+-- the words without its option; a name of a file is no option
+abbrev pub words_but_output : List Text → List Text
+words_but_output words = words_without output_word (option_words words) ++ marked_names words
 
 -- what is written is text
 abbrev pub is_text_word : Option Text → Bool
@@ -103,7 +107,7 @@ LacksWords input output faults status = LacksMemory input output faults status
 
 abbrev pub PerformsWords : Outputs → List Text → Files → Device → Device → Device → ℕ → Type 0
 PerformsWords outputs words files input output faults status =
-    WritesTo outputs (output_file words) (words_without output_word words) files input output faults status ⊎ LacksWords input output faults status
+    WritesTo outputs (output_file words) (words_but_output words) files input output faults status ⊎ LacksWords input output faults status
 
 -- an explanation of files, or what `run` does
 abbrev pub explains_files : List Text → Bool

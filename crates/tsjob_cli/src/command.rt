@@ -9,7 +9,8 @@ ghost use Rattle.word_faults.specs.SortedWords.{are_taken};
 ghost use Rattle.word_faults.specs.UsageReport.{AnswersWords};
 
 use crate::explained_input::explain_files;
-use crate::file_words::file_words;
+use crate::file_mark::mark_place;
+use crate::file_words::{file_words, option_words};
 use crate::made_job::{MadeJob, make_job};
 use crate::options::{explain_words, known_for, sorting_words, usage};
 use crate::program::run;
@@ -18,8 +19,8 @@ use devices::{Halt, NamedFiles, OutputFiles, report_halt, report_text};
 use named_files::{TERMINAL, save_file};
 use std::alloc::{AllocError, Global};
 use word_faults::{
-    KnownWords, ShortName, answer_words, are_taken, command_of, long_words, sorted_command,
-    value_given, words_without,
+    KnownWords, ShortName, answer_words, are_taken, command_of, long_words, push_words,
+    sorted_command, value_given, words_without,
 };
 
 /// The word of the option that names the file that is written.
@@ -74,10 +75,20 @@ fn known_words(words: &[&str]) -> KnownWords
 pub fn output_file<'a>(words: &[&'a str]) -> Option<&'a str>
     ensures { option_map (λ s. s.now) result ≡ spec.output_file (map (λ s. s.now) words.now) }
 {
-    match value_given(OUTPUT_WORD, words) {
+    match value_given(OUTPUT_WORD, option_words(words)) {
         Some("-") => None,
         name => name,
     }
+}
+
+/// Returns sorted words without the option that names the file that is written.
+pub fn words_but_output<'a>(alloc: Global, words: &[&'a str]) -> Result<Vec<&'a str>, AllocError>
+    ensures { IfOk result (λ left. map (λ s. s.now) left.items ≡ spec.words_but_output (map (λ s. s.now) words.now)) }
+{
+    let (options, names) = words.split_at(mark_place(words));
+    let mut left = words_without(alloc, OUTPUT_WORD, options)?;
+    push_words(&mut left, names)?;
+    Ok(left)
 }
 
 // Whether what is written is text, and may go to a terminal.
@@ -155,7 +166,7 @@ fn perform_words<F: NamedFiles + OutputFiles, R: Source, W: Sink, E: Sink>(
         (reads R.Source input.old input.new) (writes W.Sink output.old output.new)
         (writes E.Sink faults.old faults.new) result }
 {
-    let Ok(job) = words_without(alloc, OUTPUT_WORD, words) else {
+    let Ok(job) = words_but_output(alloc, words) else {
         return report_halt(faults, Halt::Memory);
     };
     match output_file(words) {

@@ -8,6 +8,14 @@ use crate::file_mark::mark_place;
 use job_run::JobArguments;
 use std::alloc::{AllocError, Global};
 
+/// Returns the words before the names of files.
+pub fn option_words<'w, 'a>(words: &'w [&'a str]) -> &'w [&'a str]
+    ensures { map (λ s. s.now) result.now ≡ spec.option_words (map (λ s. s.now) words.now) }
+{
+    let (options, _) = words.split_at(mark_place(words));
+    options
+}
+
 /// The names of files.
 pub(crate) fn file_words<'w, 'a>(words: &'w [&'a str]) -> &'w [&'a str]
     ensures { map (λ s. s.now) result.now ≡ spec.file_words (map (λ s. s.now) words.now) }

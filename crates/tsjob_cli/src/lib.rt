@@ -18,6 +18,7 @@ mod program;
 pub mod rows;
 mod streaming;
 
-pub use command::{OUTPUT_WORD, SHORT_NAMES, output_file, run_command};
+pub use command::{OUTPUT_WORD, SHORT_NAMES, output_file, run_command, words_but_output};
+pub use file_words::option_words;
 pub use made_job::{MadeJob, make_job};
 pub use program::{report_usage, run};

@@ -5,7 +5,8 @@ use Rattle.std.specs.Str.{bytes_eq}
 use Rattle.word_faults.specs.CommandLine.{Text}
 use Rattle.word_faults.specs.Commands as commands
 use Rattle.word_faults.specs.SortedWords as sorting
-use Rattle.tsjob_cli.specs.Command.{output_word, shorts}
+use Rattle.tsjob_cli.specs.Command.{shorts, words_but_output}
+use Rattle.tsjob_cli.specs.FileWords.{option_words}
 use Rattle.tsremux_cli.specs.Options.{known_words}
 
 -- the options, each with its value, then the names of files after `--`
@@ -18,8 +19,8 @@ are_taken words = sorting.are_taken known_words words
 
 -- the words for `tsjob`, of sorted words
 abbrev pub job_words : List Text → List Text
-job_words words = codes "--whole" ∷ sorting.words_without output_word words
+job_words words = codes "--whole" ∷ words_but_output words
 
 -- only refusals are reported
 abbrev pub is_quiet : List Text → Bool
-is_quiet words = list_any (λ word. bytes_eq word (codes "--quiet")) words
+is_quiet words = list_any (λ word. bytes_eq word (codes "--quiet")) (option_words words)

@@ -7,8 +7,8 @@ ghost use Rattle.tsremux_cli.specs.Words as spec;
 
 use crate::options::known_words;
 use std::alloc::{AllocError, Global};
-use tsjob_cli::{OUTPUT_WORD, SHORT_NAMES};
-use word_faults::{are_taken, long_words, push_words, sorted_command, words_without};
+use tsjob_cli::{SHORT_NAMES, option_words, words_but_output};
+use word_faults::{are_taken, long_words, push_words, sorted_command};
 
 /// Returns the options, each with its value, then the names of files after `--`.
 pub(crate) fn sorted_words<'a>(alloc: Global, words: &[&'a str]) -> Result<Vec<&'a str>, AllocError>
@@ -29,7 +29,7 @@ pub(crate) fn all_taken(alloc: Global, words: &[&str]) -> Result<bool, AllocErro
 pub(crate) fn job_words<'a>(alloc: Global, words: &[&'a str]) -> Result<Vec<&'a str>, AllocError>
     ensures { IfOk result (λ job. map (λ s. s.now) job.items ≡ spec.job_words (map (λ s. s.now) words.now)) }
 {
-    let left = words_without(alloc, OUTPUT_WORD, words)?;
+    let left = words_but_output(alloc, words)?;
     let mut job = Vec::new(alloc);
     job.push("--whole")?;
     push_words(&mut job, &left)?;
@@ -46,5 +46,5 @@ fn have_quiet(words: &[&str]) -> bool
 pub(crate) fn is_quiet(words: &[&str]) -> bool
     ensures { result ≡ spec.is_quiet (map (λ s. s.now) words.now) }
 {
-    have_quiet(words)
+    have_quiet(option_words(words))
 }
