@@ -71,7 +71,7 @@ returns-in-Some-clause-entry c = λ e k.
     let entry = c.args.self.now in
     let unread : c.is_unread-unread.result ≡ is_unread (beginning_in e.counter packet) =
     c.is_unread-unread.ensures ∙ ap is_unread (c.beginning_in.ensures ∙ ap (λ (n : Option ℕ). beginning_in n packet) k.counter) in
-    let h = has_frames self.frames c.in-Some.frames e.framed c.in-Some.is k.frames in
+    let h = has_frames entry.frames c.in-Some.frames e.framed c.in-Some.is k.frames in
     let f = h.state in
     let n = counted_of e f.held f.tally in
     let is : AreCounted entry.seen n = framed_counted entry e f k h.is in
@@ -94,7 +94,7 @@ returns-in-Some-clause-found c = λ e k.
     let clock = c.args.clock.now in
     let index = c.args.index in
     let entry = c.args.self.now in
-    let h = has_frames self.frames c.in-Some.frames e.framed c.in-Some.is k.frames in
+    let h = has_frames entry.frames c.in-Some.frames e.framed c.in-Some.is k.frames in
     let f = h.state in
     let n = counted_of e f.held f.tally in
     let is : AreCounted entry.seen n = framed_counted entry e f k h.is in
