@@ -10,6 +10,10 @@ use Rattle.ts_report.specs.declared.entry_events.Place.{Place}
 use Rattle.ts_report.specs.declared.view_options.ViewOptions.{ViewOptions}
 use Rattle.ts_report.specs.EntryFrames.{AreCounted, Counted, frame_after, frame_events, frames_after, frames_events, frames_held}
 
+-- a frame that no list has
+abbrev pub no_part : FramePart
+no_part = record { place = 0; size = 0; ahead = 0 }
+
 -- what the buffers hold after some frames, with those that are left, and the events that are still to come
 pub record Settled (options : ViewOptions) (at : FramePlace) (window : ℕ) (place : Place) (b : CountedBuffers) (ps : List FramePart) (events : List Event) (last : Counted) (whole : List Event) : Type 0 where
   pub now : Counted

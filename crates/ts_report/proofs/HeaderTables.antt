@@ -55,7 +55,7 @@ extension_besides (IsBadPacket error) = refl
 extension_besides IsErrored = refl
 
 whole_besides : (f : FindingView) → whole_section (finding_without_body f) ≡ whole_section f
-whole_besides f = ap₂ (λ section extension. whole_by section extension f.packet) (section_besides f.pid f.begun f.what) (extension_besides f.what)
+whole_besides f = ap₂ (λ (section : Option SectionBegin) (extension : Option ℕ). whole_by section extension f.packet) (section_besides f.pid f.begun f.what) (extension_besides f.what)
 
 wrong_besides : (w : WhatView) → is_wrong (without_body w) ≡ is_wrong w
 unfolding is_wrong
@@ -85,7 +85,7 @@ finding_besides options s f =
 abbrev events_by : ViewOptions → TimesState → FindingView → Bool → Option WholeSection → Option SectionBegin → List Event
 events_by options s f wrong whole section =
     (if wrong then found.CheckWord (record { pid = unwrap_or f.pid 0; packet = f.packet }) ∷ [] else [])
-    ++ (other_events whole ++ (distance_events s (placed_if options.arrival whole) ++ begin_events s (option_and_then (placed options.arrival) section)))
+    ++ (other_events whole ++ (distance_events s.distances (placed_if options.arrival whole) ++ begin_events s (option_and_then (placed options.arrival) section)))
 
 event_besides : (options : ViewOptions) (s : TimesState) (f : FindingView) → finding_events options s (finding_without_body f) ≡ finding_events options s f
 event_besides options s f =

@@ -7,4 +7,5 @@ pub mod HeaderTables
 pub mod TablePackets
 pub mod Videos
 pub mod Frames
+pub mod Payloads
 pub mod Framings

@@ -7,6 +7,10 @@ use Rattle.tstd_rows.specs.Held.{Held}
 use Rattle.tstd_rows.specs.HeldVideo.{HoldsVideo, HoldsVideoOf, IsVideoHeld, VideoSizes}
 use Rattle.tstd_rows.specs.declared.stream_buffers.StreamBuffers.{StreamBuffers}
 use Rattle.tstd_rows.specs.declared.video_buffers.VideoBuffers.{VideoBuffers}
+use Rattle.tstd_rows.specs.declared.busy_watch.Stay.{Stay}
+use Rattle.tstd_rows.specs.Busy.{busy_under_way, leak_busy}
+use Rattle.tstd_rows.specs.VideoViewed.{last_leaked}
+use Rattle.ts_report.specs.EntryFrames.{leak_under_way}
 use Rattle.ts_report.specs.declared.video_figures.VideoFigures.{VideoFigures}
 use Rattle.ts_report.specs.declared.video_figures.VideoLimits.{VideoLimits}
 use Rattle.ts_report.specs.VideoFigures.{figures_of, figures_with, limits_of}
@@ -52,3 +56,17 @@ same_limits a b a' b' p q = rw (p, q) refl
 pub unviewed : (video : Option VideoBuffers) (rate : ℕ) (parts : List Part) → video ≡ None → HoldsVideo video None rate parts
 unviewed None rate parts is = tt
 unviewed (Some v) rate parts is = absurd cc
+
+-- how long the multiplexing buffer is not empty
+pub none_leaks : (video : Option VideoBuffers) (sizes : Option VideoSizes) (h : Held) → video ≡ None → HoldsVideo video sizes h.rate h.parts → None ≡ leak_under_way sizes h
+unfolding leak_under_way
+none_leaks None None h is k = refl
+none_leaks None (Some s) h is k = absurd k
+none_leaks (Some v) sizes h is k = absurd cc
+
+pub some_leaks : (video : Option VideoBuffers) (v : VideoBuffers) (sizes : Option VideoSizes) (h : Held) (stay : Option Stay) → video ≡ Some v → HoldsVideo video sizes h.rate h.parts →
+    ((s : VideoSizes) → IsVideoHeld v s h.rate h.parts → stay ≡ busy_under_way (leak_busy h.rate s.leak s.second h.parts) (last_leaked h.rate s.leak h.parts)) → stay ≡ leak_under_way sizes h
+unfolding leak_under_way
+some_leaks None v sizes h stay is k f = absurd cc
+some_leaks (Some w) v None h stay is k f = absurd k
+some_leaks (Some w) v (Some s) h stay is k f = let same : w ≡ v = cc in f s (subst (λ (x : VideoBuffers). IsVideoHeld x s h.rate h.parts) same k)

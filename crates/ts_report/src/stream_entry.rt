@@ -204,6 +204,22 @@ fn unit_tick(options: &ViewOptions, clock: &Option<PcrSample>, beginning: Beginn
     }
 }
 
+// How long the first byte of the unit stays that begins, where that is longer than any may.
+fn unit_stay(
+    options: &ViewOptions,
+    index: u64,
+    clock: &Option<PcrSample>,
+    limit: u64,
+    counter: Option<u8>,
+    packet: &Packet<'_>,
+) -> Option<Stay>
+    ensures { result ≡ spec.unit_stay options.now index clock.now limit counter (packet_view packet.now) }
+{
+    let size = packet.payload.unwrap_or(&[]).len() as u64;
+    let tick = unit_tick(options, clock, beginning_in(counter, packet));
+    overstay_if(options, limit, payload_byte(index, size), tick)
+}
+
 // The buffer in which a byte stays that is decoded.
 #[tactic(auto, unfolding(crate::specs::Entries::last_buffer))]
 fn last_buffer(buffers: &StreamBuffers) -> BufferKind
@@ -338,9 +354,7 @@ impl StreamEntry {
     {
         let place = self.place(index);
         let beginning = beginning_in(self.counter, packet);
-        let size = packet.payload.unwrap_or(&[]).len() as u64;
-        let tick = unit_tick(options, clock, beginning);
-        let stay = overstay_if(options, self.limit, payload_byte(index, size), tick);
+        let stay = unit_stay(options, index, clock, self.limit, self.counter, packet);
         push_ahead_if(events, &place, ahead_by(clock, beginning))?;
         let buffer = last_buffer(&self.seen.buffers);
         push_delayed_if(events, options, &place, buffer, self.limit, &stay)?;

@@ -5,7 +5,7 @@ use Rattle.std.proofs.lemmas.Grind.{flat_map-append}
 use Rattle.std.specs.Io.KnownBytes.{Appends}
 use Rattle.capture.specs.Captures.{Part, capture_of}
 use Rattle.capture.specs.Reading.{capture_by, no_bytes}
-use Rattle.events.specs.EventLines.{event_line, lines_of}
+use Rattle.events.specs.EventLines.{lines_of, timed_line}
 use Rattle.events.specs.declared.timed_event.TimedEvent.{TimedEvent}
 use Rattle.ts_report.specs.Choices.{RequestView}
 use Rattle.analysis.specs.Analysis.{is_crowded}
@@ -101,7 +101,7 @@ last_lines request json bytes found text rate good is e =
     let more = events_of (after_parts s found) e.more in
     let last = last_events rate (capture_of bytes).form (after_parts s (parts_in bytes)) (left_in bytes) in
     let same : last ≡ events_last request bytes = ap (λ (r : Option ℕ). last_events r (capture_of bytes).form (after_parts s (parts_in bytes)) (left_in bytes)) is in
-    ap (λ (t : List ℕ). settled request json found ++ t) (e.text_is ∙ flat_map-append (event_line json) more last)
+    ap (λ (t : List ℕ). settled request json found ++ t) (e.text_is ∙ flat_map-append (timed_line json) more last)
     ∙ sym (append_assoc (settled request json found) (lines_of json more) (lines_of json last))
     ∙ ap (λ (t : List ℕ). t ++ lines_of json last) (sym (lines_both json s found e.more) ∙ ap (λ (p : List Part). lines_all json s p) (sym e.parts_are))
     ∙ ap (λ (l : List TimedEvent). lines_all json s (parts_in bytes) ++ lines_of json l) same
