@@ -1,5 +1,7 @@
 -- The cells of a row.
 use Rattle.std.specs.Prelude.{ℕ, ◌-◌, ◌*◌, ◌/◌, ◌^◌, ◌==◌, min, max, nat_lt, Bool, false, if◌then◌else◌, List, ◌++◌, codes, decimal, flat_map, Option, Some, None}
+use Rattle.events.specs.declared.fault_kind.FaultSource.{FaultSource}
+use Rattle.events.specs.declared.fault_kind.FaultSource.TheVariants as sources
 use Rattle.events.specs.FileForms.{words}
 use Rattle.events.specs.Checks.{name_of, number_of}
 use Rattle.page_charts.specs.Numbers.{tenths}
@@ -7,9 +9,9 @@ use Rattle.page_charts.specs.PidLabels.{LabelsState, label_text}
 use Rattle.view_page.specs.declared.cells.CellUnit.{CellUnit}
 use Rattle.view_page.specs.declared.cells.CellUnit.TheVariants.{Same, Ticks}
 use Rattle.view_page.specs.declared.cells.CellWord.{CellWord}
-use Rattle.view_page.specs.declared.cells.CellWord.TheVariants.{Transport, Main, Multiplexing, Elementary, TransportExcess, MainExcess, MultiplexingExcess, ElementaryExcess, SystemExcess, SystemMainExcess, LateUnit, ElementaryLate, FarAhead, PcrRepetition, PcrDiscontinuity, PcrAccuracy, TableRepetition, Unclocked, SyncByte, RefusedHeader, TransportError, Continuity, CheckWord, Slip, PacketSize, EmptyInput, NoStream, OtherRate, Bytes, Packets, Millis, Nanos, BitRate, Unreferenced, Missing, Nothing}
+use Rattle.view_page.specs.declared.cells.CellWord.TheVariants.{Transport, Main, Multiplexing, Elementary, TransportExcess, MainExcess, MultiplexingExcess, ElementaryExcess, SystemExcess, SystemMainExcess, LateUnit, ElementaryLate, FarAhead, PcrRepetition, PcrDiscontinuity, PcrAccuracy, TableRepetition, Unclocked, SyncByte, RefusedHeader, TransportError, Continuity, CheckWord, Slip, PacketSize, EmptyInput, NoStream, OtherRate, Bytes, Packets, Millis, Nanos, BitRate, Unreferenced, Missing, PtsRepetition, SectionDistance, OtherTable, ScrambledTable, NoCat, NotEmpty, Delayed, NoClock, RateVaries, Nothing}
 use Rattle.view_page.specs.declared.cells.Cell.{Cell}
-use Rattle.view_page.specs.declared.cells.Cell.TheVariants.{Number, Checked, Bar, Word, CheckNumber, CheckName, Carried, Program, Form}
+use Rattle.view_page.specs.declared.cells.Cell.TheVariants.{Number, Checked, Bar, Word, CheckNumber, CheckName, Carried, Program, Source, Form}
 
 unfoldable pub word_text : CellWord → List ℕ
 word_text Transport = codes "transport"
@@ -47,6 +49,15 @@ word_text Nanos = codes "ns"
 word_text BitRate = codes "bit/s"
 word_text Unreferenced = codes "has packets, and the first tables do not name it"
 word_text Missing = codes "has no packet, and the first tables name it"
+word_text PtsRepetition = codes "PTS too long after the one before"
+word_text SectionDistance = codes "section too soon after the one before"
+word_text OtherTable = codes "section that does not belong on its PID"
+word_text ScrambledTable = codes "scrambled packet of a table"
+word_text NoCat = codes "scrambled packets, and no conditional access table"
+word_text NotEmpty = codes "buffer that is not empty for too long"
+word_text Delayed = codes "byte that is in its buffer for too long"
+word_text NoClock = codes "can't be checked: no clock references"
+word_text RateVaries = codes "can't be checked: the rate varies"
 word_text Nothing = codes ""
 
 -- numbers stop at 2^64 - 1
@@ -95,6 +106,20 @@ word_cell word = codes "<td class=\"word\">" ++ word
 abbrev pub program_cell : ℕ → List ℕ
 program_cell number = codes "<td>program " ++ decimal number
 
+abbrev pub pid_cell : ℕ → List ℕ
+pid_cell pid = codes "<td>" ++ decimal pid
+
+-- of a table on a PID
+abbrev pub table_cell : ℕ → ℕ → List ℕ
+table_cell pid table = codes "<td>" ++ (decimal pid ++ (codes ", table " ++ decimal table))
+
+-- of where a fault is
+unfoldable pub source_cell : FaultSource → List ℕ
+source_cell sources.Whole = codes "<td>"
+source_cell (sources.Stream pid) = pid_cell pid
+source_cell (sources.Program number) = program_cell number
+source_cell (sources.Table pid table) = table_cell pid table
+
 -- of what a PID carries
 unfoldable pub carried_cell : LabelsState → ℕ → List ℕ
 carried_cell labels pid = codes "<td class=\"word\">" ++ label_text labels pid
@@ -108,6 +133,7 @@ cell labels (CheckNumber check) = word_cell (number_of check)
 cell labels (CheckName check) = word_cell (name_of check)
 cell labels (Carried pid) = carried_cell labels pid
 cell labels (Program number) = program_cell number
+cell labels (Source source) = source_cell source
 cell labels (Form form) = word_cell (words form)
 
 abbrev pub row : LabelsState → List Cell → List ℕ

@@ -3,6 +3,7 @@ pub mod PageLabels
 pub mod Cells
 pub mod RowCells
 pub mod MarkCells
+pub mod SummaryCells
 pub mod InputCells
 pub mod RowTexts
 pub mod Rows

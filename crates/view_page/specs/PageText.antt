@@ -1,5 +1,5 @@
 -- The text of a page.
-use Rattle.std.specs.Prelude.{ℕ, nat_lt, if◌then◌else◌, List, [], ◌∷◌, ◌++◌, codes, decimal, flat_map}
+use Rattle.std.specs.Prelude.{ℕ, List, [], ◌∷◌, ◌++◌, codes, decimal, flat_map}
 use Rattle.page_charts.specs.declared.frame.ChartUnit.{ChartUnit}
 use Rattle.page_charts.specs.declared.frame.ChartUnit.TheVariants.{BitRate, Bytes, Time}
 use Rattle.page_charts.specs.declared.pid_curves.PidCurve.{PidCurve}
@@ -12,6 +12,7 @@ use Rattle.view_page.specs.declared.page_text.TheConstants.{APART, BACK, BUFFERS
 use Rattle.page_charts.specs.PidLabels.{LabelsState}
 use Rattle.view_page.specs.Cells.{carried_cell}
 use Rattle.view_page.specs.MarkCells.{marks_text}
+use Rattle.view_page.specs.SummaryCells.{kinds_text}
 use Rattle.view_page.specs.RowTexts.{RowTexts, StreamText}
 
 -- texts that are always the same
@@ -60,13 +61,14 @@ apart_text = APART.now
 unfoldable pub back_text : List ℕ
 back_text = BACK.now
 
--- what was read, and how many faults there are
-unfoldable pub verdict : ℕ → List ℕ
-verdict faults = if nat_lt 0 faults then codes "<span class=\"bad\">&#9650; Faults: " ++ (decimal faults ++ codes ".</span></p>\n") else codes "No fault.</p>\n"
+-- what was read
+unfoldable pub counts : ReportEnd → List ℕ
+counts end = codes "<p>" ++ (decimal end.packets ++ (codes " packets, " ++ (decimal end.refused ++ (codes " refused, " ++ (decimal end.left
+    ++ codes " bytes after the last.</p>\n")))))
 
-unfoldable pub summary : ReportEnd → ℕ → List ℕ
-summary end faults = codes "<p>" ++ (decimal end.packets ++ (codes " packets, " ++ (decimal end.refused ++ (codes " refused, " ++ (decimal end.left
-    ++ (codes " bytes after the last. " ++ verdict faults))))))
+-- and what it comes to
+abbrev pub summary : ReportEnd → List ℕ → List ℕ
+summary end verdict = counts end ++ verdict
 
 -- a picture of curves in one frame, up to the greatest value of all
 unfoldable pub one_chart : Page → ChartUnit → List PidCurve → List ℕ
@@ -90,10 +92,10 @@ unfoldable pub figures : RowTexts → List ℕ
 figures r = (buffers_text ++ r.buffers) ++ ((marks_text ++ r.marks) ++ ((systems_text ++ r.systems) ++ (clocks_text ++ r.clocks)))
 
 unfoldable pub measures : LabelsState → RowTexts → List ℕ
-measures labels r = (checks_text ++ r.checks) ++ ((faults_text ++ r.faults) ++ ((streams_text ++ flat_map (stream_row labels) r.streams) ++ figures r))
+measures labels r = (checks_text ++ r.checks) ++ ((kinds_text ++ r.kinds) ++ ((faults_text ++ r.faults) ++ ((streams_text ++ flat_map (stream_row labels) r.streams) ++ figures r)))
 
 unfoldable pub lists : RowTexts → List ℕ
 lists r = (tables_text ++ r.tables) ++ ((pids_text ++ r.pids) ++ (apart_text ++ r.apart))
 
 abbrev pub page_text : Page → List ℕ
-page_text p = front_text ++ (summary p.end p.rows.count ++ (charts p ++ (measures p.labels p.rows ++ (lists p.rows ++ back_text))))
+page_text p = front_text ++ (summary p.end p.rows.verdict ++ (charts p ++ (measures p.labels p.rows ++ (lists p.rows ++ back_text))))

@@ -1,4 +1,4 @@
--- The rows of each table of the page, as text, and the number of faults. Of a stream the row has its PID, and what it carries, before
+-- The sentences of the verdict and the rows of each table of the page, as text, and the number of faults. Of a stream the row has its PID, and what it carries, before
 -- these cells.
 use Rattle.std.specs.Prelude.{ℕ, List}
 
@@ -7,7 +7,9 @@ pub record StreamText : Type 0 where
   pub cells : List ℕ
 
 pub record RowTexts : Type 0 where
+  pub verdict : List ℕ
   pub checks : List ℕ
+  pub kinds : List ℕ
   pub streams : List StreamText
   pub buffers : List ℕ
   pub marks : List ℕ

@@ -1,10 +1,15 @@
 -- The rows that an event adds.
-use Rattle.std.specs.Prelude.{ℕ, ◌+◌, ◌-◌, ◌^◌, min, nat_lt, if◌then◌else◌, List, [], ◌∷◌, ◌++◌, flat_map}
+use Rattle.std.specs.Prelude.{◌+◌, ◌-◌, ◌^◌, min, nat_lt, if◌then◌else◌, List, [], ◌∷◌, ◌++◌, flat_map, Option, Some, None}
 use Rattle.events.specs.declared.event.Event.{Event}
 use Rattle.events.specs.declared.event.Event.TheVariants.{Input, Stream, Window, Held, Units, Excess, MainExcess, MultiplexingExcess, ElementaryExcess, SystemExcess, SystemMainExcess, Late, ElementaryLate, Ahead, PcrRepetition, PcrDiscontinuity, PcrAccuracy, TableRepetition, Unclocked, Refused, Continuity, CheckWord, Transport, Main, Multiplexing, Elementary, Marks, System, Clock, Table, Pid, Unreferenced, Missing, Check, End, Rule, Summary}
 use Rattle.events.specs.declared.event.StreamBegin.{StreamBegin}
 use Rattle.events.specs.declared.input_event.InputEvent.{InputEvent}
 use Rattle.events.specs.declared.input_event.InputEvent.TheVariants as inputs
+use Rattle.events.specs.declared.fault.Fault.{Fault}
+use Rattle.events.specs.declared.summary.SummaryEvent.{SummaryEvent}
+use Rattle.events.specs.declared.summary.SummaryEvent.TheVariants as totals
+use Rattle.events.specs.declared.summary.Verdict.{Verdict}
+use Rattle.events.specs.Faults.{fault_of}
 use Rattle.view_page.specs.declared.cells.Cell.{Cell}
 use Rattle.view_page.specs.declared.cells.CellWord.TheVariants as words
 use Rattle.view_page.specs.declared.rows.TheConstants.{MOST_FAULTS}
@@ -13,10 +18,11 @@ use Rattle.view_page.specs.RowCells.{ahead_cells, check_cells, check_word_cells,
 use Rattle.view_page.specs.InputCells.{empty_cells, no_stream_cells, other_rate_cells, packet_size_cells, slip_cells}
 use Rattle.page_charts.specs.PidLabels.{LabelsState}
 use Rattle.view_page.specs.MarkCells.{mark_cells}
+use Rattle.view_page.specs.SummaryCells.{fault_cells, sentence_text, totals_cells}
 use Rattle.view_page.specs.RowTexts.{RowTexts}
 
 abbrev pub no_rows : RowTexts
-no_rows = record { checks = []; streams = []; buffers = []; marks = []; systems = []; clocks = []; tables = []; pids = []; apart = []; faults = []; count = 0 }
+no_rows = record { verdict = []; checks = []; kinds = []; streams = []; buffers = []; marks = []; systems = []; clocks = []; tables = []; pids = []; apart = []; faults = []; count = 0 }
 
 -- a fault has a row if fewer than 100 have come before it; their number stops at 2^64 - 1
 abbrev pub with_fault : LabelsState → RowTexts → List Cell → RowTexts
@@ -24,6 +30,22 @@ with_fault labels r cells = record r {
   faults = if nat_lt r.count MOST_FAULTS then r.faults ++ row labels cells else r.faults;
   count = min (r.count + 1) (2 ^ 64 - 1);
 }
+
+-- of a rule, if it is a fault
+unfoldable pub with_rule_fault : LabelsState → RowTexts → Option Fault → RowTexts
+with_rule_fault labels r None = r
+with_rule_fault labels r (Some fault) = with_fault labels r (fault_cells fault)
+
+abbrev pub with_totals : LabelsState → RowTexts → List Cell → RowTexts
+with_totals labels r cells = record r { kinds = r.kinds ++ row labels cells }
+
+abbrev pub with_sentence : RowTexts → Verdict → RowTexts
+with_sentence r verdict = record r { verdict = r.verdict ++ sentence_text verdict }
+
+-- what the stream comes to
+unfoldable pub with_summary : LabelsState → RowTexts → SummaryEvent → RowTexts
+with_summary labels r (totals.Faults e) = with_totals labels r (totals_cells e)
+with_summary labels r (totals.Verdict e) = with_sentence r e
 
 unfoldable pub with_fault_event : LabelsState → RowTexts → Event → RowTexts
 with_fault_event labels r (Input e) = r
@@ -61,7 +83,7 @@ with_fault_event labels r (Unreferenced e) = r
 with_fault_event labels r (Missing e) = r
 with_fault_event labels r (Check e) = r
 with_fault_event labels r (End e) = r
-with_fault_event labels r (Rule e) = r
+with_fault_event labels r (Rule e) = with_rule_fault labels r (fault_of (Rule e) None)
 with_fault_event labels r (Summary e) = r
 
 -- how the bytes of the input are packets: packets of another size are no fault
@@ -115,4 +137,4 @@ with_event labels r (Missing e) = record r { apart = r.apart ++ row labels (refe
 with_event labels r (Check e) = record r { checks = r.checks ++ row labels (check_cells e) }
 with_event labels r (End e) = with_fault_event labels r (End e)
 with_event labels r (Rule e) = with_fault_event labels r (Rule e)
-with_event labels r (Summary e) = with_fault_event labels r (Summary e)
+with_event labels r (Summary e) = with_summary labels r e

@@ -2,7 +2,7 @@
 ghost use Rattle.std.specs.Prelude.{◌≡◌, ◌++◌, OnOk, flat_map, string_bytes};
 ghost use Rattle.view_page.specs.Cells as spec;
 
-use events::{Check, FileForm};
+use events::{Check, FaultSource, FileForm};
 use page_charts::{PidLabels, write_label, write_tenths};
 use std::alloc::AllocError;
 use std::fmt::Write;
@@ -52,11 +52,20 @@ pub enum CellWord {
     BitRate,
     Unreferenced,
     Missing,
+    PtsRepetition,
+    SectionDistance,
+    OtherTable,
+    ScrambledTable,
+    NoCat,
+    NotEmpty,
+    Delayed,
+    NoClock,
+    RateVaries,
     Nothing,
 }
 
 /// A cell: a number, a number that is marked if it exceeds its limit, a bar of it beside its limit, a word, the number or the
-/// name of a check, what a PID carries, a program, or what an input is that is no transport stream.
+/// name of a check, what a PID carries, a program, where a fault is, or what an input is that is no transport stream.
 #[derive(Clone, Copy)]
 pub enum Cell {
     Number(u64, CellUnit),
@@ -67,6 +76,7 @@ pub enum Cell {
     CheckName(Check),
     Carried(u16),
     Program(u16),
+    Source(FaultSource),
     Form(FileForm),
 }
 
@@ -127,6 +137,15 @@ fn word_text(word: CellWord) -> &'static str
         CellWord::BitRate => "bit/s",
         CellWord::Unreferenced => "has packets, and the first tables do not name it",
         CellWord::Missing => "has no packet, and the first tables name it",
+        CellWord::PtsRepetition => "PTS too long after the one before",
+        CellWord::SectionDistance => "section too soon after the one before",
+        CellWord::OtherTable => "section that does not belong on its PID",
+        CellWord::ScrambledTable => "scrambled packet of a table",
+        CellWord::NoCat => "scrambled packets, and no conditional access table",
+        CellWord::NotEmpty => "buffer that is not empty for too long",
+        CellWord::Delayed => "byte that is in its buffer for too long",
+        CellWord::NoClock => "can't be checked: no clock references",
+        CellWord::RateVaries => "can't be checked: the rate varies",
         CellWord::Nothing => "",
     }
 }
@@ -220,6 +239,30 @@ fn write_program(text: &mut String, number: u16) -> Result<(), AllocError>
     write!(text, "<td>program {number}")
 }
 
+fn write_pid(text: &mut String, pid: u16) -> Result<(), AllocError>
+    ensures { OnOk result (string_bytes text.new ≡ string_bytes text.old ++ spec.pid_cell pid) }
+{
+    write!(text, "<td>{pid}")
+}
+
+fn write_table(text: &mut String, pid: u16, table: u8) -> Result<(), AllocError>
+    ensures { OnOk result (string_bytes text.new ≡ string_bytes text.old ++ spec.table_cell pid table) }
+{
+    write!(text, "<td>{pid}, table {table}")
+}
+
+#[tactic(auto, unfolding(crate::specs::Cells::source_cell))]
+fn write_source(text: &mut String, source: FaultSource) -> Result<(), AllocError>
+    ensures { OnOk result (string_bytes text.new ≡ string_bytes text.old ++ spec.source_cell source) }
+{
+    match source {
+        FaultSource::Whole => text.push_str("<td>"),
+        FaultSource::Stream(pid) => write_pid(text, pid),
+        FaultSource::Program(number) => write_program(text, number),
+        FaultSource::Table(pid, table) => write_table(text, pid, table),
+    }
+}
+
 /// Appends the cell of what a PID carries.
 pub(crate) fn write_carried(
     text: &mut String,
@@ -245,6 +288,7 @@ fn write_cell(text: &mut String, labels: &PidLabels, cell: Cell) -> Result<(), A
         Cell::CheckName(check) => write_word(text, check.name()),
         Cell::Carried(pid) => write_carried(text, labels, pid),
         Cell::Program(number) => write_program(text, number),
+        Cell::Source(source) => write_source(text, source),
         Cell::Form(form) => write_word(text, form.words()),
     }
 }

@@ -2,7 +2,7 @@
 //!
 //! - [`Page`]: takes events (`Page::take`), and writes the page at the end (`Page::write`).
 //!
-//! `row_cells` and `input_cells` have the cells of an event's row, `cells` writes them, `rows` keeps the rows of the page's tables, `values` the curves,
+//! `row_cells`, `input_cells`, `mark_cells` and `summary_cells` have the cells of an event's row, `cells` writes them, `rows` keeps the rows of the page's tables, `values` the curves,
 //! `page_labels` what PIDs carry, and `html_text` writes the name of a service. Memory does not grow with
 //! the stream: curves of 512 slots, for 32 PIDs each, the first 100 faults, the rows of the last events, and the programs of
 //! PIDs with the names of their services.
@@ -17,6 +17,7 @@ mod page_labels;
 mod page_text;
 mod row_cells;
 mod rows;
+mod summary_cells;
 mod values;
 
 pub use page::Page;

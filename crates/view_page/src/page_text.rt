@@ -6,6 +6,7 @@ use crate::cells::write_carried;
 use crate::mark_cells::marks_text;
 use crate::page::Page;
 use crate::rows::{Rows, StreamRow};
+use crate::summary_cells::kinds_text;
 use events::ReportEnd;
 use page_charts::{ChartUnit, Frame, PidCurve, PidLabels, greatest_value, write_chart};
 use std::alloc::AllocError;
@@ -53,7 +54,7 @@ const CHECKS: &str =
     "<h2>Checks of ETSI TR 101 290</h2><p class=\"soft\">With the limits of <code>tsview</code>; packets are counted from 0.</p><div class=\"wide\"><table><tr><th class=\"word\">number<th class=\"word\">check<th>faults<th>first packet<th>last packet\n";
 
 const FAULTS: &str =
-    "</table></div><h2>Faults</h2><p class=\"soft\">The first 100.</p><div class=\"wide tall\"><table><tr><th class=\"word\">what<th>PID<th>packet<th>value<th>limit<th class=\"word\">unit\n";
+    "</table></div><h2>First faults</h2><p class=\"soft\">At most 100.</p><div class=\"wide tall\"><table><tr><th class=\"word\">what<th>PID<th>packet<th>value<th>limit<th class=\"word\">unit\n";
 
 const STREAMS: &str =
     "</table></div><h2>Streams</h2><div class=\"wide\"><table><tr><th>PID<th class=\"word\">carries<th>stream_type<th>out of the transport buffer, bit/s<th>main buffer, bytes\n";
@@ -182,24 +183,10 @@ fn back_text() -> &'static str
     BACK
 }
 
-#[tactic(auto, unfolding(crate::specs::PageText::verdict))]
-fn write_verdict(text: &mut String, faults: u64) -> Result<(), AllocError>
-    ensures { OnOk result (string_bytes text.new ≡ string_bytes text.old ++ spec.verdict faults) }
-{
-    if faults > 0 {
-        write!(
-            text,
-            "<span class=\"bad\">&#9650; Faults: {faults}.</span></p>\n"
-        )
-    } else {
-        text.push_str("No fault.</p>\n")
-    }
-}
-
-// What was read, and how many faults there are.
-#[tactic(auto, unfolding(crate::specs::PageText::summary))]
-fn write_summary(text: &mut String, end: ReportEnd, faults: u64) -> Result<(), AllocError>
-    ensures { OnOk result (string_bytes text.new ≡ string_bytes text.old ++ spec.summary end faults) }
+// What was read.
+#[tactic(auto, unfolding(crate::specs::PageText::counts))]
+fn write_counts(text: &mut String, end: ReportEnd) -> Result<(), AllocError>
+    ensures { OnOk result (string_bytes text.new ≡ string_bytes text.old ++ spec.counts end) }
 {
     let ReportEnd {
         packets,
@@ -208,9 +195,16 @@ fn write_summary(text: &mut String, end: ReportEnd, faults: u64) -> Result<(), A
     } = end;
     write!(
         text,
-        "<p>{packets} packets, {refused} refused, {left} bytes after the last. "
-    )?;
-    write_verdict(text, faults)
+        "<p>{packets} packets, {refused} refused, {left} bytes after the last.</p>\n"
+    )
+}
+
+// What was read, and what it comes to.
+fn write_summary(text: &mut String, end: ReportEnd, verdict: &String) -> Result<(), AllocError>
+    ensures { OnOk result (string_bytes text.new ≡ string_bytes text.old ++ spec.summary end (string_bytes verdict.now)) }
+{
+    write_counts(text, end)?;
+    text.push_str(verdict.as_str())
 }
 
 // A picture of curves in one frame.
@@ -374,6 +368,7 @@ fn write_measures(text: &mut String, labels: &PidLabels, rows: &Rows) -> Result<
     ensures { OnOk result (string_bytes text.new ≡ string_bytes text.old ++ spec.measures labels.now rows.now) }
 {
     write_table(text, checks_text(), &rows.checks)?;
+    write_table(text, kinds_text(), &rows.kinds)?;
     write_table(text, faults_text(), &rows.faults)?;
     write_streams(text, labels, &rows.streams)?;
     write_figures(text, rows)
@@ -394,7 +389,7 @@ pub(crate) fn write_page(text: &mut String, page: &Page) -> Result<(), AllocErro
     ensures { OnOk result (string_bytes text.new ≡ string_bytes text.old ++ spec.page_text page.now) }
 {
     text.push_str(front_text())?;
-    write_summary(text, page.end, page.rows.count)?;
+    write_summary(text, page.end, &page.rows.verdict)?;
     write_charts(text, page)?;
     write_measures(text, &page.labels, &page.rows)?;
     write_lists(text, &page.rows)?;

@@ -7,7 +7,7 @@ use events::{
     BufferExcess, CheckTotals, CheckWordFault, ClockFault, ClockTotals, CounterFault,
     ElementaryLate, ElementaryTotals, FarAhead, LateUnit, MainTotals, MultiplexingTotals,
     PidTotals, ProgramExcess, RefusalCause, RefusedPacket, StreamBegin, SystemTotals, TableFault,
-    TableTotals, TransportTotals, UnclockedPackets,
+    TableTotals, TransportTotals, UnclockedPackets, Untold,
 };
 
 /// Returns the cells of a stream, after its PID and what that carries.
@@ -339,6 +339,18 @@ pub(crate) fn check_word_cells(e: &CheckWordFault) -> [Cell; 6]
     ]
 }
 
+// How often a check failed, or why it can't be made.
+#[tactic(auto, unfolding(crate::specs::RowCells::result_cell))]
+fn result_cell(untold: Option<Untold>, faults: u64) -> Cell
+    ensures { result ≡ spec.result_cell untold faults }
+{
+    match untold {
+        None => Cell::Checked(faults, Some(0), CellUnit::Same),
+        Some(Untold::NoClock) => Cell::Word(CellWord::NoClock),
+        Some(Untold::VariableRate) => Cell::Word(CellWord::RateVaries),
+    }
+}
+
 /// Returns the cells of a check: its number and name, its faults, and the packets of the first and the last of them.
 pub(crate) fn check_cells(e: &CheckTotals) -> [Cell; 5]
     ensures { result ≡ spec.check_cells e.now }
@@ -346,7 +358,7 @@ pub(crate) fn check_cells(e: &CheckTotals) -> [Cell; 5]
     [
         Cell::CheckNumber(e.check),
         Cell::CheckName(e.check),
-        Cell::Checked(e.count.faults, Some(0), CellUnit::Same),
+        result_cell(e.untold, e.count.faults),
         Cell::Number(e.count.first, CellUnit::Same),
         Cell::Number(e.count.last, CellUnit::Same),
     ]

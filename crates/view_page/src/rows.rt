@@ -14,7 +14,8 @@ use crate::row_cells::{
     refused_cells, stream_cells, system_cells, table_cells, table_fault_cells, transport_cells,
     unclocked_cells,
 };
-use events::{Event, InputEvent, StreamBegin};
+use crate::summary_cells::{fault_cells, totals_cells, write_sentence};
+use events::{Event, Fault, InputEvent, StreamBegin, SummaryEvent, Verdict, fault_of};
 use page_charts::PidLabels;
 use std::alloc::{AllocError, Global};
 use std::marker::Model;
@@ -38,11 +39,13 @@ impl Model for StreamRow {
     ghost view = { λ r. record { pid = r.pid; cells = string_bytes r.cells } };
 }
 
-/// The rows of each table, and how many faults have come; 100 of them have rows.
+/// The sentences of the verdict, the rows of each table, and how many faults have come; 100 of them have rows.
 #[derive(Drop)]
 pub struct Rows {
     alloc: Global,
+    pub verdict: String,
     pub checks: String,
+    pub kinds: String,
     pub streams: Vec<StreamRow>,
     pub buffers: String,
     pub marks: String,
@@ -62,7 +65,9 @@ impl Model for Rows {
     ghost Value = { RowTexts };
 
     ghost view = { λ r. record {
+      verdict = string_bytes r.verdict;
       checks = string_bytes r.checks;
+      kinds = string_bytes r.kinds;
       streams = r.streams.items;
       buffers = string_bytes r.buffers;
       marks = string_bytes r.marks;
@@ -83,7 +88,9 @@ impl Rows {
     {
         Rows {
             alloc,
+            verdict: String::new(alloc),
             checks: String::new(alloc),
+            kinds: String::new(alloc),
             streams: Vec::new(alloc),
             buffers: String::new(alloc),
             marks: String::new(alloc),
@@ -107,6 +114,42 @@ impl Rows {
             write_row(&mut self.faults, labels, cells)
         } else {
             Ok(())
+        }
+    }
+
+    // A fault of a rule, if it is one.
+    #[tactic(auto, unfolding(crate::specs::Rows::with_rule_fault))]
+    fn take_rule(&mut self, labels: &PidLabels, fault: &Option<Fault>) -> Result<(), AllocError>
+        ensures { OnOk result (self.new ≡ spec.with_rule_fault labels.now self.old fault.now) }
+    {
+        match fault {
+            None => Ok(()),
+            Some(fault) => self.take_fault(labels, &fault_cells(fault)),
+        }
+    }
+
+    // A row of faults by kind and stream.
+    fn take_totals(&mut self, labels: &PidLabels, cells: &[Cell]) -> Result<(), AllocError>
+        ensures { OnOk result (self.new ≡ spec.with_totals labels.now self.old cells.now) }
+    {
+        write_row(&mut self.kinds, labels, cells)
+    }
+
+    // A sentence of the verdict.
+    fn take_sentence(&mut self, verdict: &Verdict) -> Result<(), AllocError>
+        ensures { OnOk result (self.new ≡ spec.with_sentence self.old verdict.now) }
+    {
+        write_sentence(&mut self.verdict, verdict)
+    }
+
+    // What the stream comes to.
+    #[tactic(auto, unfolding(crate::specs::Rows::with_summary))]
+    fn take_summary(&mut self, labels: &PidLabels, event: &SummaryEvent) -> Result<(), AllocError>
+        ensures { OnOk result (self.new ≡ spec.with_summary labels.now self.old event.now) }
+    {
+        match event {
+            SummaryEvent::Faults(e) => self.take_totals(labels, &totals_cells(e)),
+            SummaryEvent::Verdict(e) => self.take_sentence(e),
         }
     }
 
@@ -148,6 +191,7 @@ impl Rows {
             Event::Refused(e) => self.take_fault(labels, &refused_cells(e)),
             Event::Continuity(e) => self.take_fault(labels, &continuity_cells(e)),
             Event::CheckWord(e) => self.take_fault(labels, &check_word_cells(e)),
+            Event::Rule(_) => self.take_rule(labels, &fault_of(event, None)),
             _ => Ok(()),
         }
     }
@@ -220,6 +264,7 @@ impl Rows {
                 )
             }
             Event::Check(e) => write_row(&mut self.checks, labels, &check_cells(e)),
+            Event::Summary(e) => self.take_summary(labels, e),
             _ => self.take_faults(labels, event),
         }
     }

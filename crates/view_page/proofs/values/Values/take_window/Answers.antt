@@ -1,4 +1,4 @@
-use Rattle.std.proofs.Common.{◌≡◌, ◌∙◌, ℕ, ◌+◌, ◌-◌, ◌^◌, List, ap, max, min, subst}
+use Rattle.std.proofs.Common.{◌≡◌, ◌∙◌, ◌+◌, ◌-◌, ◌^◌, List, ap, max, min, subst}
 use Rattle.events.specs.Windows.{WindowView}
 use Rattle.page_charts.specs.Curves.{sample}
 use Rattle.page_charts.specs.PidCurves.{AreCurves, KeptCurve, opened, with_sample}
