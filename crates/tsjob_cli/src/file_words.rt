@@ -55,6 +55,5 @@ pub(crate) fn read_file_arguments<'a>(
     if file_words(words).is_empty() {
         return Ok(None);
     }
-    let (options, _) = words.split_at(mark_place(words));
-    Ok(unless_streamed(read_arguments(alloc, options)?))
+    Ok(unless_streamed(read_arguments(alloc, option_words(words))?))
 }
