@@ -1,7 +1,7 @@
 //! The programs of a transport stream and their elementary streams, from what a demultiplexer finds of its tables.
 //!
 //! The program association table in force names the programs (`specs/Association`), and the last program map table of
-//! each its streams (`specs/ProgramMaps`, `specs/Streams`, `specs/Programs`); the service description has its name
+//! each its streams (`specs/ProgramMaps`, `specs/MapPlaces`, `specs/Streams`, `specs/Programs`); the service description has its name
 //! (`specs/Services`), as characters (`specs/Texts`, `specs/CharacterTables`), and its original network (`specs/Networks`);
 //! the network information table has its network (`specs/NetworkInformation`). Maps and
 //! PCRs are assigned PIDs that nothing else has (`specs/PidAssignment`); PES packets of no program are counted by PID
@@ -15,7 +15,9 @@ mod character_sets;
 mod character_tables;
 mod free_pids;
 mod laws;
+mod map_changes;
 mod map_descriptors;
+mod map_places;
 mod network_information;
 mod networks;
 mod omission;
@@ -37,12 +39,13 @@ pub use free_pids::free_pid;
 pub use laws::{
     each_has_pids, findings_of_pid_zero, findings_of_the_map, maps_decide, pids_are_distinct,
 };
+pub use map_changes::{MapChanges, map_changes};
 pub use network_information::{FoundNetwork, network_surplus, stream_network};
 pub use networks::original_network;
 pub use omission::TableOmission;
 pub use pid_assignment::{ProgramPids, assigned_pids};
 pub use pid_counts::pes_counts;
-pub use program_map::{MapPart, last_program_map, map_change};
+pub use program_map::{MapPart, last_program_map};
 pub use programs::{FoundProgram, FoundPrograms, found_programs};
 pub use sections::section_on;
 pub use services::{FoundService, last_service, length_prefixed};
