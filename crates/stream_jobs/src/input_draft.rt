@@ -103,8 +103,8 @@ fn change_warnings(
     let mut warnings = Vec::new(alloc);
     push_packet_warnings(findings, &mut warnings)?;
     push_association_warning(association, findings, &mut warnings)?;
-    push_map_warnings(MapPart::NamedStreams, named, findings, &mut warnings)?;
-    push_map_warnings(MapPart::Descriptors, named, findings, &mut warnings)?;
+    push_map_warnings(alloc, MapPart::NamedStreams, named, findings, &mut warnings)?;
+    push_map_warnings(alloc, MapPart::Descriptors, named, findings, &mut warnings)?;
     Ok(warnings)
 }
 
