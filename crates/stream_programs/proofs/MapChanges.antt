@@ -104,11 +104,10 @@ first_of part p (Some last) f fs = by (differs part last (pmt_found p f))
 
 all_noted : (part : MapPart) (p : Program) (all : List FindingView) (es : List (ℕ × ℕ)) (fs : List FindingView) → p.program_number < 65_536 →
     lookup (nat_eq (map_key p)) (changes_from part all es fs) ≡ option_or (lookup (nat_eq (map_key p)) es) (later part p (program_map p all) fs)
-unfolding changes_from
+unfolding changes_from first_differing
 all_noted part p all es [] below = or_none (lookup (nat_eq (map_key p)) es) ∙ ap (option_or (lookup (nat_eq (map_key p)) es)) (none (program_map p all))
   where
     none : (o : Option PmtView) → None ≡ later part p o []
-    unfolding first_differing
     none None = refl
     none (Some last) = refl
 all_noted part p all es (f ∷ fs) below =

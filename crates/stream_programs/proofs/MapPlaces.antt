@@ -46,7 +46,7 @@ or_none o = refl
 step_by : (p : Program) (all : List FindingView) (es : List (ℕ × ℕ)) (at : ℕ) (f : FindingView) (q : Option Program) → p.program_number < 65_536 →
     slice_get all at ≡ Some f → program_found f ≡ q →
     map_there p (lookup (nat_eq (map_key p)) (places_with es q at)) all ≡ option_or (pmt_found p f) (map_there p (lookup (nat_eq (map_key p)) es) all)
-unfolding places_with
+unfolding places_with map_there
 step_by p all es at f None below here is =
     let none : pmt_found p f ≡ None = by_key p f below ∙ ap (λ (q : Option Program). cond (is_key (map_key p) q) (any_map f) None) is in
     rw none refl
@@ -54,7 +54,6 @@ step_by p all es at f (Some q) below here is = by (map_key q == map_key p) refl
   where
     by : (t : Bool) → (map_key q == map_key p) ≡ t →
         map_there p (lookup (nat_eq (map_key p)) (insert_entry nat_eq es (map_key q) at)) all ≡ option_or (pmt_found p f) (map_there p (lookup (nat_eq (map_key p)) es) all)
-    unfolding map_there
     by true e =
         let one = has_map f.pid (any_map f) q is in
         let found : pmt_found p f ≡ Some one.pmt =
@@ -85,9 +84,9 @@ all_there p all es at (f ∷ fs) below is =
     ∙ or_assoc (program_map p fs) (pmt_found p f) (map_there p (lookup (nat_eq (map_key p)) es) all)
 
 pub maps_are_there : MapsAreThere
+unfolding map_there
 maps_are_there p findings below = all_there p findings [] 0 findings below refl ∙ last (program_map p findings)
   where
     last : (o : Option PmtView) → option_or o (map_there p (lookup (nat_eq (map_key p)) []) findings) ≡ o
-    unfolding map_there
     last None = refl
     last (Some pmt) = refl

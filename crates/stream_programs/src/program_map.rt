@@ -84,7 +84,10 @@ fn pmt_in(number: u16, bytes: &[u8]) -> Option<Pmt<'_>>
 
 /// Returns the table of a program that a finding has.
 #[tactic(auto, unfolding(crate::specs::ProgramMaps::pmt_found))]
-pub(crate) fn pmt_found<'f, A: Allocator>(program: Program, finding: &'f Finding<'_, A>) -> Option<Pmt<'f>>
+pub(crate) fn pmt_found<'f, A: Allocator>(
+    program: Program,
+    finding: &'f Finding<'_, A>,
+) -> Option<Pmt<'f>>
     ensures { option_map pmt_view result ≡ spec.pmt_found program (finding_view finding.now) }
 {
     match section_on(program.pid, finding) {
