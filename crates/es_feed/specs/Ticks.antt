@@ -83,7 +83,7 @@ abbrev pub is_tick : ℕ → ℕ → Bool
 is_tick greatest late = nat_lt greatest late && nat_le late (2 ^ 52)
 
 abbrev pub with_tick : FeedView → ℕ → FeedView
-with_tick feed t = record { earliest = feed.earliest; origin = feed.origin; shown = feed.shown; ticked = t; maps = feed.maps; streams = feed.streams }
+with_tick feed t = record { earliest = feed.earliest; origin = feed.origin; shown = feed.shown; ticked = t; maps = feed.maps; streams = feed.streams; fallen = feed.fallen }
 
 abbrev pub tick : ℕ → Fed
 tick t = (255, Ok (record { dts = t; pts = t; marks = no_marks; bytes = [] }))
@@ -126,7 +126,7 @@ abbrev pub origin_by : FeedView → FoundPcr → Origin
 origin_by feed pcr = if jumps feed.shown pcr.base then origin_jumped feed.origin pcr.packet (greatest_of feed) pcr.base else feed.origin
 
 abbrev pub with_shown : FeedView → FoundPcr → FeedView
-with_shown feed pcr = record { earliest = feed.earliest; origin = origin_by feed pcr; shown = Some pcr.base; ticked = feed.ticked; maps = feed.maps; streams = feed.streams }
+with_shown feed pcr = record { earliest = feed.earliest; origin = origin_by feed pcr; shown = Some pcr.base; ticked = feed.ticked; maps = feed.maps; streams = feed.streams; fallen = feed.fallen }
 
 -- a jump is told before what it does; it is of no stream, so a number stands there that says nothing
 unfoldable pub jump_fed : Option ClockJump → Option Fed

@@ -63,6 +63,17 @@ pub struct ClockJump {
     pub after: u64,
 }
 
+/// Stamps that fall without a clock, and go on from there.
+#[derive(Clone, Copy, PartialEq, Eq)]
+pub struct Restart {
+    /// The packet where the unit begins that shows it: the units that begin in it or later go on from there.
+    pub packet: u64,
+    /// Its DTS as its header has it, modulo 2^33.
+    pub stamp: u64,
+    /// The moment at which this stamp is taken to come: the greatest DTS so far.
+    pub moment: u64,
+}
+
 /// A report in place of a unit.
 #[derive(Clone, Copy, PartialEq, Eq)]
 pub enum FeedFault {
@@ -78,4 +89,6 @@ pub enum FeedFault {
     Map(NewMap),
     /// The clock jumps.
     Clock(ClockJump),
+    /// An encoder restarts, and no clock is known.
+    Restarted(Restart),
 }
