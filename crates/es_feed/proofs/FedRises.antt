@@ -15,7 +15,7 @@ use Rattle.es_units.specs.declared.stamps.StampFault.TheVariants.{DtsNotIncreasi
 use Rattle.es_units.proofs.StampFaults.{or_none}
 use Rattle.es_feed.specs.Clocks.{is_on, jump_of}
 use Rattle.es_feed.specs.EachStream.{RiseFrom, fed_if, units_fed}
-use Rattle.es_feed.specs.Feeding.{Fed, FedStreamView, FeedView, after_at, after_found, after_one, after_place, ahead_of, at_moment, base_of, before_with, due_of, fed_at, fed_by, fed_ends, fed_last, fed_one, fed_place, fed_with, greatest_of, last_dts, map_fed, origin_after, place_from, stream_with, told_by, told_fed, told_of, unless_ahead, unless_fault, whole_by}
+use Rattle.es_feed.specs.Feeding.{Fed, FedStreamView, FeedView, after_at, after_found, after_one, after_place, ahead_of, at_moment, base_of, before_with, due_of, fed_at, fed_by, fed_ends, fed_last, fed_one, fed_place, fed_with, greatest_of, last_dts, after_unit, fed_unit, map_fed, origin_after, place_from, restart_fed, restart_in, seen_in, seen_place, stream_with, told_by, told_fed, told_of, unless_ahead, unless_fault, watched, whole_by}
 use Rattle.es_feed.specs.Maps.{clock_pid, new_map}
 use Rattle.es_feed.specs.Ticks.{after_end, after_end_at, after_late, after_passed, after_shown, after_tick, fed_end, fed_end_at, fed_late, fed_passed, fed_shown, fed_tick, is_tick, jump_fed, late_in, passed_from, tick, with_shown, without_unit}
 use Rattle.es_feed.specs.declared.due.Due.{Due}
@@ -26,6 +26,8 @@ use Rattle.es_feed.specs.declared.found_pcr.FoundPcr.{FoundPcr}
 use Rattle.es_feed.specs.declared.origin.Origin.{Origin}
 use Rattle.es_feed.proofs.FedEach.{Event, Finds, Shows, after_event, fed_event, fed_events}
 use Rattle.es_feed.proofs.FedSteps.{given_others, own_unit}
+use Rattle.es_feed.proofs.Restarts.{told_restart}
+use Rattle.es_feed.specs.Restarts.{restart_of}
 use Rattle.es_feed.proofs.ListedStreams.{AreKeys, Key, get_set_other, get_set_same, key, key_at, keys, passed, placed, set_keys}
 
 -- 1. The unit that is given
@@ -174,7 +176,7 @@ between n before unit after one two =
     ∙ append-nil (units_fed n unit)
 
 finding_steps : (feed : FeedView) (f : FindingView) (place : Option ℕ) → AreKeys (keys feed.streams) → place_from f.pid 0 feed.streams ≡ place → Steps feed (after_one feed f) (fed_one feed f)
-unfolding fed_place fed_at after_place after_at
+unfolding fed_place fed_at after_place after_at seen_place restart_of restart_fed
 finding_steps feed f None are at =
     let told = option_to_list (map_fed (new_map f feed.maps)) in
     let parts : fed_one feed f ≡ told ++ [] = rw at refl in
@@ -187,7 +189,12 @@ finding_steps feed f (Some j) are at =
     let told = option_to_list (map_fed (new_map f feed.maps)) in
     let tells = option_to_list (told_fed s f) in
     let one = option_to_list (fed_with (due_of feed) feed.origin s.number s.before w) in
-    let parts : fed_one feed f ≡ told ++ (one ++ tells) = rw (at, p.at) refl in
+    let again = restart_in (after_unit (watched feed f) f) (seen_in (watched feed f) f) in
+    let tail = option_to_list (restart_fed again) in
+    let here : fed_unit (watched feed f) f ≡ one ++ tells = rw (at, p.at) refl in
+    let parts : fed_one feed f ≡ told ++ (one ++ (tells ++ tail)) = ap (λ (xs : List Fed). told ++ (xs ++ tail)) here ∙ ap (λ (xs : List Fed). told ++ xs) (append_assoc one tells tail) in
+    let ends : (n : ℕ) → n < 255 → units_fed n (tells ++ tail) ≡ [] = λ n few.
+        flat_map-append (fed_if n) tells tail ∙ ap (λ (us : List AccessUnit). us ++ units_fed n tail) (told_fault s.number (told_by s f) n few) ∙ told_restart again n in
     gives_one feed (after_one feed f) (fed_one feed f) j s (after_found s f) w are (record {
       due = due_of feed;
       origin = feed.origin;
@@ -198,7 +205,7 @@ finding_steps feed f (Some j) are at =
       streams = rw (at, p.at) refl;
       units = λ n few.
           ap (λ (xs : List Fed). units_fed n xs) parts
-          ∙ between n told one tells (told_map (new_map f feed.maps) n few) (told_fault s.number (told_by s f) n few);
+          ∙ between n told one (tells ++ tail) (told_map (new_map f feed.maps) n few) (ends n few);
     })
 
 -- 4. A clock reference
