@@ -17,7 +17,7 @@ use Rattle.es_feed.specs.Clocks.{is_on, jump_of}
 use Rattle.es_feed.specs.EachStream.{RiseFrom, fed_if, units_fed}
 use Rattle.es_feed.specs.Feeding.{Fed, FedStreamView, FeedView, after_at, after_found, after_one, after_place, ahead_of, at_moment, base_of, before_with, due_of, fed_at, fed_by, fed_ends, fed_last, fed_one, fed_place, fed_with, greatest_of, last_dts, after_unit, fed_unit, map_fed, origin_after, place_from, restart_fed, restart_in, seen_in, seen_place, stream_with, told_by, told_fed, told_of, unless_ahead, unless_fault, watched, whole_by}
 use Rattle.es_feed.specs.Maps.{clock_pid, new_map}
-use Rattle.es_feed.specs.Ticks.{after_end, after_end_at, after_late, after_passed, after_shown, after_tick, fed_end, fed_end_at, fed_late, fed_passed, fed_shown, fed_tick, is_tick, jump_fed, late_in, passed_from, tick, with_shown, without_unit}
+use Rattle.es_feed.specs.Ticks.{after_end, after_end_at, after_late, after_passed, after_shown, after_tick, fed_end, fed_end_at, fed_late, fed_passed, fed_shown, fed_tick, is_silence, is_tick, jump_fed, last_unit, late_in, passed_from, silence, tick, with_shown, without_unit}
 use Rattle.es_feed.specs.declared.due.Due.{Due}
 use Rattle.es_feed.specs.declared.feed_fault.ClockJump.{ClockJump}
 use Rattle.es_feed.specs.declared.feed_fault.FeedFault.{FeedFault}
@@ -222,10 +222,20 @@ tick_none : (t n : ℕ) → n < 255 → units_fed n (tick t ∷ []) ≡ []
 unfolding fed_if
 tick_none t n few = rw (no_stream n few) refl
 
+silence_none : (g : FeedView) (late : ℕ) → Unitless (silence g late)
+unfolding fed_if
+silence_none g late n few = by (is_silence g late)
+  where
+    by : (t : Bool) → units_fed n (if t then (255, Err (Silent (last_unit g))) ∷ [] else []) ≡ []
+    by true = refl
+    by false = refl
+
 tick_steps : (g : FeedView) (late : ℕ) (is : Bool) → is_tick (greatest_of g) late ≡ is → Steps g (after_tick g late) (fed_tick g late)
 tick_steps g late true is =
-    let fed : fed_tick g late ≡ tick late ∷ [] = rw is refl in
-    stays g (after_tick g late) (fed_tick g late) (rw is refl) (λ n few. ap (λ (xs : List Fed). units_fed n xs) fed ∙ tick_none late n few)
+    let fed : fed_tick g late ≡ silence g late ++ tick late ∷ [] = rw is refl in
+    stays g (after_tick g late) (fed_tick g late) (rw is refl) (λ n few. ap (λ (xs : List Fed). units_fed n xs) fed
+    ∙ flat_map-append (fed_if n) (silence g late) (tick late ∷ []) ∙ ap (λ (us : List AccessUnit). us ++ units_fed n (tick late ∷ [])) (silence_none g late n few)
+    ∙ tick_none late n few)
 tick_steps g late false is =
     let fed : fed_tick g late ≡ [] = rw is refl in
     stays g (after_tick g late) (fed_tick g late) (rw is refl) (λ n few. ap (λ (xs : List Fed). units_fed n xs) fed)

@@ -3,6 +3,7 @@ use Rattle.std.proofs.Common.{◌≡◌, ◌≢◌, ◌∙◌, ◌⊎◌, ◌<�
 use Rattle.std.specs.Option.{option_to_list}
 use Rattle.std.specs.Prelude.{nat_lt}
 use Rattle.std.proofs.lemmas.Bool.Decides.{eqb_tells, nat_tests}
+use Rattle.std.proofs.lemmas.Grind.{flat_map-append}
 use Rattle.std.proofs.lemmas.List.{append-nil}
 use Rattle.pes_packet.specs.AccessUnits.{AccessUnit}
 use Rattle.demux.specs.Views.{FindingView}
@@ -17,10 +18,11 @@ use Rattle.es_feed.specs.Maps.{clock_pid, new_map}
 use Rattle.es_feed.specs.Origins.{no_origin, origin_with}
 use Rattle.es_feed.specs.Restarts.{fallen_after, origin_by, restart_of}
 use Rattle.es_feed.specs.declared.feed_fault.Restart.{Restart}
-use Rattle.es_feed.specs.Ticks.{after_end, after_end_at, after_late, after_own, after_passed, after_shown, after_tick, fed_end, fed_end_at, fed_late, fed_own, fed_passed, fed_shown, fed_tick, is_tick, jump_fed, late_in, late_of, passed_from, with_shown, without_unit}
+use Rattle.es_feed.specs.Ticks.{after_end, after_end_at, after_late, after_own, after_passed, after_shown, after_tick, fed_end, fed_end_at, fed_late, fed_own, fed_passed, fed_shown, fed_tick, is_silence, is_tick, jump_fed, last_unit, late_in, late_of, passed_from, silence, tick, with_shown, without_unit}
 use Rattle.es_feed.specs.declared.due.Due.{Due}
 use Rattle.es_feed.specs.declared.feed_fault.ClockJump.{ClockJump}
 use Rattle.es_feed.specs.declared.feed_fault.FeedFault.{FeedFault}
+use Rattle.es_feed.specs.declared.feed_fault.FeedFault.TheVariants.{Silent}
 use Rattle.es_feed.specs.declared.feed_fault.NewMap.{NewMap}
 use Rattle.es_feed.specs.declared.found_pcr.FoundPcr.{FoundPcr}
 use Rattle.es_feed.specs.declared.origin.Origin.{Origin}
@@ -145,13 +147,27 @@ Out feed next fed = Rests feed next fed ⊎ ((j : ℕ) × (s : FedStreamView) ×
 no_stream : (n : ℕ) → n < 255 → (255 == n) ≡ false
 no_stream n below = grind (arith, nat_tests)
 
+silence_none : (g : FeedView) (late n : ℕ) → units_fed n (silence g late) ≡ []
+unfolding fed_if
+silence_none g late n = by (is_silence g late)
+  where
+    by : (t : Bool) → units_fed n (if t then (255, Err (Silent (last_unit g))) ∷ [] else []) ≡ []
+    by true = refl
+    by false = refl
+
+tick_none : (g : FeedView) (late n : ℕ) → n < 255 → units_fed n (silence g late ++ tick late ∷ []) ≡ []
+unfolding fed_if
+tick_none g late n below =
+    flat_map-append (fed_if n) (silence g late) (tick late ∷ []) ∙ ap (λ (us : List AccessUnit). us ++ units_fed n (tick late ∷ [])) (silence_none g late n)
+    ∙ (rw (no_stream n below) refl)
+
 tick_rests : (g : FeedView) (late : ℕ) (is : Bool) → (g.origin ≡ no_origin → ⊥) → is_tick (greatest_of g) late ≡ is → Rests g (after_tick g late) (fed_tick g late)
 unfolding fed_if
 tick_rests g late true known is = record {
   streams = rw is refl;
   origin = rw is refl;
   earliest = rw is refl;
-  none = λ n below. rw is (rw (no_stream n below) refl);
+  none = λ n below. rw is (tick_none g late n below);
   silent = λ e. absurd (known e);
 }
 tick_rests g late false known is = record {

@@ -1,5 +1,5 @@
 -- What goes out of what a stream feeds: the records of its units and of ticks, and a line for each unit that has no moment, each loss of
--- packets, whatever else cuts units, each new map, each jump of the clock and each restart without one.
+-- packets, whatever else cuts units, each new map, each jump of the clock, each restart without one and each silence.
 use Rattle.std.specs.Prelude.{ℕ, List, [], ◌∷◌, Ok, Err, codes, slice_get, unwrap_or}
 use Rattle.std.specs.List.{flat_map}
 use Rattle.unit_records.specs.Records.{record_bytes}
@@ -9,7 +9,7 @@ pub use Rattle.es_feed.specs.EachStream.{has_fault, have_fault}
 use Rattle.es_feed.specs.Feeding.{Fed}
 use Rattle.es_feed.specs.declared.feed_fault.FeedFault.{FeedFault}
 use Rattle.es_feed.specs.declared.feed_fault.ClockJump.{ClockJump}
-use Rattle.es_feed.specs.declared.feed_fault.FeedFault.TheVariants.{Stamp, Ahead, Lost, Cut, Map, Clock, Restarted}
+use Rattle.es_feed.specs.declared.feed_fault.FeedFault.TheVariants.{Stamp, Ahead, Lost, Cut, Map, Clock, Restarted, Silent}
 use Rattle.es_feed.specs.declared.feed_fault.CutCause.{CutCause}
 use Rattle.es_feed.specs.declared.feed_fault.CutCause.TheVariants.{Scrambled, Truncated, Section, BadPes, NoPts}
 use Rattle.es_feed.specs.declared.feed_fault.CutUnits.{CutUnits}
@@ -63,6 +63,10 @@ clock_line jump = line_text (codes "clock") (jump.pid ∷ jump.packet ∷ jump.b
 abbrev pub restart_line : Restart → List ℕ
 restart_line restart = line_text (codes "restart") (restart.packet ∷ restart.stamp ∷ restart.moment ∷ [])
 
+-- no stream has a unit that is due within 10 s after this DTS, by the clock
+abbrev pub silence_line : ℕ → List ℕ
+silence_line dts = line_text (codes "silent") (dts ∷ [])
+
 unfoldable pub fault_line : ℕ → FeedFault → List ℕ
 fault_line pid (Stamp fault) = stamp_line pid fault
 fault_line pid (Ahead by) = ahead_line pid by
@@ -71,6 +75,7 @@ fault_line pid (Cut cut) = cut_line pid cut
 fault_line pid (Map map) = map_line map
 fault_line pid (Clock jump) = clock_line jump
 fault_line pid (Restarted restart) = restart_line restart
+fault_line pid (Silent dts) = silence_line dts
 
 -- the PID of the stream of a number
 abbrev pub pid_at : List ℕ → ℕ → ℕ

@@ -169,6 +169,13 @@ fn report_restart<E: Sink>(faults: &mut E, restart: Restart)
     report_line(faults, "restart", &numbers);
 }
 
+// Reports that all streams are silent after a DTS.
+fn report_silence<E: Sink>(faults: &mut E, dts: u64)
+    ensures { Reports (writes E.Sink faults.old faults.new) (spec.silence_line dts) }
+{
+    report_line(faults, "silent", &[u128::from(dts)]);
+}
+
 // Reports what is told of the stream of a PID, of a map, of the clock, or of an encoder.
 #[tactic(auto, unfolding(crate::specs::FedLines::fault_line))]
 fn report_fault<E: Sink>(faults: &mut E, pid: u16, fault: FeedFault)
@@ -182,6 +189,7 @@ fn report_fault<E: Sink>(faults: &mut E, pid: u16, fault: FeedFault)
         FeedFault::Map(map) => report_map(faults, map),
         FeedFault::Clock(jump) => report_jump(faults, jump),
         FeedFault::Restarted(restart) => report_restart(faults, restart),
+        FeedFault::Silent(dts) => report_silence(faults, dts),
     }
 }
 

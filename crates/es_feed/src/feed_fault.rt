@@ -91,4 +91,6 @@ pub enum FeedFault {
     Clock(ClockJump),
     /// An encoder restarts, and no clock is known.
     Restarted(Restart),
+    /// No stream has a unit that is due within 10 s after this DTS, by the clock.
+    Silent(u64),
 }
