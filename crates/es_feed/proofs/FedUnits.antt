@@ -19,14 +19,15 @@ use Rattle.es_feed.specs.Maps.{change_place, map_from, set_place}
 use Rattle.es_feed.specs.Origins.{base_for, no_origin, origin_with}
 use Rattle.es_feed.specs.declared.due.Due.{Due}
 use Rattle.es_feed.specs.declared.origin.Origin.{Origin}
-use Rattle.es_feed.specs.Feeding.{FedStreamView, Fed, FeedView, ahead_of, unless_ahead, unless_fault, at_moment, last_dts, base_by, base_of, origin_after, before_with, fed_with, stream_with, fed_by, whole_by, after_found, lost_by, told_by, told_fed, told_of, fault_by, unit_after, follow_after, greatest_if, due_of, with_streams, place_from, feed_with, after_at, fed_at, after_place, fed_place, after_unit, fed_unit, map_fed, after_one, fed_one, after_all, fed_all, fed_last, fed_ends, fed_to_end, greatest_of, is_fallen, restart_fed, restart_in, restarted, seen_by, seen_in, seen_of, seen_place, watched}
+use Rattle.es_feed.specs.Feeding.{FedStreamView, Fed, FeedView, ahead_of, unless_ahead, unless_fault, at_moment, last_dts, base_by, base_of, origin_after, before_with, fed_with, stream_with, fed_by, whole_by, after_found, lost_by, told_by, told_fed, told_of, fault_by, unit_after, follow_after, greatest_if, due_of, with_streams, place_from, feed_with, after_at, fed_at, after_place, fed_place, after_unit, fed_unit, map_fed, after_one, fed_one, after_all, fed_all, fed_last, fed_ends, fed_to_end, fed_found, greatest_of, is_fallen, packet_fault, packet_fed, restart_fed, restart_in, restarted, seen_by, seen_in, seen_of, seen_place, told_first, watched}
 use Rattle.es_feed.specs.EachStream.{has_fault, have_fault}
 use Rattle.es_feed.specs.Restarts.{fallen_after, origin_by, restart_of}
+use Rattle.es_feed.specs.declared.feed_fault.PacketFault.{PacketFault}
 use Rattle.es_feed.specs.declared.feed_fault.Restart.{Restart}
 use Rattle.es_feed.specs.declared.restart.Seen.{Seen}
 use Rattle.es_feed.specs.declared.restart.Seen.TheVariants.{NoUnit}
 use Rattle.es_units.proofs.UnitSteps.{uncut_carried}
-use Rattle.es_feed.specs.Laws.{FedAsCarried, FedInTurn, has_loss, is_loss}
+use Rattle.es_feed.specs.Laws.{FedAsCarried, FedInTurn, has_loss, has_packet_fault, is_loss}
 use Rattle.es_feed.proofs.Restarts.{fault_split, no_fall, no_restart}
 use Rattle.es_feed.proofs.UncutUnits.{Uncut, no_unit, past_here, uncut_step, under_cut}
 
@@ -254,18 +255,20 @@ single_after_by e o s f false follows own quiet =
     stays ∙ rw none (other_after e o s f follows other)
 
 single_fed_by : (e : ℕ) (o : Origin) (s : FedStreamView) (f : FindingView) (own : Bool) → has_pid s.units.pid f.pid ≡ own → (own ≡ true → told_by s f ≡ None) →
-    is_fallen (fed_by (due_from e) o s (whole_by s f)) ≡ false →
+    is_fallen (fed_by (due_from e) o s (whole_by s f)) ≡ false → packet_fault f ≡ None →
     fed_one (single e o s) f ≡ option_to_list (fed_by (due_from e) o s (whole_by s f))
-unfolding map_from set_place change_place map_fed place_from fed_place fed_at fed_with made_whole greatest_if told_of seen_place restart_of restart_fed
-single_fed_by e o s f true own none quiet =
+unfolding map_from set_place change_place map_fed place_from fed_place fed_at fed_with made_whole greatest_if told_of seen_place restart_of restart_fed packet_fed
+single_fed_by e o s f true own none quiet sound =
     let unit = option_to_list (fed_by (due_from e) o s (whole_by s f)) in
     let g = after_unit (watched (single e o s) f) f in
     let here : fed_unit (watched (single e o s) f) f ≡ unit ++ [] = rw (own, none refl) refl in
     let calm : restart_in g (seen_in (watched (single e o s) f) f) ≡ None =
     ap (λ (seen : Seen). restart_in g seen) (single_seen e o s f own) ∙ no_restart (greatest_of g) g.fallen (start_of (whole_by s f)) (fed_by (due_from e) o s (whole_by s f)) quiet in
-    ap₂ (λ (xs : List Fed) (r : Option Restart). xs ++ option_to_list (restart_fed r)) here calm
+    let first : told_first (single e o s) f ≡ [] = rw sound refl in
+    ap (λ (xs : List Fed). xs ++ fed_found (watched (single e o s) f) f) first
+    ∙ ap₂ (λ (xs : List Fed) (r : Option Restart). xs ++ option_to_list (restart_fed r)) here calm
     ∙ append-nil (unit ++ []) ∙ append-nil unit
-single_fed_by e o s f false own none quiet = rw (own, other_role s.units.pid f own) refl
+single_fed_by e o s f false own none quiet sound = rw (own, other_role s.units.pid f own, sound) refl
 
 neither : (a b : Bool) → (a || b) ≡ false → (a ≡ false) × (b ≡ false)
 neither true b none = absurd cc
@@ -277,6 +280,7 @@ fed_more feed f fs = append_assoc (fed_one feed f) (fed_all (after_one feed f) f
 
 -- a stream of which nothing is lost or cut
 record IsWhole (s : FedStreamView) (fs : List FindingView) : Type 0 where
+  unharmed : has_packet_fault fs ≡ false
   unlost : has_loss s.units.pid fs ≡ false
   uncut : has_cut s.units.pid fs ≡ false
   under : under_cut s.units.pid s.units.unit fs ≡ false
@@ -284,6 +288,8 @@ record IsWhole (s : FedStreamView) (fs : List FindingView) : Type 0 where
 
 -- a finding of it: nothing is told, and it is so after it too
 record IsStep (s : FedStreamView) (f : FindingView) (fs : List FindingView) : Type 0 where
+  sound : packet_fault f ≡ None
+  unharmed : has_packet_fault fs ≡ false
   silent : has_pid s.units.pid f.pid ≡ true → told_by s f ≡ None
   uncut : has_cut s.units.pid fs ≡ false
   unlost : has_loss s.units.pid fs ≡ false
@@ -303,6 +309,10 @@ whole_step_by s f false quiet own none =
     ap (λ (u : Option CarriedUnit). is_some u || (s.follow && told)) same
     ∙ other_follow s.follow (is_some s.units.unit) told quiet.follows ∙ quiet.follows ∙ ap (λ (u : Option CarriedUnit). is_some u) (sym same)
 
+no_harm : (fault : Option PacketFault) → is_some fault ≡ false → fault ≡ None
+no_harm None none = refl
+no_harm (Some fault) none = absurd cc
+
 whole_step : (s : FedStreamView) (f : FindingView) (fs : List FindingView) → IsWhole s (f ∷ fs) → IsStep s f fs
 unfolding has_cut Uncut
 whole_step s f fs whole =
@@ -310,9 +320,10 @@ whole_step s f fs whole =
     let cut = neither (is_start_cut pid (role_of pid f) fs) (has_cut pid fs) whole.uncut in
     let lost = neither (has_pid pid f.pid && is_loss (lost_by f.packet f.what)) (has_loss pid fs) whole.unlost in
     let on = uncut_step pid s.units.unit (role_of pid f) fs (sym (past_here pid s.units.unit f fs) ∙ whole.under) cut.0 in
+    let harm = neither (is_some (packet_fault f)) (has_packet_fault fs) whole.unharmed in
     let quiet : IsQuiet s f = record { follows = whole.follows; goes_on = on.1 } in
     let silent : has_pid pid f.pid ≡ true → told_by s f ≡ None = λ own. nothing_told s f quiet (no_loss (has_pid pid f.pid) (lost_by f.packet f.what) lost.0 own) in
-    record { silent = silent; uncut = cut.1; unlost = lost.1; under = on.0; follows = whole_step_by s f (has_pid pid f.pid) quiet refl silent }
+    record { sound = no_harm (packet_fault f) harm.0; unharmed = harm.1; silent = silent; uncut = cut.1; unlost = lost.1; under = on.0; follows = whole_step_by s f (has_pid pid f.pid) quiet refl silent }
 
 -- the first of units that all have moments, and the others
 timed_clear : (d : Due) (o : Origin) (n : ℕ) (before : Option ℕ) (w : Option CarriedUnit) (ws vs : List CarriedUnit) →
@@ -337,11 +348,11 @@ single_timed e o s (f ∷ fs) whole clear =
     let t = stream_with d o (after_found s f) w in
     let ends = option_to_list (ended_unit false (after_findings t.units fs).unit) in
     let later = given t.units fs ++ ends in
-    let rest : IsWhole t fs = record { unlost = step.unlost; uncut = step.uncut; under = step.under; follows = step.follows } in
+    let rest : IsWhole t fs = record { unharmed = step.unharmed; unlost = step.unlost; uncut = step.uncut; under = step.under; follows = step.follows } in
     let two = timed_clear d o s.number s.before w (given t.units fs) ends clear in
     let quiet : is_fallen (fed_by d o s w) ≡ false = no_fall (fed_by d o s w) two.0 in
     fed_more (single e o s) f fs
-    ∙ ap (λ (xs : List Fed). xs ++ fed_to_end (after_one (single e o s) f) fs) (single_fed_by e o s f (has_pid s.units.pid f.pid) refl step.silent quiet)
+    ∙ ap (λ (xs : List Fed). xs ++ fed_to_end (after_one (single e o s) f) fs) (single_fed_by e o s f (has_pid s.units.pid f.pid) refl step.silent quiet step.sound)
     ∙ ap (λ (feed : FeedView). option_to_list (fed_by d o s w) ++ fed_to_end feed fs) (single_after_by e o s f (has_pid s.units.pid f.pid) whole.follows refl quiet)
     ∙ ap (λ (xs : List Fed). option_to_list (fed_by d o s w) ++ xs) (single_timed e (origin_after d o w) t fs rest two.1)
     ∙ sym (timed_one d o s.number s.before w later)
@@ -433,12 +444,12 @@ all_ok n [] = refl
 all_ok n (u ∷ us) = all_ok n us
 
 pub as_carried : FedAsCarried
-as_carried earliest number pid fs u us uncut unlost is sound =
+as_carried earliest number pid fs u us uncut unlost unharmed is sound =
     let s : FedStreamView = record { number = number; before = None; units = none_so_far pid true; follow = false } in
     let base = distance earliest u.dts in
     let moves =
     ap (λ (ws : List CarriedUnit). timed (due_from earliest) no_origin number None ws) (sym (uncut_carried true pid fs uncut))
     ∙ moved_by_first earliest number (carried_units pid fs) u us is sound in
-    single_timed earliest no_origin s fs (record { unlost = unlost; uncut = uncut; under = no_unit pid fs; follows = refl })
+    single_timed earliest no_origin s fs (record { unharmed = unharmed; unlost = unlost; uncut = uncut; under = no_unit pid fs; follows = refl })
     (ap have_fault moves ∙ all_ok number (moved base None (u ∷ us)))
     ∙ moves

@@ -1,6 +1,6 @@
 -- The units of a description's streams from what is found of a stream, finding by finding, each at its moment as soon as it is
 -- whole.
-use Rattle.std.specs.Prelude.{ℕ, ◌+◌, ◌-◌, ◌++◌, ◌==◌, ◌&&◌, ◌||◌, not, max, nat_lt, Bool, false, if◌then◌else◌, Option, Some, None, is_none, is_some, Result, Ok, Err, List, [], ◌∷◌, slice_get, slice_set}
+use Rattle.std.specs.Prelude.{ℕ, ◌+◌, ◌-◌, ◌++◌, ◌==◌, ◌&&◌, ◌||◌, not, max, nat_lt, Bool, false, if◌then◌else◌, Option, Some, None, is_none, is_some, Result, Ok, Err, List, [], ◌∷◌, length, slice_get, slice_set}
 use Rattle.std.specs.Option.{option_to_list}
 use Rattle.pes_packet.specs.AccessUnits.{AccessUnit}
 use Rattle.demux.specs.Views.{FindingView, WhatView, IsDuplicate, BreaksCounter, IsScrambled, IsTruncated, IsSection, IsBadSection, IsPes, IsBadPes, IsBadPacket, IsErrored}
@@ -11,13 +11,15 @@ use Rattle.es_units.specs.UnitSteps.{UnitsSoFar, after_finding, ended_unit, made
 use Rattle.es_units.specs.declared.stamps.StampFault.{StampFault}
 use Rattle.es_feed.specs.declared.feed_fault.FeedFault.{FeedFault}
 use Rattle.es_feed.specs.declared.due.Due.{Due}
-use Rattle.es_feed.specs.declared.feed_fault.FeedFault.TheVariants.{Stamp, Ahead, Lost, Cut, Map, Restarted}
+use Rattle.es_feed.specs.declared.feed_fault.FeedFault.TheVariants.{Stamp, Ahead, Lost, Cut, Map, Packet, Restarted}
 use Rattle.es_feed.specs.declared.feed_fault.CutCause.{CutCause}
 use Rattle.es_feed.specs.declared.feed_fault.CutCause.TheVariants as causes
 use Rattle.es_feed.specs.declared.feed_fault.CutUnits.{CutUnits}
 use Rattle.es_feed.specs.declared.feed_fault.Loss.{Loss}
 use Rattle.es_feed.specs.declared.feed_fault.NewMap.{NewMap}
 use Rattle.es_feed.specs.declared.fed_map.FedMap.{FedMap}
+use Rattle.es_feed.specs.declared.feed_fault.PacketFault.{PacketFault}
+use Rattle.es_feed.specs.declared.feed_fault.PacketFault.TheVariants.{Bad, Errored, Rest}
 use Rattle.es_feed.specs.declared.feed_fault.Restart.{Restart}
 use Rattle.es_feed.specs.declared.origin.Origin.{Origin}
 use Rattle.es_feed.specs.declared.restart.Seen.{Seen}
@@ -286,8 +288,25 @@ after_one feed f = after_found_in (watched feed f) f
 abbrev pub fed_found : FeedView → FindingView → List Fed
 fed_found feed f = fed_unit feed f ++ option_to_list (restart_fed (restart_in (after_unit feed f) (seen_in feed f)))
 
+-- what is found on no PID: a packet that is none, one with transport_error_indicator, or bytes at the end of a stream
+unfoldable pub packet_fault_of : ℕ → WhatView → Option PacketFault
+packet_fault_of packet (IsBadPacket error) = Some (Bad packet)
+packet_fault_of packet IsErrored = Some (Errored packet)
+packet_fault_of packet (IsTruncated bytes) = Some (Rest (length bytes))
+packet_fault_of packet _ = None
+
+unfoldable pub packet_fault : FindingView → Option PacketFault
+packet_fault f = if is_some f.pid then None else packet_fault_of f.packet f.what
+
+unfoldable pub packet_fed : Option PacketFault → Option Fed
+packet_fed None = None
+packet_fed (Some fault) = Some (255, Err (Packet fault))
+
+abbrev pub told_first : FeedView → FindingView → List Fed
+told_first feed f = option_to_list (map_fed (new_map f feed.maps)) ++ option_to_list (packet_fed (packet_fault f))
+
 abbrev pub fed_one : FeedView → FindingView → List Fed
-fed_one feed f = option_to_list (map_fed (new_map f feed.maps)) ++ fed_found (watched feed f) f
+fed_one feed f = told_first feed f ++ fed_found (watched feed f) f
 
 -- 5. Findings one after another
 

@@ -9,10 +9,10 @@ use crate::due::Due;
 use crate::fed_map::{FedMap, watch};
 use crate::fed_stream::FedStream;
 use crate::fed_streams::{greatest_of, place_of, take_at};
-use crate::feed_fault::{FeedFault, NewMap, Restart};
+use crate::feed_fault::{FeedFault, NewMap, PacketFault, Restart};
 use crate::origin::Origin;
 use crate::restart::{Seen, fallen_after, origin_by, restart_of, seen_of};
-use demux::Finding;
+use demux::{Finding, What};
 use pes_packet::Unit;
 use std::alloc::{AllocError, Global};
 use std::collections::VecDeque;
@@ -77,6 +77,33 @@ fn told_map(change: Option<NewMap>) -> Option<(u8, Result<Unit, FeedFault>)>
     match change {
         None => None,
         Some(change) => Some((NO_STREAM, Err(FeedFault::Map(change)))),
+    }
+}
+
+// What a finding of no PID says of a packet, or of the end of the stream.
+#[tactic(auto, unfolding(crate::specs::Feeding::packet_fault, crate::specs::Feeding::packet_fault_of))]
+fn packet_fault(finding: &Finding<'_>) -> Option<PacketFault>
+    ensures { result ≡ spec.packet_fault (finding_view finding.now) }
+{
+    if finding.pid.is_some() {
+        return None;
+    }
+    match &finding.what {
+        What::BadPacket(_) => Some(PacketFault::Bad(finding.packet)),
+        What::Errored => Some(PacketFault::Errored(finding.packet)),
+        What::Truncated(part) => Some(PacketFault::Rest(part.bytes().len())),
+        _ => None,
+    }
+}
+
+// What is told of a packet, if it is not read.
+#[tactic(auto, unfolding(crate::specs::Feeding::packet_fed))]
+fn told_packet(fault: Option<PacketFault>) -> Option<(u8, Result<Unit, FeedFault>)>
+    ensures { result ≡ spec.packet_fed fault }
+{
+    match fault {
+        None => None,
+        Some(fault) => Some((NO_STREAM, Err(FeedFault::Packet(fault)))),
     }
 }
 
@@ -194,7 +221,8 @@ impl UnitFeed {
     }
 
     /// Takes a finding; the unit that it makes whole goes to `fed`, at its moment with the number of its stream, or why it
-    /// can't have one, and so does a loss of packets of a stream, a cut of its units, the new version of a map, or a restart.
+    /// can't have one, and so does a loss of packets of a stream, a cut of its units, the new version of a map, a packet
+    /// that is not read, or a restart.
     pub fn take(
         &mut self,
         alloc: &Global,
@@ -206,6 +234,7 @@ impl UnitFeed {
     {
         let change = watch(&mut self.maps, finding);
         push_fed(fed, told_map(change))?;
+        push_fed(fed, told_packet(packet_fault(finding)))?;
         self.take_found(alloc, finding, fed)
     }
 
