@@ -198,7 +198,7 @@ finding_steps feed f (Some j) are at =
     let here : fed_unit (watched feed f) f ≡ one ++ tells = rw (at, p.at) refl in
     let parts : fed_one feed f ≡ told ++ (one ++ (tells ++ tail)) = ap (λ (xs : List Fed). told ++ (xs ++ tail)) here ∙ ap (λ (xs : List Fed). told ++ xs) (append_assoc one tells tail) in
     let ends : (n : ℕ) → n < 255 → units_fed n (tells ++ tail) ≡ [] = λ n few.
-        flat_map-append (fed_if n) tells tail ∙ ap (λ (us : List AccessUnit). us ++ units_fed n tail) (told_fault s.number (told_by s f) n few) ∙ told_restart again n in
+    flat_map-append (fed_if n) tells tail ∙ ap (λ (us : List AccessUnit). us ++ units_fed n tail) (told_fault s.number (told_by s f) n few) ∙ told_restart again n in
     gives_one feed (after_one feed f) (fed_one feed f) j s (after_found s f) w are (record {
       due = due_of feed;
       origin = feed.origin;

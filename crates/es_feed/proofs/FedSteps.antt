@@ -82,6 +82,10 @@ after_here : (feed : FeedView) (f : FindingView) (j : ℕ) (s : FedStreamView) �
 unfolding after_place after_at
 after_here feed f j s at is = rw (at, is) refl
 
+nothing_again : option_to_list (restart_fed None) ≡ []
+unfolding restart_fed
+nothing_again = refl
+
 same_origin : (o : Origin) (r : Option Restart) → r ≡ None → origin_by o r ≡ o
 unfolding origin_by
 same_origin o r none = rw none refl
@@ -114,10 +118,6 @@ finding_gives feed f j s at is none =
       fed_is = parts ∙ ap (λ (xs : List Fed). xs ++ ((unit ++ told) ++ again)) no_map ∙ ap (λ (xs : List Fed). (unit ++ told) ++ xs) no_again
           ∙ append-nil (unit ++ told) ∙ ap (λ (xs : List Fed). unit ++ xs) no_told ∙ append-nil unit;
     }
-  where
-    nothing_again : option_to_list (restart_fed None) ≡ []
-    unfolding restart_fed
-    nothing_again = refl
 
 fed_nowhere : (feed : FeedView) (f : FindingView) → place_from f.pid 0 feed.streams ≡ None → fed_one feed f ≡ told_first feed f ++ []
 unfolding fed_place seen_place restart_of restart_fed

@@ -7,7 +7,9 @@ ghost use Rattle.devices.specs.Lines.{Reports, Tells, WritesLine};
 ghost use Rattle.es_feed.specs.FedLines as spec;
 ghost use Rattle.es_feed.specs.Records.{Puts};
 
-use crate::feed_fault::{ClockJump, CutCause, CutUnits, FeedFault, Loss, NewMap, PacketFault, Restart};
+use crate::feed_fault::{
+    ClockJump, CutCause, CutUnits, FeedFault, Loss, NewMap, PacketFault, Restart,
+};
 use crate::pending::PendingBytes;
 use crate::records::{flush, put_record};
 use counted_io::Sink;

@@ -39,7 +39,9 @@ mod unit_feed;
 
 pub use fed_map::{CurrentMap, FedMap};
 pub use fed_stream::FedStream;
-pub use feed_fault::{ClockJump, CutCause, CutUnits, FeedFault, Loss, NewMap, PacketFault, Restart};
+pub use feed_fault::{
+    ClockJump, CutCause, CutUnits, FeedFault, Loss, NewMap, PacketFault, Restart,
+};
 pub use laws::{
     fed_apart, fed_as_carried, fed_by_one_constant, fed_in_order, fed_in_turn, fed_so_far,
     fed_without_clock, ticks_are_past,
