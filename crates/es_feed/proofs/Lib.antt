@@ -1,4 +1,5 @@
 pub mod UncutUnits
+pub mod Restarts
 pub mod FedUnits
 pub mod ListedStreams
 pub mod OwnUnits

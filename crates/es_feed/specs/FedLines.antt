@@ -1,5 +1,5 @@
 -- What goes out of what a stream feeds: the records of its units and of ticks, and a line for each unit that has no moment, each loss of
--- packets, whatever else cuts units, each new map and each jump of the clock.
+-- packets, whatever else cuts units, each packet that is not read, each new map, each jump of the clock, each restart without one and each silence.
 use Rattle.std.specs.Prelude.{ℕ, List, [], ◌∷◌, Ok, Err, codes, slice_get, unwrap_or}
 use Rattle.std.specs.List.{flat_map}
 use Rattle.unit_records.specs.Records.{record_bytes}
@@ -9,12 +9,15 @@ pub use Rattle.es_feed.specs.EachStream.{has_fault, have_fault}
 use Rattle.es_feed.specs.Feeding.{Fed}
 use Rattle.es_feed.specs.declared.feed_fault.FeedFault.{FeedFault}
 use Rattle.es_feed.specs.declared.feed_fault.ClockJump.{ClockJump}
-use Rattle.es_feed.specs.declared.feed_fault.FeedFault.TheVariants.{Stamp, Ahead, Lost, Cut, Map, Clock}
+use Rattle.es_feed.specs.declared.feed_fault.FeedFault.TheVariants.{Stamp, Ahead, Lost, Cut, Map, Clock, Packet, Restarted, Silent}
 use Rattle.es_feed.specs.declared.feed_fault.CutCause.{CutCause}
 use Rattle.es_feed.specs.declared.feed_fault.CutCause.TheVariants.{Scrambled, Truncated, Section, BadPes, NoPts}
 use Rattle.es_feed.specs.declared.feed_fault.CutUnits.{CutUnits}
 use Rattle.es_feed.specs.declared.feed_fault.Loss.{Loss}
 use Rattle.es_feed.specs.declared.feed_fault.NewMap.{NewMap}
+use Rattle.es_feed.specs.declared.feed_fault.PacketFault.{PacketFault}
+use Rattle.es_feed.specs.declared.feed_fault.PacketFault.TheVariants.{Bad, Errored, Rest}
+use Rattle.es_feed.specs.declared.feed_fault.Restart.{Restart}
 use Rattle.devices.specs.Lines.{line_text}
 
 -- the record of a unit with the number of its stream
@@ -58,6 +61,20 @@ ahead_line pid by = line_text (codes "dts-ahead") (pid ∷ by ∷ [])
 abbrev pub clock_line : ClockJump → List ℕ
 clock_line jump = line_text (codes "clock") (jump.pid ∷ jump.packet ∷ jump.before ∷ jump.after ∷ [])
 
+-- a packet that is none, one in error, or bytes that are left at the end
+unfoldable pub packet_line : PacketFault → List ℕ
+packet_line (Bad packet) = line_text (codes "bad-packet") (packet ∷ [])
+packet_line (Errored packet) = line_text (codes "errored") (packet ∷ [])
+packet_line (Rest size) = line_text (codes "rest") (size ∷ [])
+
+-- without a clock, stamps fall to one that a unit has which begins in a packet: that is taken to come at a moment
+abbrev pub restart_line : Restart → List ℕ
+restart_line restart = line_text (codes "restart") (restart.packet ∷ restart.stamp ∷ restart.moment ∷ [])
+
+-- no stream has a unit that is due within 10 s after this DTS, by the clock
+abbrev pub silence_line : ℕ → List ℕ
+silence_line dts = line_text (codes "silent") (dts ∷ [])
+
 unfoldable pub fault_line : ℕ → FeedFault → List ℕ
 fault_line pid (Stamp fault) = stamp_line pid fault
 fault_line pid (Ahead by) = ahead_line pid by
@@ -65,6 +82,9 @@ fault_line pid (Lost loss) = loss_line pid loss
 fault_line pid (Cut cut) = cut_line pid cut
 fault_line pid (Map map) = map_line map
 fault_line pid (Clock jump) = clock_line jump
+fault_line pid (Packet fault) = packet_line fault
+fault_line pid (Restarted restart) = restart_line restart
+fault_line pid (Silent dts) = silence_line dts
 
 -- the PID of the stream of a number
 abbrev pub pid_at : List ℕ → ℕ → ℕ

@@ -1,5 +1,5 @@
 -- What the laws of this crate say.
-use Rattle.std.specs.Prelude.{◌≡◌, ℕ, ◌++◌, ◌&&◌, Bool, true, false, Option, None, Some, Ok, List, [], ◌∷◌, map}
+use Rattle.std.specs.Prelude.{◌≡◌, ℕ, ◌++◌, ◌&&◌, Bool, true, false, Option, None, Some, is_some, Ok, List, [], ◌∷◌, map}
 use Rattle.std.specs.List.{list_any}
 use Rattle.pes_packet.specs.AccessUnits.{AccessUnit}
 use Rattle.demux.specs.Laws.{has_pid}
@@ -9,7 +9,7 @@ use Rattle.es_units.specs.Stamps.{distance, first_fault, moved}
 use Rattle.es_units.specs.UnitSteps.{has_cut, none_so_far}
 use Rattle.demux.specs.FoundSoFar.{found_in_all}
 use Rattle.demux.specs.Stream.{StreamState}
-use Rattle.es_feed.specs.Feeding.{FeedView, after_all, fed_all, fed_to_end, feed_first, lost_by}
+use Rattle.es_feed.specs.Feeding.{FeedView, after_all, fed_all, fed_to_end, feed_first, lost_by, packet_fault}
 use Rattle.es_feed.specs.Ticks.{after_packets, fed_packets}
 use Rattle.es_feed.specs.declared.feed_fault.Loss.{Loss}
 
@@ -29,11 +29,15 @@ is_loss (Some loss) = true
 abbrev pub has_loss : ℕ → List FindingView → Bool
 has_loss pid fs = list_any (λ f. has_pid pid f.pid && is_loss (lost_by f.packet f.what)) fs
 
--- where no packet is lost, nothing cuts a unit and each unit can have a moment, what is fed of a stream are the units that its PID carries,
+-- one of the findings is a packet that is not read, or is of the bytes after the last one
+abbrev pub has_packet_fault : List FindingView → Bool
+has_packet_fault fs = list_any (λ f. is_some (packet_fault f)) fs
+
+-- where no packet is lost or not read, nothing cuts a unit and each unit can have a moment, what is fed of a stream are the units that its PID carries,
 -- moved by the constant with which the first of them is due at `earliest`
 abbrev pub FedAsCarried : Type 0
 FedAsCarried = (earliest number pid : ℕ) (fs : List FindingView) (u : AccessUnit) (us : List AccessUnit) → has_cut pid fs ≡ false → has_loss pid fs ≡ false →
-    map (λ w. w.unit) (carried_units pid fs) ≡ u ∷ us → first_fault (distance earliest u.dts) None 0 (u ∷ us) ≡ None →
+    has_packet_fault fs ≡ false → map (λ w. w.unit) (carried_units pid fs) ≡ u ∷ us → first_fault (distance earliest u.dts) None 0 (u ∷ us) ≡ None →
     fed_to_end (one_stream earliest number pid) fs ≡ map (λ x. (number, Ok x)) (moved (distance earliest u.dts) None (u ∷ us))
 
 -- where no program is known, and so no clock, what is fed of packets is what is fed of all that is found in them

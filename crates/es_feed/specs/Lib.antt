@@ -5,6 +5,7 @@ pub mod Laws
 pub mod Maps
 pub mod MovedApart
 pub mod Origins
+pub mod Restarts
 pub mod StreamFeeding
 pub mod Ticks
 pub mod Records

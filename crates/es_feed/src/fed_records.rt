@@ -7,7 +7,9 @@ ghost use Rattle.devices.specs.Lines.{Reports, Tells, WritesLine};
 ghost use Rattle.es_feed.specs.FedLines as spec;
 ghost use Rattle.es_feed.specs.Records.{Puts};
 
-use crate::feed_fault::{ClockJump, CutCause, CutUnits, FeedFault, Loss, NewMap};
+use crate::feed_fault::{
+    ClockJump, CutCause, CutUnits, FeedFault, Loss, NewMap, PacketFault, Restart,
+};
 use crate::pending::PendingBytes;
 use crate::records::{flush, put_record};
 use counted_io::Sink;
@@ -157,7 +159,38 @@ fn report_jump<E: Sink>(faults: &mut E, jump: ClockJump)
     report_line(faults, "clock", &numbers);
 }
 
-// Reports what is told of the stream of a PID, of a map, or of the clock.
+// Reports that a packet is not read, or that bytes are left at the end.
+#[tactic(auto, unfolding(crate::specs::FedLines::packet_line))]
+fn report_packet<E: Sink>(faults: &mut E, fault: PacketFault)
+    ensures { Reports (writes E.Sink faults.old faults.new) (spec.packet_line fault) }
+{
+    match fault {
+        PacketFault::Bad(packet) => report_line(faults, "bad-packet", &[u128::from(packet)]),
+        PacketFault::Errored(packet) => report_line(faults, "errored", &[u128::from(packet)]),
+        PacketFault::Rest(size) => report_line(faults, "rest", &[size as u128]),
+    }
+}
+
+// Reports that an encoder restarts.
+fn report_restart<E: Sink>(faults: &mut E, restart: Restart)
+    ensures { Reports (writes E.Sink faults.old faults.new) (spec.restart_line restart) }
+{
+    let numbers = [
+        u128::from(restart.packet),
+        u128::from(restart.stamp),
+        u128::from(restart.moment),
+    ];
+    report_line(faults, "restart", &numbers);
+}
+
+// Reports that all streams are silent after a DTS.
+fn report_silence<E: Sink>(faults: &mut E, dts: u64)
+    ensures { Reports (writes E.Sink faults.old faults.new) (spec.silence_line dts) }
+{
+    report_line(faults, "silent", &[u128::from(dts)]);
+}
+
+// Reports what is told of the stream of a PID, of a map, of the clock, or of an encoder.
 #[tactic(auto, unfolding(crate::specs::FedLines::fault_line))]
 fn report_fault<E: Sink>(faults: &mut E, pid: u16, fault: FeedFault)
     ensures { Reports (writes E.Sink faults.old faults.new) (spec.fault_line pid fault) }
@@ -169,6 +202,9 @@ fn report_fault<E: Sink>(faults: &mut E, pid: u16, fault: FeedFault)
         FeedFault::Cut(cut) => report_cut(faults, pid, cut),
         FeedFault::Map(map) => report_map(faults, map),
         FeedFault::Clock(jump) => report_jump(faults, jump),
+        FeedFault::Packet(fault) => report_packet(faults, fault),
+        FeedFault::Restarted(restart) => report_restart(faults, restart),
+        FeedFault::Silent(dts) => report_silence(faults, dts),
     }
 }
 

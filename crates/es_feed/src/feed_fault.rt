@@ -63,6 +63,28 @@ pub struct ClockJump {
     pub after: u64,
 }
 
+/// Bytes of a stream that are in no packet that can be read.
+#[derive(Clone, Copy, PartialEq, Eq)]
+pub enum PacketFault {
+    /// A packet of this index is none: it has no sync byte, or its adaptation field is refused.
+    Bad(u64),
+    /// A packet of this index has transport_error_indicator.
+    Errored(u64),
+    /// So many bytes are left at the end of the stream.
+    Rest(usize),
+}
+
+/// Stamps that fall without a clock, and go on from there.
+#[derive(Clone, Copy, PartialEq, Eq)]
+pub struct Restart {
+    /// The packet where the unit begins that shows it: the units that begin in it or later go on from there.
+    pub packet: u64,
+    /// Its DTS as its header has it, modulo 2^33.
+    pub stamp: u64,
+    /// The moment at which this stamp is taken to come: the greatest DTS so far.
+    pub moment: u64,
+}
+
 /// A report in place of a unit.
 #[derive(Clone, Copy, PartialEq, Eq)]
 pub enum FeedFault {
@@ -78,4 +100,10 @@ pub enum FeedFault {
     Map(NewMap),
     /// The clock jumps.
     Clock(ClockJump),
+    /// A packet is not read.
+    Packet(PacketFault),
+    /// An encoder restarts, and no clock is known.
+    Restarted(Restart),
+    /// No stream has a unit that is due within 10 s after this DTS, by the clock.
+    Silent(u64),
 }

@@ -322,6 +322,8 @@ impl TableWatch {
     {
         let mut found = Vec::new(self.alloc);
         let Ok(()) = self.demux.take_read(bytes, read, &mut found) else {
+            // It describes no stream any more.
+            self.demux = HeaderDemux::new(self.alloc);
             return Err(AllocError);
         };
         self.times.take_all(options, found.as_slice(), events)

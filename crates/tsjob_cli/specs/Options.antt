@@ -22,9 +22,12 @@ barred_word true = None
 barred_word false = Some (codes "--stream")
 
 -- a subcommand, or the mark of names of files, may stand beside the options
+abbrev pub known_but_one : Option Text → CommandLine
+known_but_one barred =
+    known_but barred options (codes "describe" ∷ codes "units" ∷ codes "why" ∷ codes "explain" ∷ codes "--" ∷ []) (codes "-V" ∷ []) None
+
 abbrev pub known_words : Bool → CommandLine
-known_words takes_stream =
-    known_but (barred_word takes_stream) options (codes "describe" ∷ codes "units" ∷ codes "why" ∷ codes "explain" ∷ codes "--" ∷ []) (codes "-V" ∷ []) None
+known_words takes_stream = known_but_one (barred_word takes_stream)
 
 -- words before they are sorted
 abbrev pub sorting_words : CommandLine

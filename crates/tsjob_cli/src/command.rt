@@ -1,5 +1,5 @@
 //! The program for words as people type them: files without `--` before them, short names of options, a file that is written.
-ghost use Rattle.std.specs.Prelude.{◌≡◌, IfOk, true, false, codes, map, option_map};
+ghost use Rattle.std.specs.Prelude.{◌≡◌, ◌⊎◌, IfOk, true, false, codes, map, option_map};
 ghost use Rattle.devices.specs.Devices.{reads, writes};
 ghost use Rattle.devices.specs.Files.{files_of};
 ghost use Rattle.tsjob_cli.specs.Command as spec;

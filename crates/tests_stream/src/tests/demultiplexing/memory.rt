@@ -24,7 +24,7 @@ fn push_again(
     stream: &[u8],
     left: usize,
 ) -> Option<bool> {
-    let size = 65_472usize.saturating_sub(left.saturating_mul(128));
+    let size = 65_472usize.saturating_sub(left.saturating_mul(512));
     let block: Vec<u8, &LocalHeap> = Vec::with_capacity(heap, size).ok()?;
     let first = push(demux, stream);
     drop(block);

@@ -17,8 +17,8 @@ use Rattle.ts_report.proofs.stream_entry.StreamEntry.enter.Goals as goal
 
 -- by PES packets
 
-pub returns-in-None-clause-entry : goal.returns-in-None-clause-entry
-returns-in-None-clause-entry c = λ e k.
+pub returns-in_ok-enter_whole-in-None-clause-entry : goal.returns-in_ok-enter_whole-in-None-clause-entry
+returns-in_ok-enter_whole-in-None-clause-entry c = λ e k.
     let options = c.args.options.now in
     let packet = packet_view c.args.packet.now in
     let clock = c.args.clock.now in
@@ -41,8 +41,8 @@ returns-in-None-clause-entry c = λ e k.
     ∙ ap (λ (x : Arriving). with_video e.video_tally (video_of e.video e.held options.arrival x) (video_unit_of e.video e.held options.arrival x)) same in
     whole_entered entry _ options index c.args.window clock e packet k none refl refl refl c.in-None.is refl refl counted holds tallied
 
-pub returns-in-None-clause-found : goal.returns-in-None-clause-found
-returns-in-None-clause-found c = λ e k.
+pub returns-in_ok-enter_whole-in-None-clause-found : goal.returns-in_ok-enter_whole-in-None-clause-found
+returns-in_ok-enter_whole-in-None-clause-found c = λ e k.
     let options = c.args.options.now in
     let packet = packet_view c.args.packet.now in
     let clock = c.args.clock.now in
@@ -62,8 +62,8 @@ returns-in-None-clause-found c = λ e k.
 
 -- by access units
 
-pub returns-in-Some-clause-entry : goal.returns-in-Some-clause-entry
-returns-in-Some-clause-entry c = λ e k.
+pub returns-in_ok-enter-in-Some-clause-entry : goal.returns-in_ok-enter-in-Some-clause-entry
+returns-in_ok-enter-in-Some-clause-entry c = λ e k.
     let options = c.args.options.now in
     let packet = packet_view c.args.packet.now in
     let clock = c.args.clock.now in
@@ -87,8 +87,8 @@ returns-in-Some-clause-entry c = λ e k.
     c.in-Some.frames.tick f.tick n unread k.limit same h.walk h.tick (c.in_ok-enter-in-Some.ensures.video n e.video is video) in
     framed_entered entry _ options index c.args.window clock e packet f c.enter.new.self k h.is refl refl refl refl refl refl refl walk tick counted holds
 
-pub returns-in-Some-clause-found : goal.returns-in-Some-clause-found
-returns-in-Some-clause-found c = λ e k.
+pub returns-in_ok-enter-in-Some-clause-found : goal.returns-in_ok-enter-in-Some-clause-found
+returns-in_ok-enter-in-Some-clause-found c = λ e k.
     let options = c.args.options.now in
     let packet = packet_view c.args.packet.now in
     let clock = c.args.clock.now in

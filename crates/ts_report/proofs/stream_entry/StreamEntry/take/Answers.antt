@@ -27,7 +27,7 @@ returns-clause-entry c = λ e k.
     c.unit_stay-stay.ensures ∙ ap₂ (λ (l : ℕ) (n : Option ℕ). unit_stay options index clock l n packet) k.limit k.counter in
     let beginning : c.beginning_in-beginning.result ≡ beginning_in e.counter packet =
     c.beginning_in-beginning.ensures ∙ ap (λ (n : Option ℕ). beginning_in n packet) k.counter in
-    entry_counted c.enter.new.self _ options index c.args.window clock e packet s refl refl (c.counter_after.ensures ∙ ap (λ (n : Option ℕ). counter_after n packet) s.counter) refl refl refl
+    entry_counted c.enter.new.self _ options index c.args.window clock e packet s refl refl (c.counter_after-self.ensures ∙ ap (λ (n : Option ℕ). counter_after n packet) s.counter) refl refl refl
     c.add_delayed_if.ensures.buffers c.add_delayed_if.ensures.tally
     (c.add_delayed_if.ensures.delayed ∙ ap (λ (o : Option Stay). more c.enter.new.self.seen.delayed (if is_some o then 1 else 0)) stay)
     (c.add_packet.ensures ∙ ap (λ (b : Beginning). with_beginning c.enter.new.self.mark_tally b packet) beginning)

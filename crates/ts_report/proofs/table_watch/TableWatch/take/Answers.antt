@@ -1,4 +1,4 @@
-use Rattle.std.proofs.Common.{◌≡◌, ◌∙◌, List, ap, map}
+use Rattle.std.proofs.Common.{◌≡◌, ◌∙◌, ◌++◌, List, ap, map}
 use Rattle.demux.specs.Bodies.{all_without_body}
 use Rattle.demux.specs.Shown.{finding_view}
 use Rattle.demux.specs.Stream.{found_in}
