@@ -48,7 +48,7 @@ same_rest a m b n low below e = omega (arith, low, below, e)
 
 pub same_program : (p q : Program) → p.program_number < 65_536 → q.program_number < 65_536 → map_key p ≡ map_key q → p ≡ q
 same_program p q low below e =
-    ap₂ (λ (number pid : ℕ). record { program_number = number; pid = pid })
+    ap₂ (λ (number pid : ℕ). (let r : Program = record { program_number = number; pid = pid } in r))
     (same_rest p.pid p.program_number q.pid q.program_number low below e) (same_pid p.pid p.program_number q.pid q.program_number low below e)
 
 -- 3. The table that a finding has, by the program that it is of
@@ -58,33 +58,40 @@ abbrev pub is_key : ℕ → Option Program → Bool
 is_key key None = false
 is_key key (Some q) = map_key q == key
 
+apart : (m n : ℕ) → m ≡ n → (m == n) ≡ false → ⊥
+apart m n same no = grind (arith, nat_tests)
+
 by_fields : (pid m b n : ℕ) (pmt : Option PmtView) (k u v : Bool) → m < 65_536 → n < 65_536 → ((pid * 65_536 + m) == (b * 65_536 + n)) ≡ k → (pid == b) ≡ u → (m == n) ≡ v →
     cond u (cond v pmt None) None ≡ cond k pmt None
 by_fields pid m b n pmt true true true low below e f g = refl
 by_fields pid m b n pmt true true false low below e f g =
-    absurd (let same = same_rest pid m b n low below (same_number _ _ e) in grind (arith, nat_tests))
+    absurd (apart m n (same_rest pid m b n low below (same_number (pid * 65_536 + m) (b * 65_536 + n) e)) g)
 by_fields pid m b n pmt true false v low below e f g =
-    absurd (let same = same_pid pid m b n low below (same_number _ _ e) in grind (arith, nat_tests))
+    absurd (apart pid b (same_pid pid m b n low below (same_number (pid * 65_536 + m) (b * 65_536 + n) e)) f)
 by_fields pid m b n pmt false true true low below e f g =
-    absurd (let one = same_number pid b f in let other = same_number m n g in grind (arith, nat_tests))
+    absurd (apart (pid * 65_536 + m) (b * 65_536 + n) (ap₂ (λ (i j : ℕ). i * 65_536 + j) (same_number pid b f) (same_number m n g)) e)
 by_fields pid m b n pmt false true false low below e f g = refl
 by_fields pid m b n pmt false false v low below e f g = refl
 
+small_number : (m : ℕ) → nat_lt m 65_536 ≡ true → m < 65_536
+small_number m is = grind (arith, nat_tests)
+
+not_equal : (m n : ℕ) (t : Bool) → nat_lt m 65_536 ≡ false → n < 65_536 → (m == n) ≡ t → t ≡ false
+not_equal m n false over below e = refl
+not_equal m n true over below e = absurd (grind (arith, nat_tests))
+
 large : (m n : ℕ) → nat_lt m 65_536 ≡ false → n < 65_536 → (m == n) ≡ false
-large m n over below = by (m == n) refl
-  where
-    by : (t : Bool) → (m == n) ≡ t → t ≡ false
-    by false e = refl
-    by true e = absurd (grind (arith, nat_tests))
+large m n over below = not_equal m n (m == n) over below refl
 
 by_number : (p : Program) (pid : ℕ) (pmt : PmtView) (small : Bool) → p.program_number < 65_536 → nat_lt pmt.header.table_id_extension 65_536 ≡ small →
     cond (pid == p.pid) (cond (pmt.header.table_id_extension == p.program_number) (Some pmt) None) None
     ≡ cond (is_key (map_key p) (cond small (Some (record { program_number = pmt.header.table_id_extension; pid = pid })) None)) (Some pmt) None
 by_number p pid pmt true below is =
-    by_fields pid pmt.header.table_id_extension p.pid p.program_number (Some pmt) _ _ _ (grind (arith, nat_tests)) below refl refl refl
+    let ext = pmt.header.table_id_extension in
+    by_fields pid ext p.pid p.program_number (Some pmt) ((pid * 65_536 + ext) == map_key p) (pid == p.pid) (ext == p.program_number) (small_number ext is) below refl refl refl
 by_number p pid pmt false below is = rw (large pmt.header.table_id_extension p.program_number is below) (both_none (pid == p.pid))
   where
-    both_none : (t : Bool) → cond t None None ≡ None
+    both_none : (t : Bool) → ◌≡◌ {A = Option PmtView} (cond t None None) None
     both_none true = refl
     both_none false = refl
 
@@ -118,6 +125,6 @@ has_map (Some pid) (Some pmt) q is = by (nat_lt pmt.header.table_id_extension 65
         cond small (Some (record { program_number = pmt.header.table_id_extension; pid = pid })) None ≡ Some q → HasMap q (Some pmt)
     by false e is = absurd cc
     by true e is =
-        let low : pmt.header.table_id_extension < 65_536 = grind (arith, nat_tests) in
-        let same : record { program_number = pmt.header.table_id_extension; pid = pid } ≡ q = cc in
-        record { pmt = pmt; is = refl; below = subst (λ (r : Program). r.program_number < 65_536) same low }
+        let r : Program = record { program_number = pmt.header.table_id_extension; pid = pid } in
+        let same : r ≡ q = cc in
+        record { pmt = pmt; is = refl; below = subst (λ (r : Program). r.program_number < 65_536) same (small_number pmt.header.table_id_extension e) }

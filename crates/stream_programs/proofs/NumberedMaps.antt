@@ -1,8 +1,7 @@
 -- The table of a program among the tables of all programs.
-use Rattle.std.proofs.Common.{◌≡◌, ◌<◌, ℕ, ◌==◌, nat_lt, cond, Bool, true, false, List, Option, Some, None, refl, sym, ap, ◌∙◌, arith, inl, inr}
+use Rattle.std.proofs.Common.{◌≡◌, ℕ, ◌==◌, ◌&&◌, cond, Bool, true, false, List, Option, Some, None, refl, inl, inr}
 use Rattle.std.specs.Prelude.{option_and_then, Result, Ok, Err}
 use Rattle.std.proofs.lemmas.Bool.{cases_Bool}
-use Rattle.std.proofs.lemmas.Bool.Decides.{nat_tests}
 use Rattle.psi_tables.specs.ProgramMap.{PmtView, pmt_at}
 use Rattle.psi_tables.specs.Views.{SectionView}
 use Rattle.psi_tables.specs.Reading.{section_at}
@@ -20,7 +19,7 @@ unfolding in_force now_in_force numbered
 force n (Err error) = refl
 force n (Ok pmt) = by pmt.header.current_next
   where
-    by : (now : Bool) → cond (cond now (pmt.header.table_id_extension == n) false) (Some pmt) None ≡ numbered n (cond now (Some pmt) None)
+    by : (now : Bool) → cond (now && (pmt.header.table_id_extension == n)) (Some pmt) None ≡ numbered n (cond now (Some pmt) None)
     by true = refl
     by false = refl
 
