@@ -337,29 +337,28 @@ pub long_first : (first : FeedView) (pids : List ℕ) (input output faults : Por
     MidwayLong first pids (between input input) (between output output) (between faults faults) false s 0
 long_first first pids input output faults s is = record { midway = none_came first pids input output faults s is; pieces_in = omega arith }
 
--- what a push gives, where nothing waited
-pub pushed : {E : Type 0} (piece : List ℕ) (s t : WatchedView) (none items : List Fed) (r : Result (Unit {0}) E) → none ≡ [] → is_err r ≡ false →
-    ((first : FeedView) (came : List ℕ) (before : List Fed) → IsWatchedBy first came false s (before ++ none) → OnOk r (IsWatchedBy first (came ++ piece) false t (before ++ items))) →
+-- what a push gives
+pub pushed : {E : Type 0} (piece : List ℕ) (s t : WatchedView) (items : List Fed) (r : Result (Unit {0}) E) → is_err r ≡ false →
+    ((first : FeedView) (came : List ℕ) (before : List Fed) → IsWatchedBy first came false s before → OnOk r (IsWatchedBy first (came ++ piece) false t (before ++ items))) →
     (first : FeedView) (came : List ℕ) (before : List Fed) → IsWatchedBy first came false s before → IsWatchedBy first (came ++ piece) false t (before ++ items)
-pushed piece s t none items (Ok x) n ok push first came before by =
-    push first came before (subst (λ (fed : List Fed). IsWatchedBy first came false s fed) (sym (ap (λ (x : List Fed). before ++ x) n ∙ append-nil before)) by)
-pushed piece s t none items (Err x) n ok push first came before by = absurd cc
+pushed piece s t items (Ok x) ok push first came before by = push first came before by
+pushed piece s t items (Err x) ok push first came before by = absurd cc
 
 pub held_short : {E : Type 0} (n : ℕ) (r : Result (Unit {0}) E) → is_err r ≡ false → OnOk r (n < 1128) → n < 1128
 held_short n (Ok x) ok h = h
 held_short n (Err x) ok h = absurd cc
 
-pub fed_piece : {E : Type 0} (s t : WatchedView) (i1 i2 : Port) (part : List ℕ) (n : ℕ) (none items : List Fed) (r : Result (Unit {0}) E) → length part ≤ longest_piece → n ≤ length part → 0 < n →
-    Consumes i1.bytes i2.bytes (take n part) → i2.failed ≡ i1.failed → none ≡ [] → is_err r ≡ false →
-    ((first : FeedView) (came : List ℕ) (before : List Fed) → IsWatchedBy first came false s (before ++ none) → OnOk r (IsWatchedBy first (came ++ take n part) false t (before ++ items))) →
+pub fed_piece : {E : Type 0} (s t : WatchedView) (i1 i2 : Port) (part : List ℕ) (n : ℕ) (items : List Fed) (r : Result (Unit {0}) E) → length part ≤ longest_piece → n ≤ length part → 0 < n →
+    Consumes i1.bytes i2.bytes (take n part) → i2.failed ≡ i1.failed → is_err r ≡ false →
+    ((first : FeedView) (came : List ℕ) (before : List Fed) → IsWatchedBy first came false s before → OnOk r (IsWatchedBy first (came ++ take n part) false t (before ++ items))) →
     OnOk r (length t.stream.held < 1128) → FeedsSome s (between i1 i2) t items
-fed_piece s t i1 i2 part n none items r most within some reads clean empty ok push short = record {
+fed_piece s t i1 i2 part n items r most within some reads clean ok push short = record {
   piece = take n part;
   some = omega (arith, length-take-le n part within, some);
   most = omega (arith, length-take-le n part within, within, most);
   read = reads;
   clean = clean;
-  taken = pushed (take n part) s t none items r empty ok push;
+  taken = pushed (take n part) s t items r ok push;
   held = held_short (length t.stream.held) r ok short;
 }
 
@@ -399,16 +398,15 @@ long_enough first pids input output faults faulty s pieces m long =
 
 -- 9. What the end of a stream feeds goes out
 
-last_is : (first : FeedView) (came : List ℕ) (s : WatchedView) (before none items shown : List Fed) → none ≡ [] → shown ≡ items → IsWatchedBy first came false s before →
-    (IsWatchedBy first came false s (before ++ none) → IsWatchedOf first came (before ++ items)) → IsWatchedOf first came (before ++ shown)
-last_is first came s before none items shown n e by finish =
-    ap (λ (x : List Fed). before ++ x) e ∙ finish (subst (λ (fed : List Fed). IsWatchedBy first came false s fed) (sym (ap (λ (x : List Fed). before ++ x) n ∙ append-nil before)) by)
+last_is : (first : FeedView) (came : List ℕ) (s : WatchedView) (before items shown : List Fed) → shown ≡ items → IsWatchedBy first came false s before →
+    (IsWatchedBy first came false s before → IsWatchedOf first came (before ++ items)) → IsWatchedOf first came (before ++ shown)
+last_is first came s before items shown e by finish = subst (λ (x : List Fed). IsWatchedOf first came (before ++ x)) (sym e) (finish by)
 
-pub last_out : {E : Type 0} (first : FeedView) (pids came : List ℕ) (s : WatchedView) (before none items shown : List Fed) (output faults : Device) (done : Result (Unit {0}) E) (r : Result Bool Halt) →
-    none ≡ [] → shown ≡ items → is_err done ≡ false → IsWatchedBy first came false s before → (IsWatchedBy first came false s (before ++ none) → OnOk done (IsWatchedOf first came (before ++ items))) →
+pub last_out : {E : Type 0} (first : FeedView) (pids came : List ℕ) (s : WatchedView) (before items shown : List Fed) (output faults : Device) (done : Result (Unit {0}) E) (r : Result Bool Halt) →
+    shown ≡ items → is_err done ≡ false → IsWatchedBy first came false s before → (IsWatchedBy first came false s before → OnOk done (IsWatchedOf first came (before ++ items))) →
     GoesOut pids shown output faults r → PassesLast first pids came before output faults r
-last_out first pids came s before none items shown output faults (Err x) r n e ok by finish out = absurd cc
-last_out first pids came s before none items shown output faults (Ok x) (Ok late) n e ok by finish out = (shown, last_is first came s before none items shown n e by finish, out)
-last_out first pids came s before none items shown output faults (Ok x) (Err Read) n e ok by finish out = absurd out
-last_out first pids came s before none items shown output faults (Ok x) (Err Write) n e ok by finish out = (shown, last_is first came s before none items shown n e by finish, out)
-last_out first pids came s before none items shown output faults (Ok x) (Err Memory) n e ok by finish out = absurd out
+last_out first pids came s before items shown output faults (Err x) r e ok by finish out = absurd cc
+last_out first pids came s before items shown output faults (Ok x) (Ok late) e ok by finish out = (shown, last_is first came s before items shown e by finish, out)
+last_out first pids came s before items shown output faults (Ok x) (Err Read) e ok by finish out = absurd out
+last_out first pids came s before items shown output faults (Ok x) (Err Write) e ok by finish out = (shown, last_is first came s before items shown e by finish, out)
+last_out first pids came s before items shown output faults (Ok x) (Err Memory) e ok by finish out = absurd out

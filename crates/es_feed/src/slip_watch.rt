@@ -56,11 +56,7 @@ fn place_with(stretch: Stretch, place: StreamPlace) -> Result<StreamPlace, Alloc
 }
 
 // Appends the slip after a stretch, if there is one.
-fn note_slip(
-    stretch: Stretch,
-    place: StreamPlace,
-    found: &mut Vec<Slip>,
-) -> Result<(), AllocError>
+fn note_slip(stretch: Stretch, place: StreamPlace, found: &mut Vec<Slip>) -> Result<(), AllocError>
     ensures { OnOk result (found.new.items ≡ spec.slips_with stretch place found.old.items) }
 {
     if stretch.slipped == 0 {
