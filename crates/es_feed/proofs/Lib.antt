@@ -13,6 +13,7 @@ pub mod FedMaps
 pub mod FedPackets
 pub mod PlainPackets
 pub mod FedStreams
+pub mod WatchedStreams
 pub mod FedTicks
 pub mod PendingOutput
 pub mod PassedStreams

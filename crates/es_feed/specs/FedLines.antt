@@ -9,7 +9,7 @@ pub use Rattle.es_feed.specs.EachStream.{has_fault, have_fault}
 use Rattle.es_feed.specs.Feeding.{Fed}
 use Rattle.es_feed.specs.declared.feed_fault.FeedFault.{FeedFault}
 use Rattle.es_feed.specs.declared.feed_fault.ClockJump.{ClockJump}
-use Rattle.es_feed.specs.declared.feed_fault.FeedFault.TheVariants.{Stamp, Ahead, Lost, Cut, Map, Clock, Packet, Restarted, Silent}
+use Rattle.es_feed.specs.declared.feed_fault.FeedFault.TheVariants.{Stamp, Ahead, Lost, Cut, Map, Clock, Packet, Restarted, Silent, Slipped}
 use Rattle.es_feed.specs.declared.feed_fault.CutCause.{CutCause}
 use Rattle.es_feed.specs.declared.feed_fault.CutCause.TheVariants.{Scrambled, Truncated, Section, BadPes, NoPts}
 use Rattle.es_feed.specs.declared.feed_fault.CutUnits.{CutUnits}
@@ -18,6 +18,7 @@ use Rattle.es_feed.specs.declared.feed_fault.NewMap.{NewMap}
 use Rattle.es_feed.specs.declared.feed_fault.PacketFault.{PacketFault}
 use Rattle.es_feed.specs.declared.feed_fault.PacketFault.TheVariants.{Bad, Errored, Rest}
 use Rattle.es_feed.specs.declared.feed_fault.Restart.{Restart}
+use Rattle.es_feed.specs.declared.feed_fault.SlippedBytes.{SlippedBytes}
 use Rattle.devices.specs.Lines.{line_text}
 
 -- the record of a unit with the number of its stream
@@ -67,6 +68,10 @@ packet_line (Bad packet) = line_text (codes "bad-packet") (packet ∷ [])
 packet_line (Errored packet) = line_text (codes "errored") (packet ∷ [])
 packet_line (Rest size) = line_text (codes "rest") (size ∷ [])
 
+-- bytes that are in no packet, after so many packets
+abbrev pub slip_line : SlippedBytes → List ℕ
+slip_line bytes = line_text (codes "slip") (bytes.packet ∷ bytes.size ∷ [])
+
 -- without a clock, stamps fall to one that a unit has which begins in a packet: that is taken to come at a moment
 abbrev pub restart_line : Restart → List ℕ
 restart_line restart = line_text (codes "restart") (restart.packet ∷ restart.stamp ∷ restart.moment ∷ [])
@@ -85,6 +90,7 @@ fault_line pid (Clock jump) = clock_line jump
 fault_line pid (Packet fault) = packet_line fault
 fault_line pid (Restarted restart) = restart_line restart
 fault_line pid (Silent dts) = silence_line dts
+fault_line pid (Slipped bytes) = slip_line bytes
 
 -- the PID of the stream of a number
 abbrev pub pid_at : List ℕ → ℕ → ℕ

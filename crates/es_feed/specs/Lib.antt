@@ -7,6 +7,7 @@ pub mod MovedApart
 pub mod Origins
 pub mod Restarts
 pub mod StreamFeeding
+pub mod Watching
 pub mod Ticks
 pub mod Records
 pub mod FedLines

@@ -8,7 +8,7 @@ ghost use Rattle.es_feed.specs.FedLines as spec;
 ghost use Rattle.es_feed.specs.Records.{Puts};
 
 use crate::feed_fault::{
-    ClockJump, CutCause, CutUnits, FeedFault, Loss, NewMap, PacketFault, Restart,
+    ClockJump, CutCause, CutUnits, FeedFault, Loss, NewMap, PacketFault, Restart, SlippedBytes,
 };
 use crate::pending::PendingBytes;
 use crate::records::{flush, put_record};
@@ -171,6 +171,13 @@ fn report_packet<E: Sink>(faults: &mut E, fault: PacketFault)
     }
 }
 
+// Reports bytes that are in no packet.
+fn report_slip<E: Sink>(faults: &mut E, bytes: SlippedBytes)
+    ensures { Reports (writes E.Sink faults.old faults.new) (spec.slip_line bytes) }
+{
+    report_line(faults, "slip", &[bytes.packet as u128, bytes.size as u128]);
+}
+
 // Reports that an encoder restarts.
 fn report_restart<E: Sink>(faults: &mut E, restart: Restart)
     ensures { Reports (writes E.Sink faults.old faults.new) (spec.restart_line restart) }
@@ -205,6 +212,7 @@ fn report_fault<E: Sink>(faults: &mut E, pid: u16, fault: FeedFault)
         FeedFault::Packet(fault) => report_packet(faults, fault),
         FeedFault::Restarted(restart) => report_restart(faults, restart),
         FeedFault::Silent(dts) => report_silence(faults, dts),
+        FeedFault::Slipped(bytes) => report_slip(faults, bytes),
     }
 }
 

@@ -74,6 +74,15 @@ pub enum PacketFault {
     Rest(usize),
 }
 
+/// Bytes that are in no packet: the packets after them are in another step than the packets before.
+#[derive(Clone, Copy, PartialEq, Eq)]
+pub struct SlippedBytes {
+    /// The number of packets before them.
+    pub packet: usize,
+    /// How many they are.
+    pub size: usize,
+}
+
 /// Stamps that fall without a clock, and go on from there.
 #[derive(Clone, Copy, PartialEq, Eq)]
 pub struct Restart {
@@ -102,6 +111,8 @@ pub enum FeedFault {
     Clock(ClockJump),
     /// A packet is not read.
     Packet(PacketFault),
+    /// Bytes are in no packet.
+    Slipped(SlippedBytes),
     /// An encoder restarts, and no clock is known.
     Restarted(Restart),
     /// No stream has a unit that is due within 10 s after this DTS, by the clock.

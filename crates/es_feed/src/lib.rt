@@ -34,8 +34,10 @@ mod passing;
 mod pending;
 mod records;
 mod restart;
+mod slip_watch;
 mod stream_feed;
 mod unit_feed;
+mod watched_feed;
 
 pub use fed_map::{CurrentMap, FedMap};
 pub use fed_stream::FedStream;

@@ -21,6 +21,7 @@ use Rattle.es_feed.proofs.MovedApart.{fed_apart}
 use Rattle.es_feed.specs.MovedApart.{AreWhole, after_time}
 use Rattle.es_feed.specs.FedLines.{fed_records}
 use Rattle.es_feed.specs.Passing.{EndsStream}
+use Rattle.es_feed.proofs.WatchedStreams.{clear_is_fed}
 use Rattle.es_units.specs.Merging.{AreMerged}
 use Rattle.stream_jobs.specs.ClockConstants.{HasConstants, IsMovedBy, clock_of}
 use Rattle.stream_jobs.specs.FoundUnits.{AreMoved, source_of}
@@ -129,10 +130,12 @@ ended d bytes output stream records faults known empty output_is e =
     let p = e.passes in
     let came : p.came ≡ bytes = all_came stream.before.bytes stream.after.bytes bytes p.came known p.passes.read p.ends in
     let quiet : e.faulty ≡ false = not_faulty e.faulty 0 refl e.status_is in
+    let none : have_fault p.fed ≡ false = sym p.faulty_is ∙ quiet in
+    let all : p.fed ≡ fed_of (feed_of d) p.came = clear_is_fed (feed_of d) p.came p.fed p.fed_is none in
     record {
-      silent = ap (λ (b : List ℕ). have_fault (fed_of (feed_of d) b)) (sym came) ∙ sym p.faulty_is ∙ quiet;
-      output_is = sym (taken records.before.bytes records.after.bytes (fed_records (fed_of (feed_of d) p.came)) output empty output_is p.passes.written)
-          ∙ ap (λ (b : List ℕ). fed_records (fed_of (feed_of d) b)) came;
+      silent = ap (λ (b : List ℕ). have_fault (fed_of (feed_of d) b)) (sym came) ∙ ap have_fault (sym all) ∙ none;
+      output_is = sym (taken records.before.bytes records.after.bytes (fed_records p.fed) output empty output_is p.passes.written)
+          ∙ ap fed_records all ∙ ap (λ (b : List ℕ). fed_records (fed_of (feed_of d) b)) came;
     }
 
 gone : (d : Described) (bytes output : List ℕ) (stream records faults : Device) → stream.before.bytes ≡ Some bytes → records.before.bytes ≡ Some [] → records.after.bytes ≡ Some output →
