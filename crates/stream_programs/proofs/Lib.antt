@@ -6,7 +6,7 @@ pub mod LastMaps
 pub mod NumberedMaps
 pub mod MapKeys
 pub mod MapPlaces
-pub mod MapChanges
+pub mod NotedChanges
 pub mod LastServices
 pub mod FirstNetworks
 pub mod NetworkSteps

@@ -59,7 +59,7 @@ is_key key None = false
 is_key key (Some q) = map_key q == key
 
 apart : (m n : ℕ) → m ≡ n → (m == n) ≡ false → ⊥
-apart m n same no = grind (arith, nat_tests)
+apart m n same differ = grind (arith, nat_tests)
 
 by_fields : (pid m b n : ℕ) (pmt : Option PmtView) (k u v : Bool) → m < 65_536 → n < 65_536 → ((pid * 65_536 + m) == (b * 65_536 + n)) ≡ k → (pid == b) ≡ u → (m == n) ≡ v →
     cond u (cond v pmt None) None ≡ cond k pmt None

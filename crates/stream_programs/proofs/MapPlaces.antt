@@ -27,7 +27,7 @@ places_end view es i fs over = rw (done view i fs over) refl
 
 record IsAt (all : List FindingView) (at : ℕ) (f : FindingView) (fs : List FindingView) : Type 0 where
   pub here : slice_get all at ≡ Some f
-  pub later : drop (at + 1) all ≡ fs
+  pub later : drop (suc at) all ≡ fs
 
 at_front : (all : List FindingView) (at : ℕ) (f : FindingView) (fs : List FindingView) → drop at all ≡ f ∷ fs → IsAt all at f fs
 at_front [] zero f fs is = absurd cc
@@ -79,7 +79,7 @@ unfolding places_from program_map
 all_there p all es at [] below is = refl
 all_there p all es at (f ∷ fs) below is =
     let one = at_front all at f fs is in
-    all_there p all (places_with es (program_found f) at) (at + 1) fs below one.later
+    all_there p all (places_with es (program_found f) at) (at + 1) fs below (ap (λ (n : ℕ). drop n all) (add-one at) ∙ one.later)
     ∙ ap (option_or (program_map p fs)) (step_by p all es at f (program_found f) below one.here refl)
     ∙ or_assoc (program_map p fs) (pmt_found p f) (map_there p (lookup (nat_eq (map_key p)) es) all)
 

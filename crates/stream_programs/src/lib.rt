@@ -11,11 +11,11 @@
 #![tactic(auto)]
 
 mod association;
+mod changed_maps;
 mod character_sets;
 mod character_tables;
 mod free_pids;
 mod laws;
-mod map_changes;
 mod map_descriptors;
 mod map_places;
 mod network_information;
@@ -35,11 +35,11 @@ mod streams;
 mod texts;
 
 pub use association::{Association, association_change, named_programs};
+pub use changed_maps::{MapChanges, map_changes};
 pub use free_pids::free_pid;
 pub use laws::{
     each_has_pids, findings_of_pid_zero, findings_of_the_map, maps_decide, pids_are_distinct,
 };
-pub use map_changes::{MapChanges, map_changes};
 pub use network_information::{FoundNetwork, network_surplus, stream_network};
 pub use networks::original_network;
 pub use omission::TableOmission;

@@ -62,7 +62,7 @@ pub(crate) fn any_map<'f, A: Allocator>(finding: &'f Finding<'_, A>) -> Option<P
 // A table, if it is of this program.
 #[tactic(auto, unfolding(crate::specs::ProgramMaps::numbered))]
 fn numbered(number: u16, found: Option<Pmt<'_>>) -> Option<Pmt<'_>>
-    ensures { option_map pmt_view result ≡ spec.numbered number (option_map pmt_view found) }
+    ensures { option_map pmt_view result ≡ spec.numbered number (option_map pmt_view found.entry) }
 {
     match found {
         None => None,

@@ -1,7 +1,7 @@
 use Rattle.std.proofs.Common.{◌∙◌, map, sym}
 use Rattle.demux.specs.Shown.{finding_view}
-use Rattle.stream_programs.proofs.MapChanges.{changes_more, changes_end}
-use Rattle.stream_programs.proofs.map_changes.note_changes.Goals as goal
+use Rattle.stream_programs.proofs.NotedChanges.{changes_more, changes_end}
+use Rattle.stream_programs.proofs.changed_maps.note_changes.Goals as goal
 
 pub loop-finding-preserved : goal.loop-finding-preserved
 loop-finding-preserved g c =

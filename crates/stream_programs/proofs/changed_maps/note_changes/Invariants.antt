@@ -1,7 +1,7 @@
 use Rattle.std.proofs.Common.{◌≡◌, drop, map}
 use Rattle.demux.specs.Shown.{finding_view}
 use Rattle.stream_programs.specs.MapPlaces.{changes_from}
-use Rattle.stream_programs.proofs.map_changes.note_changes.Given as goal
+use Rattle.stream_programs.proofs.changed_maps.note_changes.Given as goal
 
 abbrev pub invariant-loop-finding : goal.invariant-loop-finding
 invariant-loop-finding g l =
