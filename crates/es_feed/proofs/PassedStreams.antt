@@ -403,6 +403,7 @@ pub long_refused : (first : FeedView) (pids : List ℕ) (i0 i1 i2 o0 o1 o2 f0 f1
     MidwayLong first pids (between i0 i1) (between o0 o1) (between f0 f1) early s pieces → FeedsSome s (between i1 i2) t new →
     GoesOut pids new (between o1 o2) (between f1 f2) (Ok late) → faulty ≡ (early || late) → have_refusal new ≡ true →
     PassesPieces first pids (between i0 i2) (between o0 o2) (between f0 f2) (Ok faulty) t
+unfolding long_more
 long_refused first pids i0 i1 i2 o0 o1 o2 f0 f1 f2 early late faulty s t new pieces m p out is refused = (
   (long_more first pids i0 i1 i2 o0 o1 o2 f0 f1 f2 early late faulty s t new pieces m p out is).midway,
   inr (any_append is_refusal m.midway.fed new ∙ ap (λ (b : Bool). have_refusal m.midway.fed || b) refused ∙ or_true (have_refusal m.midway.fed)),

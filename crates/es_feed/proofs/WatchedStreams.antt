@@ -1,5 +1,5 @@
 -- The slips of a stream while it comes.
-use Rattle.std.proofs.Common.{◌≡◌, ◌∙◌, ◌≤◌, ◌<◌, ℕ, ◌+◌, ◌++◌, ◌||◌, Bool, true, false, Ok, Err, List, [], ◌∷◌, length, drop, refl, sym, ap, subst, arith, drop-drop}
+use Rattle.std.proofs.Common.{◌≡◌, ◌∙◌, ◌≤◌, ◌<◌, ℕ, ◌+◌, ◌++◌, ◌==◌, ◌/◌, ◌||◌, if◌then◌else◌, Bool, true, false, Ok, Err, List, [], ◌∷◌, length, drop, refl, sym, ap, subst, arith, drop-drop}
 use Rattle.std.specs.List.{flat_map, list_any}
 use Rattle.std.specs.Result.{is_err}
 use Rattle.std.proofs.lemmas.Grind.{flat_map-append}
