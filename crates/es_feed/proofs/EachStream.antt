@@ -18,7 +18,7 @@ use Rattle.es_feed.specs.EachStream.{AreFirst, BeginsAt, EachRises, FedByOneCons
 use Rattle.es_feed.specs.Feeding.{Fed, FedStreamView, FeedView, after_all, after_one, fed_all, fed_one, fed_to_end, feed_first}
 use Rattle.es_feed.specs.StreamFeeding.{after_cut, fed_of, is_packet}
 use Rattle.es_feed.specs.Ticks.{after_packets, after_pcr, fed_packets, fed_pcr}
-use Rattle.es_feed.specs.declared.fed_map.FedMap.{FedMap}
+use Rattle.es_feed.specs.Maps.{MapView}
 use Rattle.es_feed.specs.declared.found_pcr.FoundPcr.{FoundPcr}
 use Rattle.es_feed.proofs.FedEach.{Event, Finds, Shows, after_event, fed_event, fed_events, finds, found_by}
 use Rattle.es_feed.proofs.FedFirst.{AreUnfed, AreWaiting, MovedByFirst, first_moved}
@@ -173,7 +173,7 @@ first_keys streams a = record {
       a.own j k s.0 t.0 s.1 t.1 (ap (λ (z : Key). z.pid) s.2 ∙ same ∙ sym (ap (λ (z : Key). z.pid) t.2));
 }
 
-first_waits : (earliest : ℕ) (maps : List FedMap) (streams : List FedStreamView) → earliest < 2 ^ 33 → AreFirst streams → AreWaiting earliest (keys streams) (feed_first earliest maps streams)
+first_waits : (earliest : ℕ) (maps : List MapView) (streams : List FedStreamView) → earliest < 2 ^ 33 → AreFirst streams → AreWaiting earliest (keys streams) (feed_first earliest maps streams)
 unfolding AreUnfed
 first_waits earliest maps streams early a = record {
   are = first_keys streams a;

@@ -11,7 +11,7 @@ use Rattle.demux.specs.Stream.{StreamState, found_in, taken}
 use Rattle.demux.specs.FoundSoFar.{found_in_all, taken_all}
 use Rattle.demux.specs.Views.{FindingView}
 use Rattle.es_feed.specs.Clocks.{is_on, pcr_at}
-use Rattle.es_feed.specs.declared.fed_map.FedMap.{FedMap}
+use Rattle.es_feed.specs.Maps.{MapView}
 use Rattle.es_feed.specs.declared.found_pcr.FoundPcr.{FoundPcr}
 use Rattle.es_feed.specs.Feeding.{Fed, FedStreamView, FeedView, after_at, after_all, after_one, after_place, fed_all, place_from, watched}
 use Rattle.es_feed.specs.Laws.{FedWithoutClock}
@@ -146,7 +146,7 @@ unfolding after_all
 findings_more feed [] more = refl
 findings_more feed (f ∷ fs) more = findings_more (after_one feed f) fs more
 
-no_map_found : (f : FindingView) (maps : List FedMap) → maps ≡ [] → set_place f (map_from f 0 maps) maps ≡ []
+no_map_found : (f : FindingView) (maps : List MapView) → maps ≡ [] → set_place f (map_from f 0 maps) maps ≡ []
 unfolding set_place map_from
 no_map_found f maps none = rw none refl
 
@@ -168,7 +168,7 @@ unfolding after_all
 all_no_maps feed [] none = none
 all_no_maps feed (f ∷ fs) none = all_no_maps (after_one feed f) fs (one_no_maps feed f none)
 
-no_clock : (maps : List FedMap) (pid : ℕ) → maps ≡ [] → is_on pid (clock_pid maps) ≡ false
+no_clock : (maps : List MapView) (pid : ℕ) → maps ≡ [] → is_on pid (clock_pid maps) ≡ false
 unfolding clock_pid is_on
 no_clock maps pid none = rw none refl
 

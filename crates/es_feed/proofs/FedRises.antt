@@ -15,14 +15,15 @@ use Rattle.es_units.specs.declared.stamps.StampFault.TheVariants.{DtsNotIncreasi
 use Rattle.es_units.proofs.StampFaults.{or_none}
 use Rattle.es_feed.specs.Clocks.{is_on, jump_of}
 use Rattle.es_feed.specs.EachStream.{RiseFrom, fed_if, units_fed}
-use Rattle.es_feed.specs.Feeding.{Fed, FedStreamView, FeedView, after_at, after_found, after_one, after_place, ahead_of, at_moment, base_of, before_with, due_of, fed_at, fed_by, fed_ends, fed_last, fed_one, fed_place, fed_with, greatest_of, last_dts, after_unit, fed_unit, map_fed, origin_after, packet_fault, packet_fed, place_from, restart_fed, restart_in, seen_in, seen_place, stream_with, told_by, told_fed, told_first, told_of, unless_ahead, unless_fault, watched, whole_by}
-use Rattle.es_feed.specs.Maps.{clock_pid, new_map}
+use Rattle.es_feed.specs.Feeding.{Fed, FedStreamView, FeedView, after_at, after_found, after_one, after_place, ahead_of, at_moment, base_of, before_with, due_of, fed_at, fed_by, fed_ends, fed_last, fed_one, fed_place, fed_with, greatest_of, last_dts, after_unit, fed_unit, map_fed, origin_after, other_fed, packet_fault, packet_fed, place_from, restart_fed, restart_in, seen_in, seen_place, stream_with, told_by, told_fed, told_first, told_of, unless_ahead, unless_fault, watched, whole_by}
+use Rattle.es_feed.specs.Maps.{clock_pid, new_map, other_stream}
 use Rattle.es_feed.specs.Ticks.{after_end, after_end_at, after_late, after_passed, after_shown, after_tick, fed_end, fed_end_at, fed_late, fed_passed, fed_shown, fed_tick, is_silence, is_tick, jump_fed, last_unit, late_in, passed_from, silence, tick, with_shown, without_unit}
 use Rattle.es_feed.specs.declared.due.Due.{Due}
 use Rattle.es_feed.specs.declared.feed_fault.ClockJump.{ClockJump}
 use Rattle.es_feed.specs.declared.feed_fault.FeedFault.{FeedFault}
 use Rattle.es_feed.specs.declared.feed_fault.FeedFault.TheVariants.{Silent}
 use Rattle.es_feed.specs.declared.feed_fault.NewMap.{NewMap}
+use Rattle.es_feed.specs.declared.feed_fault.OtherStream.{OtherStream}
 use Rattle.es_feed.specs.declared.feed_fault.PacketFault.{PacketFault}
 use Rattle.es_feed.specs.declared.found_pcr.FoundPcr.{FoundPcr}
 use Rattle.es_feed.specs.declared.origin.Origin.{Origin}
@@ -159,12 +160,17 @@ gives_one feed next fed j s t w are g =
 
 -- 3. A finding
 
-told_before : (change : Option NewMap) (fault : Option PacketFault) → Unitless (option_to_list (map_fed change) ++ option_to_list (packet_fed fault))
-unfolding map_fed packet_fed fed_if
-told_before None None n few = refl
-told_before None (Some fault) n few = refl
-told_before (Some change) None n few = refl
-told_before (Some change) (Some fault) n few = refl
+told_before : (other : Option OtherStream) (change : Option NewMap) (fault : Option PacketFault) →
+    Unitless (option_to_list (other_fed other) ++ (option_to_list (map_fed change) ++ option_to_list (packet_fed fault)))
+unfolding other_fed map_fed packet_fed fed_if
+told_before None None None n few = refl
+told_before None None (Some fault) n few = refl
+told_before None (Some change) None n few = refl
+told_before None (Some change) (Some fault) n few = refl
+told_before (Some other) None None n few = refl
+told_before (Some other) None (Some fault) n few = refl
+told_before (Some other) (Some change) None n few = refl
+told_before (Some other) (Some change) (Some fault) n few = refl
 
 told_fault : (number : ℕ) (fault : Option FeedFault) → Unitless (option_to_list (told_of number fault))
 unfolding told_of fed_if
@@ -185,7 +191,7 @@ finding_steps feed f None are at =
     let told = told_first feed f in
     let parts : fed_one feed f ≡ told ++ [] = rw at refl in
     let goes : (after_one feed f).streams ≡ feed.streams = rw at refl in
-    stays feed (after_one feed f) (fed_one feed f) goes (λ n few. ap (λ (xs : List Fed). units_fed n xs) (parts ∙ append-nil told) ∙ told_before (new_map f feed.maps) (packet_fault f) n few)
+    stays feed (after_one feed f) (fed_one feed f) goes (λ n few. ap (λ (xs : List Fed). units_fed n xs) (parts ∙ append-nil told) ∙ told_before (other_stream f feed.maps) (new_map f feed.maps) (packet_fault f) n few)
 finding_steps feed f (Some j) are at =
     let p = placed f.pid j feed.streams at in
     let s = p.stream in
@@ -209,7 +215,7 @@ finding_steps feed f (Some j) are at =
       streams = rw (at, p.at) refl;
       units = λ n few.
           ap (λ (xs : List Fed). units_fed n xs) parts
-          ∙ between n told one (tells ++ tail) (told_before (new_map f feed.maps) (packet_fault f) n few) (ends n few);
+          ∙ between n told one (tells ++ tail) (told_before (other_stream f feed.maps) (new_map f feed.maps) (packet_fault f) n few) (ends n few);
     })
 
 -- 4. A clock reference

@@ -13,10 +13,11 @@ use Rattle.es_units.specs.UnitSteps.{ended_unit}
 use Rattle.es_units.specs.declared.stamps.StampFault.{StampFault}
 use Rattle.es_feed.specs.Clocks.{is_on, jump_of, jumps}
 use Rattle.es_feed.specs.EachStream.{fed_if, has_fault, have_fault, units_fed}
-use Rattle.es_feed.specs.Feeding.{Fed, FedStreamView, FeedView, after_at, after_found, after_one, after_place, ahead_of, at_moment, base_by, after_unit, base_of, before_with, due_of, fed_at, fed_by, fed_one, fed_place, fed_unit, fed_with, feed_with, greatest_of, last_dts, map_fed, origin_after, packet_fault, packet_fed, place_from, restart_fed, restart_in, seen_in, seen_place, stream_with, told_by, told_fed, told_first, told_of, unless_ahead, unless_fault, watched, whole_by}
-use Rattle.es_feed.specs.Maps.{clock_pid, new_map}
+use Rattle.es_feed.specs.Feeding.{Fed, FedStreamView, FeedView, after_at, after_found, after_one, after_place, ahead_of, at_moment, base_by, after_unit, base_of, before_with, due_of, fed_at, fed_by, fed_one, fed_place, fed_unit, fed_with, feed_with, greatest_of, last_dts, map_fed, origin_after, other_fed, packet_fault, packet_fed, place_from, restart_fed, restart_in, seen_in, seen_place, stream_with, told_by, told_fed, told_first, told_of, unless_ahead, unless_fault, watched, whole_by}
+use Rattle.es_feed.specs.Maps.{clock_pid, new_map, other_stream}
 use Rattle.es_feed.specs.Origins.{no_origin, origin_with}
 use Rattle.es_feed.specs.Restarts.{fallen_after, origin_by, restart_of}
+use Rattle.es_feed.specs.declared.feed_fault.OtherStream.{OtherStream}
 use Rattle.es_feed.specs.declared.feed_fault.PacketFault.{PacketFault}
 use Rattle.es_feed.specs.declared.feed_fault.Restart.{Restart}
 use Rattle.es_feed.specs.Ticks.{after_end, after_end_at, after_late, after_own, after_passed, after_shown, after_tick, fed_end, fed_end_at, fed_late, fed_own, fed_passed, fed_shown, fed_tick, is_silence, is_tick, jump_fed, last_unit, late_in, late_of, passed_from, silence, tick, with_shown, without_unit}
@@ -56,12 +57,14 @@ pub record Gives (feed next : FeedView) (fed : List Fed) (j : ℕ) (s t : FedStr
 
 -- 2. A finding
 
-not_told_first : (change : Option NewMap) (fault : Option PacketFault) (more : List Fed) →
-    have_fault ((option_to_list (map_fed change) ++ option_to_list (packet_fed fault)) ++ more) ≡ false → option_to_list (map_fed change) ++ option_to_list (packet_fed fault) ≡ []
-unfolding map_fed packet_fed has_fault
-not_told_first None None more none = refl
-not_told_first None (Some fault) more none = absurd cc
-not_told_first (Some change) fault more none = absurd cc
+not_told_first : (other : Option OtherStream) (change : Option NewMap) (fault : Option PacketFault) (more : List Fed) →
+    have_fault ((option_to_list (other_fed other) ++ (option_to_list (map_fed change) ++ option_to_list (packet_fed fault))) ++ more) ≡ false →
+    option_to_list (other_fed other) ++ (option_to_list (map_fed change) ++ option_to_list (packet_fed fault)) ≡ []
+unfolding other_fed map_fed packet_fed has_fault
+not_told_first None None None more none = refl
+not_told_first None None (Some fault) more none = absurd cc
+not_told_first None (Some change) fault more none = absurd cc
+not_told_first (Some other) change fault more none = absurd cc
 
 not_told : (number : ℕ) (fault : Option FeedFault) → have_fault (option_to_list (told_of number fault)) ≡ false → option_to_list (told_of number fault) ≡ []
 unfolding told_of has_fault
@@ -99,7 +102,7 @@ finding_gives feed f j s at is none =
     let again = option_to_list (restart_fed (shows feed f)) in
     let parts : fed_one feed f ≡ change ++ ((unit ++ told) ++ again) = ap (λ (xs : List Fed). change ++ (xs ++ again)) (fed_here feed f j s at is) in
     let clear : have_fault (change ++ ((unit ++ told) ++ again)) ≡ false = ap have_fault (sym parts) ∙ none in
-    let no_map : change ≡ [] = not_told_first (new_map f feed.maps) (packet_fault f) ((unit ++ told) ++ again) clear in
+    let no_map : change ≡ [] = not_told_first (other_stream f feed.maps) (new_map f feed.maps) (packet_fault f) ((unit ++ told) ++ again) clear in
     let two = fault_split (unit ++ told) again (fault_split change ((unit ++ told) ++ again) clear).1 in
     let no_told : told ≡ [] = not_told s.number (told_by s f) (fault_split unit told two.0).1 in
     let no_restart : shows feed f ≡ None = not_restarted (shows feed f) two.1 in
@@ -131,7 +134,7 @@ pub finding_rests : (feed : FeedView) (f : FindingView) → place_from f.pid 0 f
 finding_rests feed f nowhere none =
     let told = told_first feed f in
     let parts = fed_nowhere feed f nowhere in
-    let empty : fed_one feed f ≡ [] = parts ∙ append-nil told ∙ not_told_first (new_map f feed.maps) (packet_fault f) [] (ap have_fault (sym parts) ∙ none) in
+    let empty : fed_one feed f ≡ [] = parts ∙ append-nil told ∙ not_told_first (other_stream f feed.maps) (new_map f feed.maps) (packet_fault f) [] (ap have_fault (sym parts) ∙ none) in
     let goes = after_nowhere feed f nowhere in
     record {
       streams = ap (λ (n : FeedView). n.streams) goes;

@@ -15,11 +15,11 @@ use Rattle.es_units.specs.UnitSteps.{UnitsSoFar, after_finding, after_findings, 
 use Rattle.es_units.specs.declared.stamps.StampFault.{StampFault}
 use Rattle.es_feed.specs.declared.feed_fault.FeedFault.{FeedFault}
 use Rattle.es_feed.specs.declared.feed_fault.Loss.{Loss}
-use Rattle.es_feed.specs.Maps.{change_place, map_from, set_place}
+use Rattle.es_feed.specs.Maps.{change_place, map_from, other_place, set_place}
 use Rattle.es_feed.specs.Origins.{base_for, no_origin, origin_with}
 use Rattle.es_feed.specs.declared.due.Due.{Due}
 use Rattle.es_feed.specs.declared.origin.Origin.{Origin}
-use Rattle.es_feed.specs.Feeding.{FedStreamView, Fed, FeedView, ahead_of, unless_ahead, unless_fault, at_moment, last_dts, base_by, base_of, origin_after, before_with, fed_with, stream_with, fed_by, whole_by, after_found, lost_by, told_by, told_fed, told_of, fault_by, unit_after, follow_after, greatest_if, due_of, with_streams, place_from, feed_with, after_at, fed_at, after_place, fed_place, after_unit, fed_unit, map_fed, after_one, fed_one, after_all, fed_all, fed_last, fed_ends, fed_to_end, fed_found, greatest_of, is_fallen, packet_fault, packet_fed, restart_fed, restart_in, restarted, seen_by, seen_in, seen_of, seen_place, told_first, watched}
+use Rattle.es_feed.specs.Feeding.{FedStreamView, Fed, FeedView, ahead_of, unless_ahead, unless_fault, at_moment, last_dts, base_by, base_of, origin_after, before_with, fed_with, stream_with, fed_by, whole_by, after_found, lost_by, told_by, told_fed, told_of, fault_by, unit_after, follow_after, greatest_if, due_of, with_streams, place_from, feed_with, after_at, fed_at, after_place, fed_place, after_unit, fed_unit, map_fed, after_one, fed_one, after_all, fed_all, fed_last, fed_ends, fed_to_end, fed_found, greatest_of, is_fallen, other_fed, packet_fault, packet_fed, restart_fed, restart_in, restarted, seen_by, seen_in, seen_of, seen_place, told_first, watched}
 use Rattle.es_feed.specs.EachStream.{has_fault, have_fault}
 use Rattle.es_feed.specs.Restarts.{fallen_after, origin_by, restart_of}
 use Rattle.es_feed.specs.declared.feed_fault.PacketFault.{PacketFault}
@@ -257,7 +257,7 @@ single_after_by e o s f false follows own quiet =
 single_fed_by : (e : ℕ) (o : Origin) (s : FedStreamView) (f : FindingView) (own : Bool) → has_pid s.units.pid f.pid ≡ own → (own ≡ true → told_by s f ≡ None) →
     is_fallen (fed_by (due_from e) o s (whole_by s f)) ≡ false → packet_fault f ≡ None →
     fed_one (single e o s) f ≡ option_to_list (fed_by (due_from e) o s (whole_by s f))
-unfolding map_from set_place change_place map_fed place_from fed_place fed_at fed_with made_whole greatest_if told_of seen_place restart_of restart_fed packet_fed
+unfolding map_from set_place change_place map_fed place_from fed_place fed_at fed_with made_whole greatest_if told_of seen_place restart_of restart_fed packet_fed other_place other_fed
 single_fed_by e o s f true own none quiet sound =
     let unit = option_to_list (fed_by (due_from e) o s (whole_by s f)) in
     let g = after_unit (watched (single e o s) f) f in

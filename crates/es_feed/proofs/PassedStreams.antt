@@ -22,7 +22,7 @@ use Rattle.es_feed.specs.StreamFeeding.{IsFedBy, at_first, is_packet}
 use Rattle.es_feed.specs.Watching.{AreSlips, IsWatchedBy, IsWatchedOf, WatchedView, first_place, watched_first}
 use Rattle.es_feed.proofs.WatchedStreams.{no_rounds}
 use Rattle.es_feed.specs.Ticks.{after_packets, fed_packets}
-use Rattle.es_feed.specs.FedLines.{fault_line, fed_lines, fed_record, fed_records, has_fault, have_fault, lines_of, pid_at}
+use Rattle.es_feed.specs.FedLines.{fault_line, fed_lines, fed_record, fed_records, has_fault, have_fault, have_refusal, is_refusal, lines_of, pid_at}
 use Rattle.es_feed.specs.Passing.{FailsToPass, FeedsPiece, FeedsSome, GoesOut, IsFedSoFar, Midway, Passes, PassesAll, PassesLast, PassesOn, PassesPieces, RunsStream, longest_piece}
 
 -- 1. Of what is fed after other units
@@ -162,7 +162,7 @@ pieces_end first pids i0 i1 i2 output faults faulty s m reads clean ends = (
     unfailed = clean ∙ m.unfailed;
     faulty_is = m.faulty_is;
   },
-  ends,
+  inl ends,
 )
 
 so_far : (first : FeedView) (pids : List ℕ) (input output faults : Device) (faulty : Bool) (s : WatchedView)
@@ -265,8 +265,15 @@ piece_fails first pids i0 i1 i2 o0 o1 o2 f0 f1 f2 faulty s t new Memory m p out 
 
 -- 6. What the end of the stream feeds
 
+still_refused : (old new : List Fed) → have_refusal old ≡ true → have_refusal (old ++ new) ≡ true
+still_refused old new is = any_append is_refusal old new ∙ ap (λ (b : Bool). b || have_refusal new) is
+
+still_ends : (E : Type 0) (old new : List Fed) → E ⊎ (have_refusal old ≡ true) → E ⊎ (have_refusal (old ++ new) ≡ true)
+still_ends E old new (inl ends) = inl ends
+still_ends E old new (inr is) = inr (still_refused old new is)
+
 pub stream_ends : (first : FeedView) (pids : List ℕ) (input : Device) (o0 o1 o2 f0 f1 f2 : Port) (early late faulty : Bool) (s : WatchedView)
-    (m : Midway first pids input (between o0 o1) (between f0 f1) early s) → IsAtEnd input.after.bytes →
+    (m : Midway first pids input (between o0 o1) (between f0 f1) early s) → IsAtEnd input.after.bytes ⊎ (have_refusal m.fed ≡ true) →
     PassesLast first pids m.came m.fed (between o1 o2) (between f1 f2) (Ok late) → faulty ≡ (early || late) → PassesAll first pids input (between o0 o2) (between f0 f2) faulty
 stream_ends first pids input o0 o1 o2 f0 f1 f2 early late faulty s m ends (last, all, out) is = record {
   came = m.came;
@@ -278,7 +285,7 @@ stream_ends first pids input o0 o1 o2 f0 f1 f2 early late faulty s m ends (last,
     clean = out.1 ∙ m.passes.clean;
     tells = all_told pids f0 f1 f2 m.fed last m.passes.tells out.2;
   };
-  ends = ends;
+  ends = still_ends (IsAtEnd input.after.bytes) m.fed last ends;
   unfailed = m.unfailed;
   faulty_is = all_faulty early late faulty m.fed last m.faulty_is out.3 is;
 }
@@ -390,6 +397,17 @@ long_more first pids i0 i1 i2 o0 o1 o2 f0 f1 f2 early late faulty s t new pieces
       };
       pieces_in = omega (arith, m.pieces_in, length-append before.came p.piece, some);
     }
+
+-- a read that shows that the description is of another stream
+pub long_refused : (first : FeedView) (pids : List ℕ) (i0 i1 i2 o0 o1 o2 f0 f1 f2 : Port) (early late faulty : Bool) (s t : WatchedView) (new : List Fed) (pieces : ℕ) →
+    MidwayLong first pids (between i0 i1) (between o0 o1) (between f0 f1) early s pieces → FeedsSome s (between i1 i2) t new →
+    GoesOut pids new (between o1 o2) (between f1 f2) (Ok late) → faulty ≡ (early || late) → have_refusal new ≡ true →
+    PassesPieces first pids (between i0 i2) (between o0 o2) (between f0 f2) (Ok faulty) t
+unfolding long_more
+long_refused first pids i0 i1 i2 o0 o1 o2 f0 f1 f2 early late faulty s t new pieces m p out is refused = (
+  (long_more first pids i0 i1 i2 o0 o1 o2 f0 f1 f2 early late faulty s t new pieces m p out is).midway,
+  inr (any_append is_refusal m.midway.fed new ∙ ap (λ (b : Bool). have_refusal m.midway.fed || b) refused ∙ or_true (have_refusal m.midway.fed)),
+)
 
 pub long_enough : (first : FeedView) (pids : List ℕ) (input output faults : Device) (faulty : Bool) (s : WatchedView) (pieces : ℕ) (m : MidwayLong first pids input output faults faulty s pieces) →
     2 ^ 64 - 1 ≤ pieces → PassesPieces first pids input output faults (Err Read) s

@@ -1,5 +1,5 @@
 -- The slips of a stream while it comes.
-use Rattle.std.proofs.Common.{◌≡◌, ◌∙◌, ◌≤◌, ◌<◌, ℕ, ◌+◌, ◌++◌, Bool, true, false, List, [], ◌∷◌, length, drop, refl, sym, ap, subst, arith, drop-drop}
+use Rattle.std.proofs.Common.{◌≡◌, ◌∙◌, ◌≤◌, ◌<◌, ℕ, ◌+◌, ◌++◌, ◌==◌, ◌/◌, ◌||◌, if◌then◌else◌, Bool, true, false, Ok, Err, List, [], ◌∷◌, length, drop, refl, sym, ap, subst, arith, drop-drop}
 use Rattle.std.specs.List.{flat_map, list_any}
 use Rattle.std.specs.Result.{is_err}
 use Rattle.std.proofs.lemmas.Grind.{flat_map-append}
@@ -11,6 +11,7 @@ use Rattle.packet_sync.specs.declared.slip.Slip.{Slip}
 use Rattle.packet_sync.specs.declared.stretch.Stretch.{Stretch}
 use Rattle.packet_sync.proofs.Noted.{all_noted, stretch_noted}
 use Rattle.es_feed.specs.EachStream.{has_fault, have_fault}
+use Rattle.es_feed.specs.FedLines.{have_refusal, is_refusal}
 use Rattle.es_feed.specs.Feeding.{Fed, FeedView}
 use Rattle.es_feed.specs.StreamFeeding.{fed_of}
 use Rattle.es_feed.specs.Watching.{AreRounds, AreSlips, IsWatchedOf, Round, all_of, first_place, notes_at, place_with, slip_fed, slips_fed, slips_with}
@@ -119,3 +120,23 @@ pub clear_is_fed : (first : FeedView) (bytes : List ℕ) (all : List Fed) → Is
 clear_is_fed first bytes all w none =
     let r = w.rounds in
     sym r.all_is ∙ rounds_clear r.rounds (ap have_fault r.all_is ∙ none) ∙ r.fed_is
+
+-- 4. A description of another stream is told
+
+head_clear : (x : Fed) → has_fault x ≡ false → is_refusal x ≡ false
+unfolding has_fault is_refusal
+head_clear (n, Ok u) none = refl
+head_clear (n, Err fault) none = absurd cc
+
+both_false : (a b : Bool) → (a || b) ≡ false → (a ≡ false) × (b ≡ false)
+both_false true b none = absurd cc
+both_false false b none = (refl, none)
+
+neither : (fed : List Fed) → have_fault fed ≡ false → have_refusal fed ≡ false
+neither [] none = refl
+neither (x ∷ fed) none =
+    let two = both_false (has_fault x) (have_fault fed) none in
+    ap (λ (b : Bool). b || have_refusal fed) (head_clear x two.0) ∙ neither fed two.1
+
+pub refusal_told : (fed : List Fed) → have_fault fed ≡ false → have_refusal fed ≡ true → ⊥
+refusal_told fed none refused = let no : true ≡ false = sym refused ∙ neither fed none in cc

@@ -11,7 +11,7 @@ use Rattle.es_units.specs.Stamps.{moved}
 use Rattle.es_units.specs.UnitSteps.{none_so_far}
 use Rattle.es_feed.specs.Feeding.{Fed, FedStreamView, feed_first}
 use Rattle.es_feed.specs.StreamFeeding.{fed_of}
-use Rattle.es_feed.specs.declared.fed_map.FedMap.{FedMap}
+use Rattle.es_feed.specs.Maps.{MapView}
 
 -- 1. Among what is fed
 
@@ -89,7 +89,7 @@ pub record AreMovedByOne (earliest : ℕ) (streams : List FedStreamView) (findin
 -- so it is where nothing is told: no packet of the streams is lost, nothing cuts their units, no map changes, the clock does not jump, and each
 -- unit has a moment
 abbrev pub FedByOneConstant : Type 0
-FedByOneConstant = (earliest : ℕ) (maps : List FedMap) (streams : List FedStreamView) (bytes : List ℕ) → earliest < 2 ^ 33 → AreFirst streams →
+FedByOneConstant = (earliest : ℕ) (maps : List MapView) (streams : List FedStreamView) (bytes : List ℕ) → earliest < 2 ^ 33 → AreFirst streams →
     have_fault (fed_of (feed_first earliest maps streams) bytes) ≡ false →
     AreMovedByOne earliest streams (found_of_all bytes) (fed_of (feed_first earliest maps streams) bytes)
 
@@ -102,7 +102,7 @@ RiseFrom before (u ∷ us) = IfSome before (λ dts. dts < u.dts) × RiseFrom (So
 
 -- so it is of the units of each stream, whatever comes: also where packets are lost, a clock jumps or a stamp is damaged
 abbrev pub EachRises : Type 0
-EachRises = (earliest k : ℕ) (maps : List FedMap) (streams : List FedStreamView) (bytes : List ℕ) → AreFirst streams → k < length streams →
+EachRises = (earliest k : ℕ) (maps : List MapView) (streams : List FedStreamView) (bytes : List ℕ) → AreFirst streams → k < length streams →
     RiseFrom None (units_fed k (fed_of (feed_first earliest maps streams) bytes))
 
 -- then none may be sent before the one before it, with whatever lead

@@ -11,13 +11,13 @@ use Rattle.es_units.specs.UnitSteps.{UnitsSoFar, after_finding, ended_unit, made
 use Rattle.es_units.specs.declared.stamps.StampFault.{StampFault}
 use Rattle.es_feed.specs.declared.feed_fault.FeedFault.{FeedFault}
 use Rattle.es_feed.specs.declared.due.Due.{Due}
-use Rattle.es_feed.specs.declared.feed_fault.FeedFault.TheVariants.{Stamp, Ahead, Lost, Cut, Map, Packet, Restarted}
+use Rattle.es_feed.specs.declared.feed_fault.FeedFault.TheVariants.{Stamp, Ahead, Lost, Cut, Map, Other, Packet, Restarted}
 use Rattle.es_feed.specs.declared.feed_fault.CutCause.{CutCause}
 use Rattle.es_feed.specs.declared.feed_fault.CutCause.TheVariants as causes
 use Rattle.es_feed.specs.declared.feed_fault.CutUnits.{CutUnits}
 use Rattle.es_feed.specs.declared.feed_fault.Loss.{Loss}
 use Rattle.es_feed.specs.declared.feed_fault.NewMap.{NewMap}
-use Rattle.es_feed.specs.declared.fed_map.FedMap.{FedMap}
+use Rattle.es_feed.specs.declared.feed_fault.OtherStream.{OtherStream}
 use Rattle.es_feed.specs.declared.feed_fault.PacketFault.{PacketFault}
 use Rattle.es_feed.specs.declared.feed_fault.PacketFault.TheVariants.{Bad, Errored, Rest}
 use Rattle.es_feed.specs.declared.feed_fault.Restart.{Restart}
@@ -25,7 +25,7 @@ use Rattle.es_feed.specs.declared.origin.Origin.{Origin}
 use Rattle.es_feed.specs.declared.restart.Seen.{Seen}
 use Rattle.es_feed.specs.declared.restart.Seen.TheVariants.{NoUnit, Good, Falls}
 use Rattle.es_feed.specs.Origins.{base_for, no_origin, origin_with}
-use Rattle.es_feed.specs.Maps.{maps_after, new_map}
+use Rattle.es_feed.specs.Maps.{MapView, maps_after, new_map, other_stream}
 use Rattle.es_feed.specs.Restarts.{fallen_after, is_fall, origin_by, restart_of}
 
 -- 1. A stream
@@ -160,12 +160,12 @@ pub record FeedView : Type 0 where
   pub origin : Origin
   pub shown : Option ℕ
   pub ticked : ℕ
-  pub maps : List FedMap
+  pub maps : List MapView
   pub streams : List FedStreamView
   pub fallen : Option ℕ
 
 -- before the first packet of a stream
-abbrev pub feed_first : ℕ → List FedMap → List FedStreamView → FeedView
+abbrev pub feed_first : ℕ → List MapView → List FedStreamView → FeedView
 feed_first earliest maps streams = record { earliest = earliest; origin = no_origin; shown = None; ticked = 0; maps = maps; streams = streams; fallen = None }
 
 -- the greatest DTS of units that were fed and of ticks; 0 before the first
@@ -302,8 +302,14 @@ unfoldable pub packet_fed : Option PacketFault → Option Fed
 packet_fed None = None
 packet_fed (Some fault) = Some (255, Err (Packet fault))
 
+-- the description is of another stream
+unfoldable pub other_fed : Option OtherStream → Option Fed
+other_fed None = None
+other_fed (Some other) = Some (255, Err (Other other))
+
 abbrev pub told_first : FeedView → FindingView → List Fed
-told_first feed f = option_to_list (map_fed (new_map f feed.maps)) ++ option_to_list (packet_fed (packet_fault f))
+told_first feed f =
+    option_to_list (other_fed (other_stream f feed.maps)) ++ (option_to_list (map_fed (new_map f feed.maps)) ++ option_to_list (packet_fed (packet_fault f)))
 
 abbrev pub fed_one : FeedView → FindingView → List Fed
 fed_one feed f = told_first feed f ++ fed_found (watched feed f) f

@@ -10,7 +10,7 @@ use Rattle.devices.specs.declared.halt.Halt.{Halt}
 use Rattle.devices.specs.declared.halt.Halt.TheVariants.{Read, Write, Memory}
 use Rattle.es_feed.specs.Feeding.{Fed, FeedView}
 use Rattle.es_feed.specs.Watching.{IsWatchedBy, IsWatchedOf, WatchedView}
-use Rattle.es_feed.specs.FedLines.{fed_lines, fed_records, have_fault}
+use Rattle.es_feed.specs.FedLines.{fed_lines, fed_records, have_fault, have_refusal}
 
 -- 1. What a stream has fed while it comes
 
@@ -30,13 +30,14 @@ pub record Passes (pids : List ℕ) (came : List ℕ) (fed : List Fed) (input ou
   pub clean : IsClean output
   pub tells : Tells faults.before faults.after (fed_lines pids fed)
 
--- the input came to its end, and all that it feeds went out
+-- the input came to its end, and all that it feeds went out; or the description is of another stream, and the stream is taken to end with
+-- the read that shows it
 pub record PassesAll (first : FeedView) (pids : List ℕ) (input output faults : Device) (faulty : Bool) : Type 0 where
   pub came : List ℕ
   pub fed : List Fed
   pub fed_is : IsWatchedOf first came fed
   pub passes : Passes pids came fed input output faults
-  pub ends : IsAtEnd input.after.bytes
+  pub ends : IsAtEnd input.after.bytes ⊎ (have_refusal fed ≡ true)
   pub unfailed : IsClean input
   pub faulty_is : faulty ≡ have_fault fed
 
@@ -118,7 +119,8 @@ pub record Midway (first : FeedView) (pids : List ℕ) (input output faults : De
   pub faulty_is : faulty ≡ have_fault fed
 
 abbrev pub PassesPieces : FeedView → List ℕ → Device → Device → Device → Result Bool Halt → WatchedView → Type 0
-PassesPieces first pids input output faults (Ok faulty) state = Midway first pids input output faults faulty state × IsAtEnd input.after.bytes
+PassesPieces first pids input output faults (Ok faulty) state =
+    (m : Midway first pids input output faults faulty state) × (IsAtEnd input.after.bytes ⊎ (have_refusal m.fed ≡ true))
 PassesPieces first pids input output faults (Err Read) state = PassesFront first pids Read input output faults
 PassesPieces first pids input output faults (Err Write) state = FailsToPass first pids input output faults
 PassesPieces first pids input output faults (Err Memory) state = PassesFront first pids Memory input output faults

@@ -7,7 +7,7 @@ use Rattle.es_units.specs.declared.stamps.StampFault.{StampFault}
 use Rattle.es_units.specs.declared.stamps.StampFault.TheVariants.{DtsNotIncreasing, PtsOutOfRange, DtsTooFar}
 use Rattle.es_feed.specs.Origins.{origin_jumped}
 use Rattle.es_feed.specs.declared.feed_fault.FeedFault.{FeedFault}
-use Rattle.es_feed.specs.declared.feed_fault.FeedFault.TheVariants.{Stamp, Ahead, Lost, Cut, Map, Clock, Packet, Restarted, Silent, Slipped}
+use Rattle.es_feed.specs.declared.feed_fault.FeedFault.TheVariants.{Stamp, Ahead, Lost, Cut, Map, Clock, Other, Packet, Restarted, Silent, Slipped}
 use Rattle.es_feed.specs.declared.feed_fault.Restart.{Restart}
 use Rattle.es_feed.specs.declared.origin.Origin.{Origin}
 use Rattle.es_feed.specs.declared.restart.Seen.{Seen}
@@ -28,6 +28,7 @@ is_fall (Lost loss) = false
 is_fall (Cut cut) = false
 is_fall (Map change) = false
 is_fall (Clock jump) = false
+is_fall (Other other) = false
 is_fall (Packet fault) = false
 is_fall (Restarted restart) = false
 is_fall (Silent dts) = false

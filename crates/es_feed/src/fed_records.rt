@@ -8,7 +8,8 @@ ghost use Rattle.es_feed.specs.FedLines as spec;
 ghost use Rattle.es_feed.specs.Records.{Puts};
 
 use crate::feed_fault::{
-    ClockJump, CutCause, CutUnits, FeedFault, Loss, NewMap, PacketFault, Restart, SlippedBytes,
+    ClockJump, CutCause, CutUnits, FeedFault, Loss, NewMap, OtherStream, PacketFault, Restart,
+    SlippedBytes,
 };
 use crate::pending::PendingBytes;
 use crate::records::{flush, put_record};
@@ -171,6 +172,19 @@ fn report_packet<E: Sink>(faults: &mut E, fault: PacketFault)
     }
 }
 
+// Reports that the description is of another stream.
+fn report_other<E: Sink>(faults: &mut E, other: OtherStream)
+    ensures { Reports (writes E.Sink faults.old faults.new) (spec.other_line other) }
+{
+    let numbers = [
+        u128::from(other.program),
+        u128::from(other.packet),
+        u128::from(other.pid),
+        u128::from(other.stream_type),
+    ];
+    report_line(faults, "other", &numbers);
+}
+
 // Reports bytes that are in no packet.
 fn report_slip<E: Sink>(faults: &mut E, bytes: SlippedBytes)
     ensures { Reports (writes E.Sink faults.old faults.new) (spec.slip_line bytes) }
@@ -209,6 +223,7 @@ fn report_fault<E: Sink>(faults: &mut E, pid: u16, fault: FeedFault)
         FeedFault::Cut(cut) => report_cut(faults, pid, cut),
         FeedFault::Map(map) => report_map(faults, map),
         FeedFault::Clock(jump) => report_jump(faults, jump),
+        FeedFault::Other(other) => report_other(faults, other),
         FeedFault::Packet(fault) => report_packet(faults, fault),
         FeedFault::Restarted(restart) => report_restart(faults, restart),
         FeedFault::Silent(dts) => report_silence(faults, dts),

@@ -50,6 +50,18 @@ pub struct NewMap {
     pub version: u8,
 }
 
+/// A stream of a description that the first map of its program does not name.
+#[derive(Clone, Copy, PartialEq, Eq)]
+pub struct OtherStream {
+    /// program_number.
+    pub program: u16,
+    /// The packet at which the map is whole.
+    pub packet: u64,
+    pub pid: u16,
+    /// The type that the description says.
+    pub stream_type: u8,
+}
+
 /// A clock reference that does not go on from the one before it on its program's clock.
 #[derive(Clone, Copy, PartialEq, Eq)]
 pub struct ClockJump {
@@ -111,6 +123,8 @@ pub enum FeedFault {
     Clock(ClockJump),
     /// A packet is not read.
     Packet(PacketFault),
+    /// The description is of another stream.
+    Other(OtherStream),
     /// Bytes are in no packet.
     Slipped(SlippedBytes),
     /// An encoder restarts, and no clock is known.

@@ -39,7 +39,7 @@ mod stream_feed;
 mod unit_feed;
 mod watched_feed;
 
-pub use fed_map::{CurrentMap, FedMap};
+pub use fed_map::{CurrentMap, FedMap, NamedStream};
 pub use fed_stream::FedStream;
 pub use feed_fault::{
     ClockJump, CutCause, CutUnits, FeedFault, Loss, NewMap, PacketFault, Restart,

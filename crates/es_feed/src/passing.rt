@@ -4,6 +4,7 @@ ghost use Rattle.std.specs.Prelude.{◌≡◌, ◌<◌, ◌≤◌, ◌||◌, ℕ
 ghost use Rattle.devices.specs.Devices.{reads, writes};
 ghost use Rattle.es_feed.specs.Feeding.{Fed, FeedView};
 ghost use Rattle.es_feed.specs.Watching.{IsWatchedBy, watched_first};
+ghost use Rattle.es_feed.specs.FedLines as lines;
 ghost use Rattle.es_feed.specs.Passing as spec;
 
 use crate::fed_records::{tell_faults, write_fed};
@@ -74,7 +75,24 @@ fn feed_piece<R: Source>(
     Ok(true)
 }
 
-// Reads a stream to the end of the input; what each read feeds goes out before the next. Returns whether a line was told.
+// Whether what is fed says that the description is of another stream.
+#[tactic(auto, unfolding(crate::specs::FedLines::is_refusal, crate::specs::FedLines::is_other))]
+fn is_refusal(fed: &(u8, Result<Unit, FeedFault>)) -> bool
+    ensures { result ≡ lines.is_refusal fed.now }
+{
+    match &fed.1 {
+        Ok(_) => false,
+        Err(fault) => matches!(fault, FeedFault::Other(_)),
+    }
+}
+
+fn have_refusal(fed: &[(u8, Result<Unit, FeedFault>)]) -> bool
+    ensures { result ≡ lines.have_refusal fed.now }
+{
+    fed.iter().any(|one| is_refusal(one))
+}
+
+// Reads a stream to the end of the input, or until it shows that the description is of another one; what each read feeds goes out before the next. Returns whether a line was told.
 fn pass_pieces<R: Source, W: Sink, E: Sink>(
     alloc: Global,
     pids: &[u16],
@@ -100,12 +118,16 @@ fn pass_pieces<R: Source, W: Sink, E: Sink>(
         if !more {
             return Ok(faulty);
         }
+        let refused = have_refusal(&fed);
         let found = match let_out(pids, &mut fed, output, faults) {
             Ok(found) => found,
             Err(halt) => return Err(halt),
         };
         if found {
             faulty = true;
+        }
+        if refused {
+            return Ok(faulty);
         }
     }
     Err(Halt::Read)
@@ -170,7 +192,7 @@ fn pass_all<R: Source, W: Sink, E: Sink>(
 
 /// Reads a stream as it arrives, writes the record of each unit and tick that it feeds before the next read, reports each unit
 /// that has no moment, each loss of packets, whatever else cuts units, each new map, each jump of the clock and all else that is told, and returns the
-/// status: 0 all went out, 1 any of these was reported, 3 a device failed or out of memory.
+/// status: 0 all went out, 1 any of these was reported (a description of another stream ends the run), 3 a device failed or out of memory.
 pub fn pass_stream<R: Source, W: Sink, E: Sink>(
     alloc: Global,
     feed: UnitFeed,

@@ -6,10 +6,10 @@ ghost use Rattle.std.specs.Option.{option_to_list};
 ghost use Rattle.es_feed.specs.Feeding as spec;
 
 use crate::due::Due;
-use crate::fed_map::{FedMap, watch};
+use crate::fed_map::{FedMap, other_stream, watch};
 use crate::fed_stream::FedStream;
 use crate::fed_streams::{greatest_of, place_of, take_at};
-use crate::feed_fault::{FeedFault, NewMap, PacketFault, Restart};
+use crate::feed_fault::{FeedFault, NewMap, OtherStream, PacketFault, Restart};
 use crate::origin::Origin;
 use crate::restart::{Seen, fallen_after, origin_by, restart_of, seen_of};
 use demux::{Finding, What};
@@ -77,6 +77,17 @@ fn told_map(change: Option<NewMap>) -> Option<(u8, Result<Unit, FeedFault>)>
     match change {
         None => None,
         Some(change) => Some((NO_STREAM, Err(FeedFault::Map(change)))),
+    }
+}
+
+// What is told of a description of another stream.
+#[tactic(auto, unfolding(crate::specs::Feeding::other_fed))]
+fn told_other(other: Option<OtherStream>) -> Option<(u8, Result<Unit, FeedFault>)>
+    ensures { result ≡ spec.other_fed other }
+{
+    match other {
+        None => None,
+        Some(other) => Some((NO_STREAM, Err(FeedFault::Other(other)))),
     }
 }
 
@@ -232,6 +243,7 @@ impl UnitFeed {
         ensures feed { OnOk result (self.new ≡ spec.after_one self.old (finding_view finding.now)) }
         ensures fed { OnOk result (fed.new.items ≡ fed.old.items ++ spec.fed_one self.old (finding_view finding.now)) }
     {
+        push_fed(fed, told_other(other_stream(&self.maps, finding)))?;
         let change = watch(&mut self.maps, finding);
         push_fed(fed, told_map(change))?;
         push_fed(fed, told_packet(packet_fault(finding)))?;

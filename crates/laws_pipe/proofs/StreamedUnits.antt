@@ -15,13 +15,13 @@ use Rattle.packet_sync.specs.Slips.{carried}
 use Rattle.es_units.specs.CarriedUnits.{wire_units}
 use Rattle.es_units.specs.Stamps.{distance, dts_at, moved, unit_at}
 use Rattle.es_feed.specs.EachStream.{AreFirst, fed_stream, have_fault, one_by_one}
-use Rattle.es_feed.specs.Feeding.{FedStreamView}
+use Rattle.es_feed.specs.Feeding.{Fed, FedStreamView}
 use Rattle.es_feed.specs.StreamFeeding.{fed_of}
 use Rattle.es_feed.proofs.MovedApart.{fed_apart}
 use Rattle.es_feed.specs.MovedApart.{AreWhole, after_time}
-use Rattle.es_feed.specs.FedLines.{fed_records}
+use Rattle.es_feed.specs.FedLines.{fed_records, have_refusal}
 use Rattle.es_feed.specs.Passing.{EndsStream}
-use Rattle.es_feed.proofs.WatchedStreams.{clear_is_fed}
+use Rattle.es_feed.proofs.WatchedStreams.{clear_is_fed, refusal_told}
 use Rattle.es_units.specs.Merging.{AreMerged}
 use Rattle.stream_jobs.specs.ClockConstants.{HasConstants, IsMovedBy, clock_of}
 use Rattle.stream_jobs.specs.FoundUnits.{AreMoved, source_of}
@@ -124,13 +124,18 @@ all_came (Some xs) (Some ys) bytes came known reads ends =
     let split : xs ≡ came ++ ys = reads in
     sym (append-nil came) ∙ ap (λ (rest : List ℕ). came ++ rest) (sym none) ∙ sym split ∙ all
 
+-- where nothing is told, the description is of this stream
+at_end : (E : Type 0) (fed : List Fed) → have_fault fed ≡ false → E ⊎ (have_refusal fed ≡ true) → E
+at_end E fed none (inl ends) = ends
+at_end E fed none (inr refused) = absurd (refusal_told fed none refused)
+
 ended : (d : Described) (bytes output : List ℕ) (stream records faults : Device) → stream.before.bytes ≡ Some bytes → records.before.bytes ≡ Some [] → records.after.bytes ≡ Some output →
     EndsStream (feed_of d) (pids_of d) stream records faults 0 → FedBy d bytes output
 ended d bytes output stream records faults known empty output_is e =
     let p = e.passes in
-    let came : p.came ≡ bytes = all_came stream.before.bytes stream.after.bytes bytes p.came known p.passes.read p.ends in
     let quiet : e.faulty ≡ false = not_faulty e.faulty 0 refl e.status_is in
     let none : have_fault p.fed ≡ false = sym p.faulty_is ∙ quiet in
+    let came : p.came ≡ bytes = all_came stream.before.bytes stream.after.bytes bytes p.came known p.passes.read (at_end (IsAtEnd stream.after.bytes) p.fed none p.ends) in
     let all : p.fed ≡ fed_of (feed_of d) p.came = clear_is_fed (feed_of d) p.came p.fed p.fed_is none in
     record {
       silent = ap (λ (b : List ℕ). have_fault (fed_of (feed_of d) b)) (sym came) ∙ ap have_fault (sym all) ∙ none;

@@ -1,10 +1,11 @@
 -- The units of the streams of a description, while a stream comes.
-use Rattle.std.specs.Prelude.{◌≡◌, ◌⊎◌, ℕ, ◌+◌, List, [], ◌∷◌, map, Some, None, Result, Ok, Err, codes, ⊤}
+use Rattle.std.specs.Prelude.{◌≡◌, ◌⊎◌, ℕ, ◌+◌, ◌==◌, List, [], ◌∷◌, filter, map, Some, None, Result, Ok, Err, codes, ⊤}
 use Rattle.description.specs.Described.{Described, DescribedProgram, DescribedStream}
 use Rattle.description.specs.declared.fault.DescError.TheVariants as refused_by
 pub use Rattle.es_feed.specs.EachStream.{fed_stream}
 use Rattle.es_feed.specs.Feeding.{FeedView, FedStreamView, feed_first}
-use Rattle.es_feed.specs.declared.fed_map.FedMap.{FedMap}
+use Rattle.es_feed.specs.Maps.{MapView}
+use Rattle.es_feed.specs.declared.fed_map.NamedStream.{NamedStream}
 use Rattle.es_feed.specs.Passing.{RunsStream}
 use Rattle.checked_jobs.specs.Jobs.{described}
 use Rattle.description.specs.Codes.{fault_code, fault_item}
@@ -30,12 +31,19 @@ unfoldable pub streams_from : ℕ → List DescribedStream → List FedStreamVie
 streams_from k [] = []
 streams_from k (s ∷ streams) = fed_stream k s.pid ∷ streams_from (k + 1) streams
 
--- the map of a program, before its first section
-abbrev pub map_of : DescribedProgram → FedMap
-map_of p = record { program_number = p.number; current = None }
+-- the streams of a program, by PID and stream_type
+abbrev pub named_stream : DescribedStream → NamedStream
+named_stream s = record { pid = s.pid; stream_type = s.stream_type }
 
-abbrev pub maps_of : Described → List FedMap
-maps_of d = map map_of d.programs
+abbrev pub named_of : ℕ → List DescribedStream → List NamedStream
+named_of number streams = map named_stream (filter (λ s. s.program == number) streams)
+
+-- the map of a program, before its first section
+abbrev pub map_of : List DescribedStream → DescribedProgram → MapView
+map_of streams p = record { program_number = p.number; current = None; named = named_of p.number streams }
+
+abbrev pub maps_of : Described → List MapView
+maps_of d = map (map_of d.streams) d.programs
 
 abbrev pub feed_of : Described → FeedView
 feed_of d = feed_first earliest (maps_of d) (streams_from 0 d.streams)

@@ -10,7 +10,7 @@ use checked_jobs::read_description;
 use counted_io::{Sink, Source};
 use description::{DescError, DescFault, Description, ProgramDescription, StreamDescription};
 use devices::{Halt, NamedFiles, read_whole, report_halt, report_line};
-use es_feed::{FedMap, FedStream, UnitFeed, pass_stream};
+use es_feed::{FedMap, FedStream, NamedStream, UnitFeed, pass_stream};
 use std::alloc::{AllocError, Global};
 
 /// When the first unit of all is due, in units of 90 kHz.
@@ -48,25 +48,57 @@ fn fed_streams(alloc: Global, streams: &[StreamDescription]) -> Result<Vec<FedSt
     Ok(fed)
 }
 
-// The map of a program, before its first section.
-fn map_of(program: &ProgramDescription) -> FedMap
-    ensures { result ≡ spec.map_of program.now }
+// A stream of a description by its PID and stream_type.
+fn named_stream(stream: &StreamDescription) -> NamedStream
+    ensures { result ≡ spec.named_stream stream.now }
 {
-    FedMap {
+    NamedStream {
+        pid: stream.pid,
+        stream_type: stream.stream_type,
+    }
+}
+
+// The streams of a program.
+fn named_of(
+    alloc: Global,
+    number: u16,
+    streams: &[StreamDescription],
+) -> Result<Vec<NamedStream>, AllocError>
+    ensures { IfOk result (λ named. named.items ≡ spec.named_of number streams.now) }
+{
+    streams
+        .iter()
+        .filter(|stream| stream.program == number)
+        .map(|stream| named_stream(stream))
+        .collect(alloc)
+}
+
+// Adds the map of a program, before its first section.
+fn push_map(
+    alloc: Global,
+    program: &ProgramDescription,
+    streams: &[StreamDescription],
+    maps: &mut Vec<FedMap>,
+) -> Result<(), AllocError>
+    ensures { OnOk result (maps.new.items ≡ maps.old.items ++ (spec.map_of streams.now program.now ∷ [])) }
+{
+    maps.push(FedMap {
         program_number: program.number(),
         current: None,
-    }
+        named: named_of(alloc, program.number(), streams)?,
+    })?;
+    Ok(())
 }
 
 // The map of each program of a description.
 fn maps_of(alloc: Global, description: &Description) -> Result<Vec<FedMap>, AllocError>
     ensures { IfOk result (λ maps. maps.items ≡ spec.maps_of description.now) }
 {
-    description
-        .programs()
-        .iter()
-        .map(|program| map_of(program))
-        .collect(alloc)
+    let mut maps = Vec::new(alloc);
+    for program in description.programs() {
+        push_map(alloc, program, description.streams(), &mut maps)?;
+    }
+    Ok(maps)
 }
 
 // The PID of each stream of a description.

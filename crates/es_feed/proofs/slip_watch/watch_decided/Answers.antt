@@ -1,4 +1,4 @@
-use Rattle.std.proofs.Common.{◌≤◌, ◌++◌, ◌∙◌, ◌≡◌, ℕ, List, ap, arith, drop, length, length-drop, subst, sym}
+use Rattle.std.proofs.Common.{◌≤◌, ◌+◌, ◌++◌, ◌∙◌, ◌≡◌, ℕ, List, ap, arith, drop, length, length-drop, subst, sym}
 use Rattle.packet_sync.specs.declared.slip.Slip.{Slip}
 use Rattle.es_feed.specs.Watching.{AreSlips, place_with, slips_with}
 use Rattle.es_feed.specs.declared.slip_watch.StreamPlace.{StreamPlace}

@@ -1,4 +1,4 @@
-use Rattle.std.proofs.Common.{◌≡◌, ◌++◌, ◌∙◌, [], ℕ, List, drop, refl, subst, sym, ap}
+use Rattle.std.proofs.Common.{◌≡◌, ◌++◌, ◌∙◌, true, false, [], ℕ, List, drop, refl, subst, sym, ap}
 use Rattle.std.proofs.lemmas.List.{drop_all}
 use Rattle.packet_sync.specs.declared.slip.Slip.{Slip}
 use Rattle.es_feed.specs.Watching.{AreSlips, WatchView}

@@ -1,4 +1,4 @@
-use Rattle.std.proofs.Common.{◌≡◌, ◌<◌, ◌++◌, ◌∙◌, ℕ, List, arith, drop, length, length-drop, subst, sym, ap}
+use Rattle.std.proofs.Common.{◌≡◌, ◌<◌, ◌++◌, ◌∙◌, false, ℕ, List, arith, drop, length, length-drop, subst, sym, ap}
 use Rattle.packet_sync.specs.declared.slip.Slip.{Slip}
 use Rattle.es_feed.specs.Watching.{AreSlips, WatchView}
 use Rattle.es_feed.proofs.WatchedStreams.{piece_watched}
