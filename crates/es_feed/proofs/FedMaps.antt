@@ -60,20 +60,20 @@ map_new f ms k change at below gives =
 
 -- The streams of a description, one after another
 
-other_step : (streams : List StreamView) (i : ℕ) (ns : List NamedStream) (n : NamedStream) → i < length ns → n ≡ get_or ns i n →
-    first_other streams (drop i ns) ≡ (if is_named streams n then first_other streams (drop (i + 1) ns) else Some n)
+other_step : (streams : List StreamView) (i : ℕ) (ns : List NamedStream) (d : NamedStream) → i < length ns →
+    first_other streams (drop i ns) ≡ (if is_named streams (get_or ns i d) then first_other streams (drop (i + 1) ns) else Some (get_or ns i d))
 unfolding first_other
-other_step streams i ns n below at = rw (drop-cons ns i n below, add-one i, sym at) refl
+other_step streams i ns d below = rw (drop-cons ns i d below, add-one i) refl
 
-pub other_here : (streams : List StreamView) (i : ℕ) (ns : List NamedStream) (n : NamedStream) → i < length ns → n ≡ get_or ns i n → is_named streams n ≡ false →
-    first_other streams (drop i ns) ≡ Some n
-other_here streams i ns n below at other =
-    other_step streams i ns n below at ∙ ap (λ (b : Bool). if b then first_other streams (drop (i + 1) ns) else Some n) other
+pub other_here : (d : NamedStream) (streams : List StreamView) (i : ℕ) (ns : List NamedStream) → i < length ns → is_named streams (get_or ns i d) ≡ false →
+    first_other streams (drop i ns) ≡ Some (get_or ns i d)
+other_here d streams i ns below other =
+    other_step streams i ns d below ∙ ap (λ (b : Bool). if b then first_other streams (drop (i + 1) ns) else Some (get_or ns i d)) other
 
-pub other_later : (streams : List StreamView) (i : ℕ) (ns : List NamedStream) (n : NamedStream) → i < length ns → n ≡ get_or ns i n → is_named streams n ≡ true →
+pub other_later : (d : NamedStream) (streams : List StreamView) (i : ℕ) (ns : List NamedStream) → i < length ns → is_named streams (get_or ns i d) ≡ true →
     first_other streams (drop i ns) ≡ first_other streams (drop (i + 1) ns)
-other_later streams i ns n below at is =
-    other_step streams i ns n below at ∙ ap (λ (b : Bool). if b then first_other streams (drop (i + 1) ns) else Some n) is
+other_later d streams i ns below is =
+    other_step streams i ns d below ∙ ap (λ (b : Bool). if b then first_other streams (drop (i + 1) ns) else Some (get_or ns i d)) is
 
 pub other_end : (streams : List StreamView) (i : ℕ) (ns : List NamedStream) → length ns ≤ i → first_other streams (drop i ns) ≡ None
 unfolding first_other

@@ -26,7 +26,8 @@ after_slip : (s : Stretch) (rest : List ℕ) (found : List Slip) (p : StreamPlac
     with_slip s.slipped (with_stretch s.in_step rest n) ≡ notes_at (with_stretch s.in_step rest n).fields (slips_with s p found) (place_with s p)
 after_slip s rest found p n is packet start true none =
     let zero : s.slipped ≡ 0 = no_more s.slipped none in
-    rw (none, is, packet, start, zero) refl
+    let still : (p.start + s.in_step) + 0 ≡ p.start + s.in_step = omega arith in
+    rw (none, is, packet, start, zero, still) refl
   where
     no_more : (m : ℕ) → (m == 0) ≡ true → m ≡ 0
     no_more m e = search (arith, e)

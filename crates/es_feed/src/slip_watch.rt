@@ -92,7 +92,8 @@ fn watch_decided(
             return Ok(at);
         }
         note_slip(stretch, *place, found)?;
-        *place = place_with(stretch, *place)?;
+        let next = place_with(stretch, *place)?;
+        *place = next;
         at += stretch.in_step + stretch.slipped;
     }
     Ok(at)

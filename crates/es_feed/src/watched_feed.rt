@@ -72,7 +72,8 @@ impl WatchedFeed {
         self.stream.push(piece, fed)?;
         let mut found = Vec::new(self.alloc);
         self.watch.push(piece, &mut found)?;
-        push_slips(fed, &found)
+        push_slips(fed, &found)?;
+        Ok(())
     }
 
     /// Ends the stream: what the end feeds goes to `fed`, where nothing is, and then the slips that it decides.
@@ -88,6 +89,7 @@ impl WatchedFeed {
         let mut found = Vec::new(self.alloc);
         self.stream.finish(fed)?;
         self.watch.finish(&mut found)?;
-        push_slips(fed, &found)
+        push_slips(fed, &found)?;
+        Ok(())
     }
 }

@@ -5,12 +5,12 @@ use Rattle.es_feed.proofs.fed_map.first_other.Goals as goal
 
 pub returns-then-not-is_named : goal.returns-then-not-is_named
 returns-then-not-is_named c =
-    sym (c.loop-one.invariant ∙ other_here (streams_of c.args.streams) c.loop-one.one-index c.args.named.now c.one-item.result c.loop-one-test.true c.one-item.is
+    sym (c.loop-one.invariant ∙ other_here _ (streams_of c.args.streams) c.loop-one.one-index c.args.named.now c.loop-one-test.true
     (sym c.is_named.ensures ∙ c.if-not-is_named.true))
 
 pub loop-one-preserved : goal.loop-one-preserved
 loop-one-preserved c =
-    c.loop-one.invariant ∙ other_later (streams_of c.args.streams) c.loop-one.one-index c.args.named.now c.one-item.result c.loop-one-test.true c.one-item.is
+    c.loop-one.invariant ∙ other_later _ (streams_of c.args.streams) c.loop-one.one-index c.args.named.now c.loop-one-test.true
     (sym c.is_named.ensures ∙ c.if-not-is_named.false)
 
 pub returns : goal.returns

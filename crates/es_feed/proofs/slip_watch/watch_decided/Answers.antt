@@ -18,7 +18,7 @@ loop-at-preserved c =
     record {
       within = omega (arith, e.within, ap (length {A = ℕ}) c.split_at.ensures.back, length-drop at bytes, i.within);
       taken = λ stream gone so.
-          subst (λ (found : List Slip). AreSlips stream c.args.ended next c.in_ok-place_with.result (gone ++ found)) (sym c.in_ok-note_slip.ensures)
-          (subst (λ (q : StreamPlace). AreSlips stream c.args.ended next q (gone ++ slips_with s p c.loop-at.found.items)) (sym c.in_ok-place_with.ensures)
+          subst (λ (found : List Slip). AreSlips stream c.args.ended next c.in_ok-next.next (gone ++ found)) (sym c.in_ok-note_slip.ensures)
+          (subst (λ (q : StreamPlace). AreSlips stream c.args.ended next q (gone ++ slips_with s p c.loop-at.found.items)) (sym c.in_ok-next.ensures)
           (slips_more stream bytes c.args.ended at rest s p gone c.loop-at.found.items c.split_at.ensures.back e.within e.stepped e.packets (i.taken stream gone so)));
     }

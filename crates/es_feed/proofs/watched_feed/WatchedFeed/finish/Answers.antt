@@ -20,7 +20,7 @@ returns c = λ first stream before so.
     let found : inside.found ++ c.finish-2.new.found.items ≡ slips stream =
     c.in_ok-finish-2.ensures stream inside.found (subst (λ (xs : List Slip). AreSlips stream false i.watch.held i.watch.place xs) (sym empty) inside.slips_are) in
     record {
-      rounds = subst (λ (xs : List Fed). AreRounds (fed_of first stream) (slips stream) (before ++ xs)) (sym c.in_ok-push_slips.ensures)
+      rounds = subst (λ (xs : List Fed). AreRounds (fed_of first stream) (slips stream) (before ++ xs)) (sym (c.in_ok-push_slips.ensures ∙ ap (λ (xs : List Slip). c.finish.new.fed.items ++ slips_fed xs) c.deref.ensures.value))
           (subst (λ (xs : List Fed). AreRounds xs (slips stream) (before ++ (c.finish.new.fed.items ++ slips_fed c.finish-2.new.found.items))) fed
           (subst (λ (xs : List Slip). AreRounds (inside.fed ++ c.finish.new.fed.items) xs (before ++ (c.finish.new.fed.items ++ slips_fed c.finish-2.new.found.items))) found
           (round_more inside.fed c.finish.new.fed.items inside.found c.finish-2.new.found.items before inside.rounds)));

@@ -19,7 +19,7 @@ returns-clause-taken c = λ first stream before so.
     record {
       fed = inside.fed ++ c.push.new.fed.items;
       found = inside.found ++ c.push-2.new.found.items;
-      rounds = subst (λ (xs : List Fed). AreRounds (inside.fed ++ c.push.new.fed.items) (inside.found ++ c.push-2.new.found.items) (before ++ xs)) (sym c.in_ok-push_slips.ensures)
+      rounds = subst (λ (xs : List Fed). AreRounds (inside.fed ++ c.push.new.fed.items) (inside.found ++ c.push-2.new.found.items) (before ++ xs)) (sym (c.in_ok-push_slips.ensures ∙ ap (λ (xs : List Slip). c.push.new.fed.items ++ slips_fed xs) c.deref.ensures.value))
           (round_more inside.fed c.push.new.fed.items inside.found c.push-2.new.found.items before inside.rounds);
       by = fed;
       slips_are = found;
