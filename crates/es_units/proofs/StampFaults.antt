@@ -16,7 +16,7 @@ unfolding fault_or
 place_none place (Some x) next is = absurd (let no : ⊥ = cc in no)
 place_none place None next is = (refl, is)
 
-test_none : (b : Bool) (fault : StampFault) → (if b then Some fault else None) ≡ None → b ≡ false
+pub test_none : (b : Bool) (fault : StampFault) → (if b then Some fault else None) ≡ None → b ≡ false
 test_none true fault is = absurd (let no : ⊥ = cc in no)
 test_none false fault is = refl
 

@@ -12,11 +12,14 @@ use Rattle.description.proofs.Pids.{pid_positions, pids_apart}
 use Rattle.description.specs.Tables.{table_count}
 use Rattle.demux.specs.Views.{FindingView}
 use Rattle.packet_sync.specs.Slips.{carried}
-use Rattle.es_units.specs.CarriedUnits.{wire_units}
+use Rattle.es_units.specs.ApartUnits.{apart_wire_units, has_same}
+use Rattle.es_units.specs.CarriedUnits.{CarriedUnit, carried_units, wire_units}
 use Rattle.es_units.specs.Stamps.{distance, dts_at, moved, unit_at}
-use Rattle.es_feed.specs.EachStream.{AreFirst, fed_stream, have_fault, one_by_one}
+use Rattle.es_feed.specs.EachStream.{AreFirst, RiseFrom, fed_stream, found_of_all, have_fault, one_by_one}
 use Rattle.es_feed.specs.Feeding.{FedStreamView}
 use Rattle.es_feed.specs.StreamFeeding.{fed_of}
+use Rattle.es_units.proofs.ApartUnits.{apart_stay}
+use Rattle.es_feed.proofs.EachStream.{by_one_constant, each_rises}
 use Rattle.es_feed.proofs.MovedApart.{fed_apart}
 use Rattle.es_feed.specs.MovedApart.{AreWhole, after_time}
 use Rattle.es_feed.specs.FedLines.{fed_records}
@@ -37,6 +40,7 @@ use Rattle.job_run.specs.Streams.{findings_of}
 use Rattle.tsjob_cli.specs.StreamedUnits.{GoesBy, earliest, feed_of, maps_of, pids_of, streams_from}
 use Rattle.laws_pipe.specs.StreamedUnits.{AreAlike, AreLaterByOne, TheSameUnits}
 use Rattle.laws_pipe.proofs.PipedRuns.{GivenOf, given_by_run, taken}
+use Rattle.laws_pipe.proofs.RisingUnits.{none_same}
 
 -- 1. The streams of a description, before their first unit
 
@@ -176,17 +180,54 @@ at_place P xs i x all at =
 
 -- 4. All are moved by the constant of their clock
 
-with_own : (findings : List FindingView) (base : ℕ) (t : TimedStreamView) → IsMovedBy false findings base t → AreMoved (wire_units t.pid findings) base t.units
+-- the units of a stream are due one after another, so none has another DTS than its own
+stream_stays : (d : Described) (bytes : List ℕ) (k : ℕ) (s : FedStreamView) → IsInRange d → have_fault (fed_of (feed_of d) bytes) ≡ false →
+    slice_get (streams_from 0 d.streams) k ≡ Some s → one_by_one s.units.pid (found_of_all bytes) ≡ true →
+    apart_wire_units s.units.pid (found_of_all bytes) ≡ wire_units s.units.pid (found_of_all bytes)
+stream_stays d bytes k s ranges silent at alone =
+    let streams = streams_from 0 d.streams in
+    let us = carried_units s.units.pid (found_of_all bytes) in
+    let m = by_one_constant earliest (maps_of d) streams bytes (omega arith) (first_streams d ranges) silent in
+    let rise = each_rises earliest k (maps_of d) streams bytes (first_streams d ranges) (slice_get_within streams k s at) in
+    let none : has_same us ≡ false = none_same m.base us (subst (λ (l : List AccessUnit). RiseFrom None l) (m.moved_by k s at alone) rise) in
+    ap (λ (l : List CarriedUnit). map (λ (u : CarriedUnit). u.unit) l) (apart_stay us none)
+
+-- those of the streams of a job
+Stay : List FindingView → JobInputView → Type 0
+Stay findings input = (k : ℕ) (t : TimedStreamView) → slice_get input.streams k ≡ Some t → apart_wire_units t.pid findings ≡ wire_units t.pid findings
+
+stay : (a : JobArgumentsView) (d : Described) (bytes : List ℕ) (input : JobInputView) → IsInRange d → have_fault (fed_of (feed_of d) bytes) ≡ false →
+    AreAlike a d (findings_of (carried bytes)) input → Stay (findings_of (carried bytes)) input
+unfolding Stay
+stay a d bytes input ranges silent alike k t is =
+    let findings = findings_of (carried bytes) in
+    let count : length d.streams ≡ length input.streams =
+    sym (length-map d.streams (λ s. s.pid)) ∙ ap (length {A = ℕ}) alike.pids ∙ length-map input.streams (λ t. t.pid) in
+    let below : k < length d.streams = let within = slice_get_within input.streams k t is in omega (arith, within, count) in
+    let b = both_at a d findings input k alike below in
+    let own : b.timed ≡ t = same_Some b.timed t (sym b.timed_is ∙ is) in
+    let pid : b.described.pid ≡ t.pid = b.pid ∙ ap (λ (x : TimedStreamView). x.pid) own in
+    let number : 0 + k ≡ k = omega arith in
+    let place : slice_get (streams_from 0 d.streams) k ≡ Some (fed_stream k b.described.pid) =
+    fed_at 0 k d.streams b.described b.described_is ∙ ap (λ (n : ℕ). Some (fed_stream n b.described.pid)) number in
+    let alone : one_by_one t.pid findings ≡ true = at_place (λ t. one_by_one t.pid findings ≡ true) input.streams k t alike.alone is in
+    subst (λ (p : ℕ). apart_wire_units p findings ≡ wire_units p findings) pid
+    (stream_stays d bytes k (fed_stream k b.described.pid) ranges silent place (subst (λ (p : ℕ). one_by_one p findings ≡ true) (sym pid) alone))
+
+with_own : (findings : List FindingView) (base : ℕ) (t : TimedStreamView) → apart_wire_units t.pid findings ≡ wire_units t.pid findings →
+    IsMovedBy false findings base t → AreMoved (wire_units t.pid findings) base t.units
 unfolding source_of
-with_own findings base t moved = moved
+with_own findings base t stays moved = subst (λ (wire : List AccessUnit). AreMoved wire base t.units) stays moved
 
 by_one : (a : JobArgumentsView) (d : Described) (findings : List FindingView) (input : JobInputView) (k : ℕ) (t : TimedStreamView) (constants : HasConstants a.options findings input)
-    (alike : AreAlike a d findings input) → slice_get input.streams k ≡ Some t → AreMoved (wire_units t.pid findings) (constants.constant alike.clock) t.units
-by_one a d findings input k t constants alike is =
+    (alike : AreAlike a d findings input) → Stay findings input → slice_get input.streams k ≡ Some t →
+    AreMoved (wire_units t.pid findings) (constants.constant alike.clock) t.units
+unfolding Stay
+by_one a d findings input k t constants alike stays is =
     let one = at_place (λ t. IsMovedBy a.options.make_dts findings (constants.constant (clock_of input.programs t)) t) input.streams k t constants.streams is in
     let clock = at_place (λ t. clock_of input.programs t ≡ alike.clock) input.streams k t alike.one_clock is in
     let same = subst (λ (c : ProgramClock). IsMovedBy a.options.make_dts findings (constants.constant c) t) clock one in
-    with_own findings (constants.constant alike.clock) t
+    with_own findings (constants.constant alike.clock) t (stays k t is)
     (subst (λ (made : Bool). IsMovedBy made findings (constants.constant alike.clock) t) alike.own same)
 
 -- 5. So those that are fed are whole, and begin near one another
@@ -218,8 +259,8 @@ unfolding unit_at dts_at
 near_on_wire base apart u v near = near
 
 whole_streams : (a : JobArgumentsView) (d : Described) (findings : List FindingView) (input : JobInputView) (constants : HasConstants a.options findings input)
-    (alike : AreAlike a d findings input) → AreWhole (constants.constant alike.clock) earliest (streams_from 0 d.streams) findings
-whole_streams a d findings input constants alike =
+    (alike : AreAlike a d findings input) → Stay findings input → AreWhole (constants.constant alike.clock) earliest (streams_from 0 d.streams) findings
+whole_streams a d findings input constants alike stays =
     let base = constants.constant alike.clock in
     record {
       alone = λ k s at.
@@ -228,9 +269,9 @@ whole_streams a d findings input constants alike =
       near = λ j k s t at_s at_t u v us vs here there.
           let x = job_stream a d findings input j s alike at_s in
           let y = job_stream a d findings input k t alike at_t in
-          let one = first_moved base (wire_units x.stream.pid findings) x.stream.units u us (by_one a d findings input j x.stream constants alike x.at).are
+          let one = first_moved base (wire_units x.stream.pid findings) x.stream.units u us (by_one a d findings input j x.stream constants alike stays x.at).are
           (ap (λ (p : ℕ). wire_units p findings) x.pid_is ∙ here) in
-          let other = first_moved base (wire_units y.stream.pid findings) y.stream.units v vs (by_one a d findings input k y.stream constants alike y.at).are
+          let other = first_moved base (wire_units y.stream.pid findings) y.stream.units v vs (by_one a d findings input k y.stream constants alike stays y.at).are
           (ap (λ (p : ℕ). wire_units p findings) y.pid_is ∙ there) in
           near_on_wire base earliest u v (alike.near j k x.stream y.stream (unit_at base None u) (unit_at base None v) x.at y.at one other);
     }
@@ -243,8 +284,9 @@ alike_units : (a : JobArgumentsView) (d : Described) (bytes : List ℕ) (input :
 alike_units a d bytes input units constants ranges silent merged alike =
     let findings = findings_of (carried bytes) in
     let base = constants.constant alike.clock in
+    let stays = stay a d bytes input ranges silent alike in
     let apart = fed_apart earliest base (maps_of d) (streams_from 0 d.streams) bytes (omega arith) (first_streams d ranges) silent
-    (whole_streams a d findings input constants alike) in
+    (whole_streams a d findings input constants alike stays) in
     record {
       here = apart.here;
       there = apart.there;
@@ -254,7 +296,7 @@ alike_units a d bytes input units constants ranges silent merged alike =
           let number : 0 + k ≡ k = omega arith in
           let place : slice_get (streams_from 0 d.streams) k ≡ Some (fed_stream k b.described.pid) =
           fed_at 0 k d.streams b.described b.described_is ∙ ap (λ (n : ℕ). Some (fed_stream n b.described.pid)) number in
-          let timed : t.units ≡ moved base None (wire_units t.pid findings) = (by_one a d findings input k t constants alike b.timed_is).are in
+          let timed : t.units ≡ moved base None (wire_units t.pid findings) = (by_one a d findings input k t constants alike stays b.timed_is).are in
           let whole : units_of k units ≡ moved base None (wire_units b.described.pid findings) =
           merged.each k t.units (slice_get-map (λ t. t.units) input.streams k ∙ ap (option_map (λ t. t.units)) b.timed_is)
           ∙ timed ∙ ap (λ (p : ℕ). moved base None (wire_units p findings)) (sym b.pid) in

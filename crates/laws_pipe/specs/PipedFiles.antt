@@ -5,6 +5,7 @@ use Rattle.clap.specs.Words.{Text}
 use Rattle.description.specs.Described.{DescribedStream}
 use Rattle.pes_packet.specs.AccessUnits.{AccessUnit}
 use Rattle.demux.specs.Views.{FindingView}
+use Rattle.es_units.specs.ApartUnits.{apart_wire_units}
 use Rattle.es_units.specs.CarriedUnits.{wire_units}
 use Rattle.stream_jobs.specs.JobInput.{JobInputView, job_input}
 use Rattle.stream_jobs.specs.JobOptions.{JobOptionsView}
@@ -58,9 +59,9 @@ pub record WritesJobOfFiles (words : List Text) (a : JobArgumentsView) (files : 
   pub output_is : job.after.bytes ≡ Some output
   pub some : 0 < length output
 
--- the units that are found of a stream in the input where it was found, on the PID that it had there
+-- the units that are found of a stream in the input where it was found, on the PID that it had there, each of a data stream with a DTS of its own
 abbrev pub wire_units_in : List (List FindingView) → Origin → List AccessUnit
-wire_units_in inputs from = wire_units from.pid (findings_in inputs from.input)
+wire_units_in inputs from = apart_wire_units from.pid (findings_in inputs from.input)
 
 -- what goes through both
 pub record FilesGoThrough (a : JobArgumentsView) (o : MuxOptions) (files : Files) (names : List Text) (output : List ℕ)

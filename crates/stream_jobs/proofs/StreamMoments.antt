@@ -7,6 +7,7 @@ use Rattle.es_units.specs.MadeDts.{made_units}
 use Rattle.es_units.specs.Stamps.{first_fault, moved}
 use Rattle.es_units.specs.UnitMoments.{moment_of, units_at}
 use Rattle.es_units.specs.declared.unit_moments.UnitMoment.{UnitMoment}
+use Rattle.es_units.proofs.ApartUnits.{apart_contents}
 use Rattle.es_units.proofs.MadeDts.{made_contents}
 use Rattle.es_units.proofs.UnitMoments.{at_own, contents}
 use Rattle.stream_jobs.specs.declared.moved_streams.FirstDts.{FirstDts}
@@ -23,7 +24,7 @@ use Rattle.stream_jobs.specs.Moments.{base_of, moved_by, moved_stream, wire_of, 
 
 source_contents : (made : Bool) (pid : ℕ) (findings : List FindingView) → contents (source_of made pid findings) ≡ contents (carried_units pid findings)
 unfolding source_of
-source_contents false pid findings = refl
+source_contents false pid findings = apart_contents (carried_units pid findings)
 source_contents true pid findings = made_contents (carried_units pid findings)
 
 -- with these at the moments of its units it is as if they were moved

@@ -2,6 +2,7 @@
 use Rattle.std.specs.Prelude.{◌≡◌, ◌≤◌, ◌<◌, ℕ, ◌^◌, Bool, true, false, None, List, map}
 use Rattle.pes_packet.specs.AccessUnits.{AccessUnit}
 use Rattle.demux.specs.Views.{FindingView}
+use Rattle.es_units.specs.ApartUnits.{apart_units}
 use Rattle.es_units.specs.CarriedUnits.{CarriedUnit, carried_units}
 use Rattle.es_units.specs.MadeDts.{made_units}
 use Rattle.es_units.specs.Declaration.{min_interval, max_unit_size, AllowsUnits}
@@ -15,9 +16,10 @@ pub record AreMoved (wire : List AccessUnit) (base : ℕ) (us : List AccessUnit)
   pub sound : first_fault base None 0 wire ≡ None
   pub are : us ≡ moved base None wire
 
--- the units that are found of a PID, with DTS that are made from their PTS where that is asked for
+-- the units that are found of a PID, each of a data stream with a DTS of its own; or with DTS that are made from their PTS where that is
+-- asked for
 unfoldable pub source_of : Bool → ℕ → List FindingView → List CarriedUnit
-source_of false pid findings = carried_units pid findings
+source_of false pid findings = apart_units (carried_units pid findings)
 source_of true pid findings = made_units (carried_units pid findings)
 
 -- these at moments by one constant
