@@ -3,14 +3,13 @@ use Rattle.std.proofs.Common.{◌≡◌, ◌≤◌, ◌<◌, ◌∙◌, ℕ, zer
 use Rattle.std.proofs.Math.Seq.{drop-cons}
 use Rattle.std.proofs.lemmas.List.{append_assoc, append-nil, drop_all}
 use Rattle.std.proofs.lemmas.Bool.Decides.{nat_tests}
-use Rattle.pes_packet.specs.AccessUnits.{AccessUnit}
 use Rattle.pes_packet.specs.Encoding.{on_wire}
 use Rattle.pes_packet.specs.declared.marks.Marks.{Marks}
 use Rattle.unit_queue.proofs.CauseLemmas.{or_false}
 use Rattle.es_units.specs.ApartUnits.{same_after, is_same_next, has_same, earlier_by, apart_by, apart_dts, apart_units, ApartKeep, ApartStay, SoundStay, OneApart}
 use Rattle.es_units.specs.CarriedUnits.{CarriedUnit, unit_with}
 use Rattle.es_units.specs.MadeDts.{with_dts}
-use Rattle.es_units.specs.Stamps.{distance, dts_at, dts_not_increasing, pts_out_of_range, dts_too_far, or_fault, unit_fault, first_fault}
+use Rattle.es_units.specs.Stamps.{distance, dts_at, dts_not_increasing, unit_fault, first_fault}
 use Rattle.es_units.specs.declared.stamps.StampFault.TheVariants.{DtsNotIncreasing}
 use Rattle.es_units.proofs.MadeDts.{restamped_contents}
 use Rattle.es_units.proofs.StampFaults.{or_none, place_none, test_none}

@@ -2,7 +2,7 @@
 -- have one PTS (subtitles: ETSI EN 300 743; teletext: ETSI EN 300 472), and a queue takes units in order of their DTS. So of units in a
 -- row with one DTS the last keeps it, and each before it is decoded one unit of 90 kHz before the next. All else of them is kept, and
 -- they are presented when they were.
-use Rattle.std.specs.Prelude.{◌≡◌, ℕ, ◌+◌, ◌-◌, ◌%◌, ◌^◌, ◌==◌, ◌&&◌, ◌||◌, Bool, true, false, if◌then◌else◌, None, List, [], ◌∷◌, map}
+use Rattle.std.specs.Prelude.{◌≡◌, ℕ, ◌+◌, ◌==◌, ◌&&◌, ◌||◌, Bool, false, if◌then◌else◌, None, List, [], ◌∷◌, map}
 use Rattle.pes_packet.specs.AccessUnits.{AccessUnit}
 use Rattle.pes_packet.specs.Encoding.{on_wire}
 use Rattle.demux.specs.Views.{FindingView}

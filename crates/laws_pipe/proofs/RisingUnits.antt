@@ -1,6 +1,5 @@
 -- Units of which each is due after the one before: no two in a row are due at one moment.
-use Rattle.std.proofs.Common.{◌≡◌, ◌<◌, ℕ, ◌==◌, ◌&&◌, false, Option, Some, None, List, [], ◌∷◌, map, IfSome, refl}
-use Rattle.pes_packet.specs.AccessUnits.{AccessUnit}
+use Rattle.std.proofs.Common.{◌≡◌, ℕ, ◌==◌, false, Option, Some, None, List, [], ◌∷◌, map, refl}
 use Rattle.es_units.specs.ApartUnits.{has_same, is_same_next}
 use Rattle.es_units.specs.CarriedUnits.{CarriedUnit}
 use Rattle.es_units.specs.Stamps.{dts_at, moved, unit_at}

@@ -1,5 +1,5 @@
 -- Streams of whose units the moments alone are known, and with the bytes of these.
-use Rattle.std.proofs.Common.{◌≡◌, ◌∙◌, ◌<◌, ◌≤◌, ◌^◌, ℕ, Bool, true, false, None, List, map, Result, Ok, Err, IfOk, All, length, refl, sym, ap, subst}
+use Rattle.std.proofs.Common.{◌≡◌, ◌∙◌, ◌<◌, ◌≤◌, ◌^◌, ℕ, Bool, true, false, None, List, map, Result, Ok, Err, IfOk, All, length, sym, ap, subst}
 use Rattle.pes_packet.specs.AccessUnits.{AccessUnit}
 use Rattle.demux.specs.Views.{FindingView}
 use Rattle.es_units.specs.CarriedUnits.{CarriedUnit, carried_units}

@@ -1,4 +1,4 @@
-use Rattle.std.proofs.Common.{◌≡◌, ◌==◌, ◌≤◌, length, ◌+◌, true, false, arith, rules}
+use Rattle.std.proofs.Common.{◌≡◌, ◌==◌, true, false, arith, rules}
 use Rattle.es_units.proofs.ApartUnits.{one_follows, other_follows, none_follows}
 use Rattle.es_units.proofs.apart.same_after.Goals as goal
 

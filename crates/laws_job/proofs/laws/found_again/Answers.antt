@@ -1,11 +1,7 @@
-use Rattle.std.proofs.Common.{◌≡◌, false, List, map, sym, ap, subst, ◌∙◌}
-use Rattle.pes_packet.specs.AccessUnits.{AccessUnit}
-use Rattle.es_units.specs.CarriedUnits.{CarriedUnit, carried_units, wire_units}
-use Rattle.es_units.proofs.ApartUnits.{sound_stay}
-use Rattle.stream_jobs.specs.FoundUnits.{AreMoved}
-use Rattle.pes_packet.specs.Units.{units_of}
+use Rattle.std.proofs.Common.{false, ◌∙◌}
 use Rattle.mux_core.specs.WholeJobs.{job_history, output_of}
 use Rattle.es_units.specs.ApartUnits.{apart_wire_units}
+use Rattle.es_units.specs.CarriedUnits.{wire_units}
 use Rattle.es_units.proofs.KeptDeclarations.{units_kept}
 use Rattle.laws_job.specs.Laws.{schedule_for}
 use Rattle.laws_job.proofs.AcceptedUnits.{all_kept}
