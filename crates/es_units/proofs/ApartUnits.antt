@@ -169,10 +169,10 @@ rises base before d e none =
     let apart = test_none ((distance (at + base) e == 0) || nat_le (2 ^ 32) (distance (at + base) e)) (DtsNotIncreasing (distance e (at + base))) none in
     let some : (distance (at + base) e == 0) ≡ false = (or_false (distance (at + base) e == 0) (nat_le (2 ^ 32) (distance (at + base) e)) apart).0 in
     not_true (e == d) (λ same.
-        let is : e ≡ d = same_number e d same in
-        let shown : (at + base) % 2 ^ 33 ≡ e % 2 ^ 33 = shows_dts base before d ∙ ap (λ (n : ℕ). n % 2 ^ 33) (sym is) in
-        let yes = zero_test (distance (at + base) e) (no_distance (at + base) e shown) in
-        let no : ⊥ = cc in no)
+    let is : e ≡ d = same_number e d same in
+    let shown : (at + base) % 2 ^ 33 ≡ e % 2 ^ 33 = shows_dts base before d ∙ ap (λ (n : ℕ). n % 2 ^ 33) (sym is) in
+    let yes = zero_test (distance (at + base) e) (no_distance (at + base) e shown) in
+    let no : ⊥ = cc in no)
 
 -- so is one that is due later
 pub later_apart : (base : ℕ) (before : Option ℕ) (d e : ℕ) → dts_at base before d < dts_at base (Some (dts_at base before d)) e → (e == d) ≡ false
@@ -180,11 +180,11 @@ unfolding dts_at
 later_apart base before d e later =
     let at = dts_at base before d in
     not_true (e == d) (λ same.
-        let is : e ≡ d = same_number e d same in
-        let shown : (at + base) % 2 ^ 33 ≡ e % 2 ^ 33 = shows_dts base before d ∙ ap (λ (n : ℕ). n % 2 ^ 33) (sym is) in
-        let none = no_distance (at + base) e shown in
-        let more : at < at + distance (at + base) e = later in
-        let no : ⊥ = omega (arith, none, more) in no)
+    let is : e ≡ d = same_number e d same in
+    let shown : (at + base) % 2 ^ 33 ≡ e % 2 ^ 33 = shows_dts base before d ∙ ap (λ (n : ℕ). n % 2 ^ 33) (sym is) in
+    let none = no_distance (at + base) e shown in
+    let more : at < at + distance (at + base) e = later in
+    let no : ⊥ = omega (arith, none, more) in no)
 
 next_rises : (base place : ℕ) (before : Option ℕ) (u : CarriedUnit) (us : List CarriedUnit) →
     first_fault base (Some (dts_at base before u.unit.dts)) place (map (λ x. x.unit) us) ≡ None → is_same_next u us ≡ false

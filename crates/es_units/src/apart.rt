@@ -60,10 +60,7 @@ fn apart_by<A: Allocator>(count: usize, unit: &FoundUnit<'_, A>) -> u64
 }
 
 // The DTS of units, those of a row one unit of 90 kHz apart.
-fn apart_dts<A: Allocator>(
-    alloc: A,
-    found: &[FoundUnit<'_, A>],
-) -> Result<Vec<u64, A>, AllocError>
+fn apart_dts<A: Allocator>(alloc: A, found: &[FoundUnit<'_, A>]) -> Result<Vec<u64, A>, AllocError>
     ensures { IfOk result (λ dts. dts.items ≡ spec.apart_dts found.now) }
 {
     let mut dts = Vec::with_capacity(alloc, found.len())?;

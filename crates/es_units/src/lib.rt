@@ -43,8 +43,8 @@ pub use declaration::{max_unit_size, min_interval};
 pub use dts_from_pts::{DtsError, DtsFault, made_dts};
 pub use found::found_units;
 pub use laws::{
-    apart_by_one, constant_is_least, findings_of_the_pid, given_as_carried, moved_by_one_constant, moved_in_turn,
-    nothing_is_lost, taken_one_by_one, units_are_kept,
+    apart_by_one, constant_is_least, findings_of_the_pid, given_as_carried, moved_by_one_constant,
+    moved_in_turn, nothing_is_lost, taken_one_by_one, units_are_kept,
 };
 pub use made_units::units_with_made_dts;
 pub use merging::merged;
