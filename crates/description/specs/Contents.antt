@@ -62,6 +62,7 @@ described_stream stream = record {
   interval = unwrap_or (stream_interval stream) 1;
   size = unwrap_or (stream_size stream) 1;
   lead = unwrap_or (stream_lead stream) 1;
+  pts_limit = unwrap_or (stream_pts_limit stream) 1;
   rx = unwrap_or (stream_rx stream) 64000;
   main = unwrap_or (stream_main stream) 1;
   tag = unwrap_or (stream_tag stream) None;

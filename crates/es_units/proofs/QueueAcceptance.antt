@@ -27,7 +27,7 @@ use Rattle.es_units.specs.Laws.{TakenOneByOne}
 pub not_none : (n : ℕ) → 1 ≤ n → (n == 0) ≡ false
 not_none n le = grind (arith, nat_tests, le)
 
-own_none : (r : StreamParameters) (earliest : ℕ) (u : AccessUnit) → IsUnit r u → earliest ≤ u.dts → own_cause r.size earliest u ≡ None
+own_none : (r : StreamParameters) (earliest : ℕ) (u : AccessUnit) → IsUnit r u → earliest ≤ u.dts → own_cause r.size r.pts_limit earliest u ≡ None
 unfolding own_cause
 own_none r earliest u unit due =
     rw (
