@@ -15,7 +15,7 @@ use Rattle.es_units.specs.declared.stamps.StampFault.TheVariants.{DtsNotIncreasi
 use Rattle.es_units.proofs.StampFaults.{or_none}
 use Rattle.es_feed.specs.Clocks.{is_on, jump_of}
 use Rattle.es_feed.specs.EachStream.{RiseFrom, fed_if, units_fed}
-use Rattle.es_feed.specs.Feeding.{Fed, FedStreamView, FeedView, after_at, after_found, after_one, after_place, ahead_of, at_moment, base_of, before_with, due_of, fed_at, fed_by, fed_ends, fed_last, fed_one, fed_place, fed_with, greatest_of, last_dts, map_fed, origin_after, place_from, stream_with, told_by, told_fed, told_of, unless_ahead, unless_fault, whole_by}
+use Rattle.es_feed.specs.Feeding.{greatest_pts_limit, Fed, FedStreamView, FeedView, after_at, after_found, after_one, after_place, ahead_of, at_moment, base_of, before_with, due_of, fed_at, fed_by, fed_ends, fed_last, fed_one, fed_place, fed_with, greatest_of, last_dts, map_fed, origin_after, place_from, stream_with, told_by, told_fed, told_of, unless_ahead, unless_fault, whole_by}
 use Rattle.es_feed.specs.Maps.{clock_pid, new_map}
 use Rattle.es_feed.specs.Ticks.{after_end, after_end_at, after_late, after_passed, after_shown, after_tick, fed_end, fed_end_at, fed_late, fed_passed, fed_shown, fed_tick, is_tick, jump_fed, late_in, passed_from, tick, with_shown, without_unit}
 use Rattle.es_feed.specs.declared.due.Due.{Due}
@@ -62,11 +62,11 @@ over_before base b stamp is =
     let some = some_distance d (no_less (d == 0) (nat_le (2 ^ 32) d) (DtsNotIncreasing (distance stamp (b + base))) is) in
     omega (arith, some)
 
-above : (base : ℕ) (before : Option ℕ) (u : AccessUnit) → unit_fault base before u ≡ None → IfSome before (λ dts. dts < (unit_at base before u).dts)
+above : (base : ℕ) (before : Option ℕ) (u : AccessUnit) → unit_fault greatest_pts_limit base before u ≡ None → IfSome before (λ dts. dts < (unit_at base before u).dts)
 unfolding unit_at dts_at
 above base None u none = tt
 above base (Some b) u none =
-    over_before base b u.dts (or_none (dts_not_increasing base (Some b) u.dts) (or_fault (pts_out_of_range base (dts_at base (Some b) u.dts) u.pts) (dts_too_far (dts_at base (Some b) u.dts))) none).0
+    over_before base b u.dts (or_none (dts_not_increasing base (Some b) u.dts) (or_fault (pts_out_of_range greatest_pts_limit base (dts_at base (Some b) u.dts) u.pts) (dts_too_far (dts_at base (Some b) u.dts))) none).0
 
 ahead_rises : (n : ℕ) (before ahead : Option ℕ) (u : AccessUnit) → IfSome before (λ dts. dts < u.dts) → Rises before (last_dts before (unless_ahead ahead u)) (fed_if n (n, unless_ahead ahead u))
 unfolding RiseFrom last_of unless_ahead last_dts fed_if
@@ -85,7 +85,7 @@ given_rises d o n before None = nothing_rises before
 given_rises d o n before (Some u) =
     let base = base_of d o u in
     subst (λ (us : List AccessUnit). Rises before (last_dts before (at_moment d.greatest base before u.unit)) us) (sym (append-nil (fed_if n (n, at_moment d.greatest base before u.unit))))
-    (unless_rises n before d.greatest (unit_fault base before u.unit) (unit_at base before u.unit) (λ none. above base before u.unit none))
+    (unless_rises n before d.greatest (unit_fault greatest_pts_limit base before u.unit) (unit_at base before u.unit) (λ none. above base before u.unit none))
 
 -- 2. A step, of each stream
 

@@ -12,7 +12,7 @@ use Rattle.es_units.specs.UnitSteps.{ended_unit}
 use Rattle.es_units.specs.declared.stamps.StampFault.{StampFault}
 use Rattle.es_feed.specs.Clocks.{is_on, jump_of, jumps}
 use Rattle.es_feed.specs.EachStream.{fed_if, has_fault, have_fault, units_fed}
-use Rattle.es_feed.specs.Feeding.{Fed, FedStreamView, FeedView, after_at, after_found, after_one, after_place, ahead_of, at_moment, base_by, base_of, before_with, due_of, fed_at, fed_by, fed_one, fed_place, fed_with, feed_with, greatest_of, last_dts, map_fed, origin_after, place_from, stream_with, told_by, told_fed, told_of, unless_ahead, unless_fault, watched, whole_by}
+use Rattle.es_feed.specs.Feeding.{greatest_pts_limit, Fed, FedStreamView, FeedView, after_at, after_found, after_one, after_place, ahead_of, at_moment, base_by, base_of, before_with, due_of, fed_at, fed_by, fed_one, fed_place, fed_with, feed_with, greatest_of, last_dts, map_fed, origin_after, place_from, stream_with, told_by, told_fed, told_of, unless_ahead, unless_fault, watched, whole_by}
 use Rattle.es_feed.specs.Maps.{clock_pid, new_map}
 use Rattle.es_feed.specs.Origins.{no_origin, origin_with}
 use Rattle.es_feed.specs.Ticks.{after_end, after_end_at, after_late, after_own, after_passed, after_shown, after_tick, fed_end, fed_end_at, fed_late, fed_own, fed_passed, fed_shown, fed_tick, is_tick, jump_fed, late_in, late_of, passed_from, with_shown, without_unit}
@@ -265,7 +265,7 @@ ok_unless n greatest (Some fault) u none = absurd cc
 
 ok_moment : (n : ℕ) (greatest : Option ℕ) (base : ℕ) (before : Option ℕ) (u : AccessUnit) → has_fault (n, at_moment greatest base before u) ≡ false →
     at_moment greatest base before u ≡ Ok (unit_at base before u)
-ok_moment n greatest base before u none = ok_unless n greatest (unit_fault base before u) (unit_at base before u) none
+ok_moment n greatest base before u none = ok_unless n greatest (unit_fault greatest_pts_limit base before u) (unit_at base before u) none
 
 -- the constant of a unit, if there is one; and that it is fixed after it
 abbrev pub HasBase : Due → Origin → Option CarriedUnit → ℕ → Type 0

@@ -19,7 +19,7 @@ use Rattle.es_feed.specs.Maps.{change_place, map_from, set_place}
 use Rattle.es_feed.specs.Origins.{base_for, no_origin, origin_with}
 use Rattle.es_feed.specs.declared.due.Due.{Due}
 use Rattle.es_feed.specs.declared.origin.Origin.{Origin}
-use Rattle.es_feed.specs.Feeding.{FedStreamView, Fed, FeedView, ahead_of, unless_ahead, unless_fault, at_moment, last_dts, base_by, base_of, origin_after, before_with, fed_with, stream_with, fed_by, whole_by, after_found, lost_by, told_by, told_fed, told_of, fault_by, unit_after, follow_after, greatest_if, due_of, with_streams, place_from, feed_with, after_at, fed_at, after_place, fed_place, after_unit, fed_unit, map_fed, after_one, fed_one, after_all, fed_all, fed_last, fed_ends, fed_to_end}
+use Rattle.es_feed.specs.Feeding.{greatest_pts_limit, FedStreamView, Fed, FeedView, ahead_of, unless_ahead, unless_fault, at_moment, last_dts, base_by, base_of, origin_after, before_with, fed_with, stream_with, fed_by, whole_by, after_found, lost_by, told_by, told_fed, told_of, fault_by, unit_after, follow_after, greatest_if, due_of, with_streams, place_from, feed_with, after_at, fed_at, after_place, fed_place, after_unit, fed_unit, map_fed, after_one, fed_one, after_all, fed_all, fed_last, fed_ends, fed_to_end}
 use Rattle.es_units.proofs.UnitSteps.{uncut_carried}
 use Rattle.es_feed.specs.Laws.{FedAsCarried, FedInTurn, has_loss, is_loss}
 use Rattle.es_feed.proofs.UncutUnits.{Uncut, no_unit, past_here, uncut_step, under_cut}
@@ -321,14 +321,14 @@ base_is : (e base : ℕ) (w : CarriedUnit) → base_of (due_from e) (fixed base)
 unfolding base_by
 base_is e base w = rw (base_fixed base w.packet) refl
 
-timed_moved : (e base n place : ℕ) (before : Option ℕ) (ws : List CarriedUnit) → first_fault base before place (map (λ w. w.unit) ws) ≡ None →
+timed_moved : (e base n place : ℕ) (before : Option ℕ) (ws : List CarriedUnit) → first_fault greatest_pts_limit base before place (map (λ w. w.unit) ws) ≡ None →
     timed (due_from e) (fixed base) n before ws ≡ map (λ (x : AccessUnit). (n, Ok x)) (moved base before (map (λ w. w.unit) ws))
 unfolding timed first_fault moved unless_fault unless_ahead ahead_of last_dts
 timed_moved e base n place before [] sound = refl
 timed_moved e base n place before (w ∷ ws) sound =
     let d = due_from e in
     let u = w.unit in
-    let two = no_fault place (unit_fault base before u) (first_fault base (Some (dts_at base before u.dts)) (place + 1) (map (λ w. w.unit) ws)) sound in
+    let two = no_fault place (unit_fault greatest_pts_limit base before u) (first_fault greatest_pts_limit base (Some (dts_at base before u.dts)) (place + 1) (map (λ w. w.unit) ws)) sound in
     let here : at_moment None base before u ≡ Ok (unit_at base before u) = ap (λ (o : Option StampFault). unless_fault None o (unit_at base before u)) two.0 in
     ap (λ (b : ℕ). (n, at_moment None b before u) ∷ timed d (origin_with (fixed base) w.packet b) n (last_dts before (at_moment None b before u)) ws) (base_is e base w)
     ∙ ap (λ (o : Origin). (n, at_moment None base before u) ∷ timed d o n (last_dts before (at_moment None base before u)) ws) (origin_fixed base w.packet)
@@ -350,15 +350,15 @@ first_fixes e n w ws =
     ∙ ap (λ (o : Origin). one o base) (origin_first base w.packet ∙ sym (origin_fixed base w.packet))
     ∙ ap (λ (b : ℕ). one (origin_with (fixed base) w.packet b) b) (sym (base_is e base w))
 
-moved_by_first : (e n : ℕ) (ws : List CarriedUnit) (u : AccessUnit) (us : List AccessUnit) → map (λ w. w.unit) ws ≡ u ∷ us → first_fault (distance e u.dts) None 0 (u ∷ us) ≡ None →
+moved_by_first : (e n : ℕ) (ws : List CarriedUnit) (u : AccessUnit) (us : List AccessUnit) → map (λ w. w.unit) ws ≡ u ∷ us → first_fault greatest_pts_limit (distance e u.dts) None 0 (u ∷ us) ≡ None →
     timed (due_from e) no_origin n None ws ≡ map (λ (x : AccessUnit). (n, Ok x)) (moved (distance e u.dts) None (u ∷ us))
 moved_by_first e n [] u us is sound = absurd cc
 moved_by_first e n (w ∷ ws) u us is sound =
     let head : w.unit ≡ u = cc in
     let base : distance e w.unit.dts ≡ distance e u.dts = ap (λ (x : AccessUnit). distance e x.dts) head in
     let all = map (λ (w : CarriedUnit). w.unit) (w ∷ ws) in
-    let whole : first_fault (distance e w.unit.dts) None 0 all ≡ None =
-    subst (λ (b : ℕ). first_fault b None 0 all ≡ None) (sym base) (subst (λ (l : List AccessUnit). first_fault (distance e u.dts) None 0 l ≡ None) (sym is) sound) in
+    let whole : first_fault greatest_pts_limit (distance e w.unit.dts) None 0 all ≡ None =
+    subst (λ (b : ℕ). first_fault greatest_pts_limit b None 0 all ≡ None) (sym base) (subst (λ (l : List AccessUnit). first_fault greatest_pts_limit (distance e u.dts) None 0 l ≡ None) (sym is) sound) in
     first_fixes e n w ws ∙ timed_moved e (distance e w.unit.dts) n 0 None (w ∷ ws) whole
     ∙ ap (λ (b : ℕ). map (λ (x : AccessUnit). (n, Ok x)) (moved b None all)) base
     ∙ ap (λ (l : List AccessUnit). map (λ (x : AccessUnit). (n, Ok x)) (moved (distance e u.dts) None l)) is

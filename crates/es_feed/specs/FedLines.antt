@@ -28,7 +28,7 @@ fed_records fed = flat_map fed_record fed
 -- why a unit of a PID has no moment, and by how much, in units of 90 kHz
 unfoldable pub stamp_line : ℕ → StampFault → List ℕ
 stamp_line pid (DtsNotIncreasing by) = line_text (codes "dts-falls") (pid ∷ by ∷ [])
-stamp_line pid (PtsOutOfRange by) = line_text (codes "pts-range") (pid ∷ by ∷ [])
+stamp_line pid (PtsOutOfRange after limit) = line_text (codes "pts-range") (pid ∷ after ∷ [])
 stamp_line pid DtsTooFar = line_text (codes "dts-far") (pid ∷ [])
 
 -- packets of a PID are lost before a packet, whose counter is another than the one that was to come

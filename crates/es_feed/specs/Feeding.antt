@@ -50,10 +50,14 @@ unfoldable pub unless_fault : Option ℕ → Option StampFault → AccessUnit �
 unless_fault greatest None u = unless_ahead (ahead_of greatest u.dts) u
 unless_fault greatest (Some fault) u = Err (Stamp fault)
 
+-- no description lets a unit be presented longer after its DTS than a minute; a queue asks for the limit of its stream
+abbrev pub greatest_pts_limit : ℕ
+greatest_pts_limit = 5_400_000
+
 -- a unit at its moment after a DTS or after none, where the clock shows `base` at moment 0, and after the greatest DTS so far, where one
 -- counts
 abbrev pub at_moment : Option ℕ → ℕ → Option ℕ → AccessUnit → Result AccessUnit FeedFault
-at_moment greatest base before u = unless_fault greatest (unit_fault base before u) (unit_at base before u)
+at_moment greatest base before u = unless_fault greatest (unit_fault greatest_pts_limit base before u) (unit_at base before u)
 
 -- the last DTS after it: a unit that has no moment is left out, and moves nothing
 unfoldable pub last_dts : Option ℕ → Result AccessUnit FeedFault → Option ℕ

@@ -9,7 +9,7 @@ use Rattle.es_units.specs.Stamps.{distance, first_fault, moved}
 use Rattle.es_units.specs.UnitSteps.{has_cut, none_so_far}
 use Rattle.demux.specs.FoundSoFar.{found_in_all}
 use Rattle.demux.specs.Stream.{StreamState}
-use Rattle.es_feed.specs.Feeding.{FeedView, after_all, fed_all, fed_to_end, feed_first, lost_by}
+use Rattle.es_feed.specs.Feeding.{greatest_pts_limit, FeedView, after_all, fed_all, fed_to_end, feed_first, lost_by}
 use Rattle.es_feed.specs.Ticks.{after_packets, fed_packets}
 use Rattle.es_feed.specs.declared.feed_fault.Loss.{Loss}
 
@@ -33,7 +33,7 @@ has_loss pid fs = list_any (λ f. has_pid pid f.pid && is_loss (lost_by f.packet
 -- moved by the constant with which the first of them is due at `earliest`
 abbrev pub FedAsCarried : Type 0
 FedAsCarried = (earliest number pid : ℕ) (fs : List FindingView) (u : AccessUnit) (us : List AccessUnit) → has_cut pid fs ≡ false → has_loss pid fs ≡ false →
-    map (λ w. w.unit) (carried_units pid fs) ≡ u ∷ us → first_fault (distance earliest u.dts) None 0 (u ∷ us) ≡ None →
+    map (λ w. w.unit) (carried_units pid fs) ≡ u ∷ us → first_fault greatest_pts_limit (distance earliest u.dts) None 0 (u ∷ us) ≡ None →
     fed_to_end (one_stream earliest number pid) fs ≡ map (λ x. (number, Ok x)) (moved (distance earliest u.dts) None (u ∷ us))
 
 -- where no program is known, and so no clock, what is fed of packets is what is fed of all that is found in them

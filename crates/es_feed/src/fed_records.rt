@@ -83,7 +83,9 @@ fn report_stamp<E: Sink>(faults: &mut E, pid: u16, fault: StampFault)
             "dts-falls",
             &[pid, u128::from(by)],
         ),
-        StampFault::PtsOutOfRange(by) => report_line(faults, "pts-range", &[pid, u128::from(by)]),
+        StampFault::PtsOutOfRange { after, .. } => {
+            report_line(faults, "pts-range", &[pid, u128::from(after)])
+        }
         StampFault::DtsTooFar => report_line(faults, "dts-far", &[pid]),
     }
 }

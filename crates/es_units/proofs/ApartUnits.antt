@@ -186,25 +186,25 @@ later_apart base before d e later =
     let more : at < at + distance (at + base) e = later in
     let no : ⊥ = omega (arith, none, more) in no)
 
-next_rises : (base place : ℕ) (before : Option ℕ) (u : CarriedUnit) (us : List CarriedUnit) →
-    first_fault base (Some (dts_at base before u.unit.dts)) place (map (λ x. x.unit) us) ≡ None → is_same_next u us ≡ false
+next_rises : (limit base place : ℕ) (before : Option ℕ) (u : CarriedUnit) (us : List CarriedUnit) →
+    first_fault limit base (Some (dts_at base before u.unit.dts)) place (map (λ x. x.unit) us) ≡ None → is_same_next u us ≡ false
 unfolding is_same_next first_fault
-next_rises base place before u [] none = refl
-next_rises base place before u (v ∷ us) none =
+next_rises limit base place before u [] none = refl
+next_rises limit base place before u (v ∷ us) none =
     let at = Some (dts_at base before u.unit.dts) in
-    let own = (place_none place (unit_fault base at v.unit) _ none).0 in
+    let own = (place_none place (unit_fault limit base at v.unit) _ none).0 in
     let apart = (or_none (dts_not_increasing base at v.unit.dts) _ own).0 in
     and_false (u.stream_id == 0xBD) (v.unit.dts == u.unit.dts) (rises base before u.unit.dts v.unit.dts apart)
 
-none_same : (base place : ℕ) (before : Option ℕ) (us : List CarriedUnit) → first_fault base before place (map (λ x. x.unit) us) ≡ None → has_same us ≡ false
+none_same : (limit base place : ℕ) (before : Option ℕ) (us : List CarriedUnit) → first_fault limit base before place (map (λ x. x.unit) us) ≡ None → has_same us ≡ false
 unfolding first_fault has_same
-none_same base place before [] none = refl
-none_same base place before (u ∷ us) none =
-    let later = (place_none place (unit_fault base before u.unit) (first_fault base (Some (dts_at base before u.unit.dts)) (place + 1) (map (λ x. x.unit) us)) none).1 in
-    rw (next_rises base (place + 1) before u us later, none_same base (place + 1) (Some (dts_at base before u.unit.dts)) us later) refl
+none_same limit base place before [] none = refl
+none_same limit base place before (u ∷ us) none =
+    let later = (place_none place (unit_fault limit base before u.unit) (first_fault limit base (Some (dts_at base before u.unit.dts)) (place + 1) (map (λ x. x.unit) us)) none).1 in
+    rw (next_rises limit base (place + 1) before u us later, none_same limit base (place + 1) (Some (dts_at base before u.unit.dts)) us later) refl
 
 pub sound_stay : SoundStay
-sound_stay base place us none = apart_stay us (none_same base place None us none)
+sound_stay limit base place us none = apart_stay us (none_same limit base place None us none)
 
 -- 7. Two in a row
 

@@ -66,7 +66,7 @@ ApartStay = (us : List CarriedUnit) → has_same us ≡ false → apart_units us
 
 -- so it is of units whose stamps can be moments as they are
 abbrev pub SoundStay : Type 0
-SoundStay = (base place : ℕ) (us : List CarriedUnit) → first_fault base None place (map (λ u. u.unit) us) ≡ None → apart_units us ≡ us
+SoundStay = (limit base place : ℕ) (us : List CarriedUnit) → first_fault limit base None place (map (λ u. u.unit) us) ≡ None → apart_units us ≡ us
 
 -- of two in a row the first is decoded one unit of 90 kHz before the second
 abbrev pub OneApart : Type 0

@@ -39,7 +39,7 @@ pub use apart::apart_units;
 pub use carried::carried_units;
 pub use counted_packets::CountedPackets;
 pub use counted_units::CountedUnits;
-pub use declaration::{max_unit_size, min_interval};
+pub use declaration::{max_pts_after, max_unit_size, min_interval};
 pub use dts_from_pts::{DtsError, DtsFault, made_dts};
 pub use found::found_units;
 pub use laws::{

@@ -79,9 +79,9 @@ found_kept : UnitsAreKept → (made : Bool) (line : Scheduled) (findings : List 
     AreFound made findings pid us → Declares line.description s us → Kept (owned_stream line k s) us
 found_kept law made line findings pid k s us found n =
     let m = found.moved in
-    let declares : LaneDeclares (owned_stream line k s) us = record { interval = n.interval; size = n.size; lead = n.lead; allowance = n.allowance } in
+    let declares : LaneDeclares (owned_stream line k s) us = record { interval = n.interval; size = n.size; pts = n.pts; lead = n.lead; allowance = n.allowance } in
     subst (λ (x : List AccessUnit). Kept (owned_stream line k s) x) (sym m.are)
-    (law (owned_stream line k s) found.base (map (λ w. w.unit) (source_of made pid findings)) m.sound (sources_have_bytes made pid findings)
+    (law (owned_stream line k s) m.limit found.base (map (λ w. w.unit) (source_of made pid findings)) m.sound (sources_have_bytes made pid findings)
     (subst (λ (x : List AccessUnit). LaneDeclares (owned_stream line k s) x) m.are declares))
 
 pub all_kept : UnitsAreKept → (made : Bool) (line : Scheduled) (findings : List FindingView) (units : List (ℕ × AccessUnit)) → IsInRange line.description →

@@ -41,6 +41,7 @@ mod odd_streams;
 mod option_warnings;
 mod packets;
 mod program_clock;
+mod pts_limit;
 mod rates;
 mod refusal;
 mod renumbered_inputs;
