@@ -35,12 +35,12 @@ none_follows dts i us over = rw (drop_all i us over) refl
 same_number : (a b : ℕ) → (a == b) ≡ true → a ≡ b
 same_number a b e = grind (arith, nat_tests)
 
+one_fewer : (k : ℕ) → k + 1 - 1 ≡ k
+one_fewer k = omega arith
+
 -- after the first of a row one fewer follow
 in_row : (b : Bool) (d e n : ℕ) (us : List CarriedUnit) → (b ≡ true → e ≡ d) → n ≡ (if b then same_after d us + 1 else 0) → 0 < n → n - 1 ≡ same_after e us
-in_row true d e n us same is some = ap (λ (k : ℕ). k - 1) is ∙ less (same_after d us) ∙ ap (λ (x : ℕ). same_after x us) (sym (same refl))
-  where
-    less : (k : ℕ) → k + 1 - 1 ≡ k
-    less k = omega arith
+in_row true d e n us same is some = ap (λ (k : ℕ). k - 1) is ∙ one_fewer (same_after d us) ∙ ap (λ (x : ℕ). same_after x us) (sym (same refl))
 in_row false d e n us same is some = absurd (let no : ⊥ = omega (arith, is, some) in no)
 
 pub row_goes_on : (u v : CarriedUnit) (us : List CarriedUnit) (n : ℕ) → n ≡ same_after u.unit.dts (v ∷ us) → 0 < n → n - 1 ≡ same_after v.unit.dts us
@@ -221,17 +221,17 @@ unfolding distance
 first_less d = omega arith
 
 earlier_one : (n d : ℕ) → on_wire (earlier_by (n + 1) d + 1) ≡ on_wire (earlier_by n d)
-earlier_one zero d = ap (λ (x : ℕ). on_wire (x + 1)) (earlier_some 0 d) ∙ first_less d ∙ ap on_wire (sym (by_none d))
+earlier_one zero d = ap (λ (x : ℕ). on_wire (x + 1)) (earlier_some 0 d) ∙ first_less d ∙ ap (λ (x : ℕ). on_wire x) (sym (by_none d))
 earlier_one (suc n) d =
     ap (λ (x : ℕ). on_wire (x + 1)) (earlier_some (suc n) d) ∙ one_less (suc n) d
-    ∙ ap on_wire (sym (ap (λ (m : ℕ). earlier_by m d) (sym (add-one n)) ∙ earlier_some n d ∙ ap (λ (m : ℕ). distance m d) (add-one n)))
+    ∙ ap (λ (x : ℕ). on_wire x) (sym (ap (λ (m : ℕ). earlier_by m d) (sym (add-one n)) ∙ earlier_some n d ∙ ap (λ (m : ℕ). distance m d) (add-one n)))
+
+own_follows : (d n : ℕ) → (if d == d then n + 1 else 0) ≡ n + 1
+own_follows d n = let own : (d == d) ≡ true = grind (arith, nat_tests) in rw own refl
 
 follows_one : (u v : CarriedUnit) (us : List CarriedUnit) → u.unit.dts ≡ v.unit.dts → same_after u.unit.dts (v ∷ us) ≡ same_after v.unit.dts us + 1
 unfolding same_after
-follows_one u v us same = rw same (yes v.unit.dts (same_after v.unit.dts us))
-  where
-    yes : (d n : ℕ) → (if d == d then n + 1 else 0) ≡ n + 1
-    yes d n = let own : (d == d) ≡ true = grind (arith, nat_tests) in rw own refl
+follows_one u v us same = rw same (own_follows v.unit.dts (same_after v.unit.dts us))
 
 data_apart : (n : ℕ) (u : CarriedUnit) → u.stream_id ≡ 0xBD → apart_by n u ≡ earlier_by n u.unit.dts
 unfolding apart_by
@@ -241,4 +241,4 @@ pub one_apart : OneApart
 one_apart u v us id other same =
     ap (λ (x : ℕ). on_wire (x + 1)) (data_apart (same_after u.unit.dts (v ∷ us)) u id ∙ ap₂ earlier_by (follows_one u v us same) same)
     ∙ earlier_one (same_after v.unit.dts us) v.unit.dts
-    ∙ ap on_wire (sym (data_apart (same_after v.unit.dts us) v other))
+    ∙ ap (λ (x : ℕ). on_wire x) (sym (data_apart (same_after v.unit.dts us) v other))

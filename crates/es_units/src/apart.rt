@@ -11,6 +11,13 @@ use std::alloc::{AllocError, Allocator};
 // Private_stream_1 (ISO/IEC 13818-1, table 2-22).
 const PRIVATE_STREAM_1: u8 = 0xbd;
 
+// The DTS of a unit.
+fn dts_of<A: Allocator>(unit: &FoundUnit<'_, A>) -> u64
+    ensures { result ≡ unit.now.unit.dts }
+{
+    unit.dts
+}
+
 // How many of the units follow with this DTS, up to the first that has another one.
 fn same_after<A: Allocator>(dts: u64, units: &[FoundUnit<'_, A>]) -> usize
     ensures { result ≡ spec.same_after dts units.now }
@@ -67,7 +74,7 @@ fn apart_dts<A: Allocator>(alloc: A, found: &[FoundUnit<'_, A>]) -> Result<Vec<u
     let mut left = found;
     let mut run = 0;
     'units: while let Some((next, later)) = left.split_first() {
-        run = same_in_run(run, next.dts, later);
+        run = same_in_run(run, dts_of(next), later);
         dts.push(apart_by(run, next))?;
         left = later;
     }
@@ -82,7 +89,7 @@ fn is_same_next<A: Allocator>(unit: &FoundUnit<'_, A>, later: &[FoundUnit<'_, A>
     let Some((next, _)) = later.split_first() else {
         return false;
     };
-    unit.stream_id == PRIVATE_STREAM_1 && next.dts == unit.dts
+    unit.stream_id == PRIVATE_STREAM_1 && dts_of(next) == unit.dts
 }
 
 // Whether two in a row are due at one moment.
