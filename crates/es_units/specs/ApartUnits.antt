@@ -1,10 +1,10 @@
 -- Units of data streams that are due at one moment, each with a DTS of its own. PES packets of private_stream_1 that follow one another may
 -- have one PTS (subtitles: ETSI EN 300 743; teletext: ETSI EN 300 472), and a queue takes units in order of their DTS. So of units in a
--- row with one DTS the last keeps it, and each before it is decoded one unit of 90 kHz before the next. All else of them is kept, and
--- they are presented when they were.
-use Rattle.std.specs.Prelude.{◌≡◌, ℕ, ◌+◌, ◌==◌, ◌&&◌, ◌||◌, Bool, false, if◌then◌else◌, None, List, [], ◌∷◌, map}
+-- row with one DTS the last keeps it, and those before it are decoded up to 63 units of 90 kHz earlier, one after another. All else of
+-- them is kept, and they are presented when they were. What a unit gets is known as soon as the next one begins: so a stream that comes
+-- is not held up.
+use Rattle.std.specs.Prelude.{◌≡◌, ◌≤◌, ◌<◌, ℕ, ◌+◌, ◌-◌, ◌==◌, ◌&&◌, ◌||◌, min, Bool, true, false, if◌then◌else◌, None, List, [], ◌∷◌, map}
 use Rattle.pes_packet.specs.AccessUnits.{AccessUnit}
-use Rattle.pes_packet.specs.Encoding.{on_wire}
 use Rattle.demux.specs.Views.{FindingView}
 use Rattle.es_units.specs.CarriedUnits.{CarriedUnit, carried_units}
 use Rattle.es_units.specs.MadeDts.{with_dts}
@@ -12,12 +12,7 @@ use Rattle.es_units.specs.Stamps.{distance, first_fault}
 
 -- 1. Units in a row
 
--- how many of the units follow with this DTS, up to the first that has another one
-unfoldable pub same_after : ℕ → List CarriedUnit → ℕ
-same_after dts [] = 0
-same_after dts (u ∷ us) = if u.unit.dts == dts then same_after dts us + 1 else 0
-
--- of private_stream_1 (ISO/IEC 13818-1, table 2-22), due when the next one is
+-- a unit of private_stream_1 (ISO/IEC 13818-1, table 2-22) is due when the next one is
 unfoldable pub is_same_next : CarriedUnit → List CarriedUnit → Bool
 is_same_next u [] = false
 is_same_next u (v ∷ us) = u.stream_id == 0xBD && v.unit.dts == u.unit.dts
@@ -28,22 +23,23 @@ has_same (u ∷ us) = is_same_next u us || has_same us
 
 -- 2. DTS
 
--- a DTS so many units of 90 kHz earlier
-unfoldable pub earlier_by : ℕ → ℕ → ℕ
-earlier_by count dts = if count == 0 then dts else distance count dts
+-- how many units of a row are before the next unit, where so many are before this one, counted up to 63: none where the next is of no row
+-- with it
+unfoldable pub next_place : Bool → ℕ → ℕ
+next_place same place = if same then min (place + 1) 63 else 0
 
--- of a unit that so many follow with its DTS
-unfoldable pub apart_by : ℕ → CarriedUnit → ℕ
-apart_by count u = if u.stream_id == 0xBD then earlier_by count u.unit.dts else u.unit.dts
+-- the DTS of a unit with so many of its row before it: its own where the next one is of no row with it
+unfoldable pub apart_by : Bool → ℕ → ℕ → ℕ
+apart_by same place dts = if same then distance (63 - place) dts else dts
 
-unfoldable pub apart_dts : List CarriedUnit → List ℕ
-apart_dts [] = []
-apart_dts (u ∷ us) = apart_by (same_after u.unit.dts us) u ∷ apart_dts us
+unfoldable pub apart_dts : ℕ → List CarriedUnit → List ℕ
+apart_dts place [] = []
+apart_dts place (u ∷ us) = apart_by (is_same_next u us) place u.unit.dts ∷ apart_dts (next_place (is_same_next u us) place) us
 
 -- 3. Units with these
 
 abbrev pub apart_units : List CarriedUnit → List CarriedUnit
-apart_units us = with_dts (apart_dts us) us
+apart_units us = with_dts (apart_dts 0 us) us
 
 -- those of a PID, as on the wire
 abbrev pub apart_wire_units : ℕ → List FindingView → List AccessUnit
@@ -68,7 +64,9 @@ ApartStay = (us : List CarriedUnit) → has_same us ≡ false → apart_units us
 abbrev pub SoundStay : Type 0
 SoundStay = (limit base place : ℕ) (us : List CarriedUnit) → first_fault limit base None place (map (λ u. u.unit) us) ≡ None → apart_units us ≡ us
 
--- of two in a row the first is decoded one unit of 90 kHz before the second
-abbrev pub OneApart : Type 0
-OneApart = (u v : CarriedUnit) (us : List CarriedUnit) → u.stream_id ≡ 0xBD → v.stream_id ≡ 0xBD → u.unit.dts ≡ v.unit.dts →
-    on_wire (apart_by (same_after u.unit.dts (v ∷ us)) u + 1) ≡ on_wire (apart_by (same_after v.unit.dts us) v)
+-- of a row of up to 64 units each is decoded before the next, by 63 units of 90 kHz at most; and none is decoded further from its own DTS
+abbrev pub RowRises : Type 0
+RowRises = (place dts : ℕ) (same : Bool) → place < 63 →
+    (0 < distance (apart_by true place dts) (apart_by same (place + 1) dts))
+    × (distance (apart_by true place dts) (apart_by same (place + 1) dts) ≤ 63)
+    × (distance (apart_by true place dts) dts ≤ 63)

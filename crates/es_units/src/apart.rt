@@ -1,6 +1,6 @@
 //! Units of data streams that are due at one moment, each with a DTS of its own.
 
-ghost use Rattle.std.specs.Prelude.{◌≡◌, ◌<◌, ◌-◌, IfOk};
+ghost use Rattle.std.specs.Prelude.{◌≡◌, ◌≤◌, IfOk};
 ghost use Rattle.es_units.specs.ApartUnits as spec;
 
 use crate::made_units::with_dts;
@@ -11,76 +11,6 @@ use std::alloc::{AllocError, Allocator};
 // Private_stream_1 (ISO/IEC 13818-1, table 2-22).
 const PRIVATE_STREAM_1: u8 = 0xbd;
 
-// The DTS of a unit.
-fn dts_of<A: Allocator>(unit: &FoundUnit<'_, A>) -> u64
-    ensures { result ≡ unit.now.unit.dts }
-{
-    unit.dts
-}
-
-// How many of the units follow with this DTS, up to the first that has another one.
-fn same_after<A: Allocator>(dts: u64, units: &[FoundUnit<'_, A>]) -> usize
-    ensures { result ≡ spec.same_after dts units.now }
-{
-    for (at, unit) in units.iter().enumerate() {
-        if unit.dts != dts {
-            return at;
-        }
-    }
-    units.len()
-}
-
-// The same, where `run` units follow the unit before them with its DTS, the first of which has this DTS.
-fn same_in_run<A: Allocator>(run: usize, dts: u64, units: &[FoundUnit<'_, A>]) -> usize
-    requires { 0 < run → run - 1 ≡ spec.same_after dts units.now }
-    ensures { result ≡ spec.same_after dts units.now }
-{
-    if run > 0 {
-        run - 1
-    } else {
-        same_after(dts, units)
-    }
-}
-
-// A DTS so many units of 90 kHz earlier.
-#[tactic(auto, unfolding(crate::specs::ApartUnits::earlier_by))]
-fn earlier_by(count: usize, dts: u64) -> u64
-    ensures { result ≡ spec.earlier_by count dts }
-{
-    if count == 0 {
-        dts
-    } else {
-        distance(count as u64, dts)
-    }
-}
-
-// The DTS of a unit that so many follow with its own.
-#[tactic(auto, unfolding(crate::specs::ApartUnits::apart_by))]
-fn apart_by<A: Allocator>(count: usize, unit: &FoundUnit<'_, A>) -> u64
-    ensures { result ≡ spec.apart_by count unit.now }
-{
-    if unit.stream_id == PRIVATE_STREAM_1 {
-        earlier_by(count, unit.dts)
-    } else {
-        unit.dts
-    }
-}
-
-// The DTS of units, those of a row one unit of 90 kHz apart.
-fn apart_dts<A: Allocator>(alloc: A, found: &[FoundUnit<'_, A>]) -> Result<Vec<u64, A>, AllocError>
-    ensures { IfOk result (λ dts. dts.items ≡ spec.apart_dts found.now) }
-{
-    let mut dts = Vec::with_capacity(alloc, found.len())?;
-    let mut left = found;
-    let mut run = 0;
-    'units: while let Some((next, later)) = left.split_first() {
-        run = same_in_run(run, dts_of(next), later);
-        dts.push(apart_by(run, next))?;
-        left = later;
-    }
-    Ok(dts)
-}
-
 // Whether a unit of private_stream_1 is due when the first of these is.
 #[tactic(auto, unfolding(crate::specs::ApartUnits::is_same_next))]
 fn is_same_next<A: Allocator>(unit: &FoundUnit<'_, A>, later: &[FoundUnit<'_, A>]) -> bool
@@ -89,7 +19,53 @@ fn is_same_next<A: Allocator>(unit: &FoundUnit<'_, A>, later: &[FoundUnit<'_, A>
     let Some((next, _)) = later.split_first() else {
         return false;
     };
-    unit.stream_id == PRIVATE_STREAM_1 && dts_of(next) == unit.dts
+    unit.stream_id == PRIVATE_STREAM_1 && next.dts == unit.dts
+}
+
+// How many units of a row are before the next unit, if so many are before this one, counted up to 63.
+#[tactic(auto, unfolding(crate::specs::ApartUnits::next_place))]
+fn next_place(same: bool, place: u8) -> u8
+    requires { place ≤ 63 }
+    ensures value { result ≡ spec.next_place same place }
+    ensures bound { result ≤ 63 }
+{
+    if same { (place + 1).min(63) } else { 0 }
+}
+
+// The DTS of a unit with so many of its row before it.
+#[tactic(auto, unfolding(crate::specs::ApartUnits::apart_by))]
+fn apart_by(same: bool, place: u8, dts: u64) -> u64
+    requires { place ≤ 63 }
+    ensures { result ≡ spec.apart_by same place dts }
+{
+    if same {
+        distance(u64::from(63 - place), dts)
+    } else {
+        dts
+    }
+}
+
+// The DTS of a unit that these follow, with so many of its row before it.
+fn apart_from<A: Allocator>(place: u8, unit: &FoundUnit<'_, A>, later: &[FoundUnit<'_, A>]) -> u64
+    requires { place ≤ 63 }
+    ensures { result ≡ spec.apart_by (spec.is_same_next unit.now later.now) place unit.now.unit.dts }
+{
+    apart_by(is_same_next(unit, later), place, unit.dts)
+}
+
+// The DTS of units.
+fn apart_dts<A: Allocator>(alloc: A, found: &[FoundUnit<'_, A>]) -> Result<Vec<u64, A>, AllocError>
+    ensures { IfOk result (λ dts. dts.items ≡ spec.apart_dts 0 found.now) }
+{
+    let mut dts = Vec::with_capacity(alloc, found.len())?;
+    let mut left = found;
+    let mut place = 0;
+    'units: while let Some((next, later)) = left.split_first() {
+        dts.push(apart_from(place, next, later))?;
+        place = next_place(is_same_next(next, later), place);
+        left = later;
+    }
+    Ok(dts)
 }
 
 // Whether two in a row are due at one moment.
@@ -108,7 +84,7 @@ fn has_same<A: Allocator>(found: &[FoundUnit<'_, A>]) -> bool
 }
 
 /// Returns the units of a stream, each with a DTS of its own where several of private_stream_1 in a row have one: the last
-/// keeps it, and each before it is decoded one unit of 90 kHz before the next. All else is unchanged.
+/// keeps it, and those before it are decoded up to 63 units of 90 kHz earlier, one after another. All else is unchanged.
 #[tactic(auto, using(crate::proofs::ApartUnits::apart_stay))]
 pub fn apart_units<'f, A: Allocator + Clone>(
     alloc: A,

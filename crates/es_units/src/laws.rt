@@ -1,6 +1,6 @@
 //! Laws of the definitions. Each function does nothing: its contract is the law.
 
-ghost use Rattle.es_units.specs.ApartUnits.{ApartKeep, ApartStay, OneApart, SoundStay};
+ghost use Rattle.es_units.specs.ApartUnits.{ApartKeep, ApartStay, RowRises, SoundStay};
 ghost use Rattle.es_units.specs.Laws.{ConstantIsLeast, FindingsOfThePid, MovedByOneConstant, MovedInTurn};
 ghost use Rattle.es_units.specs.Laws.{NothingIsLost, TakenOneByOne, UnitsAreKept};
 ghost use Rattle.es_units.specs.UnitSteps.{GivenAreCarried, GivenInTurn, UncutAreCarried};
@@ -24,13 +24,13 @@ pub fn nothing_is_lost()
     ensures { NothingIsLost }
 {}
 
-/// States that units of a data stream that are due at one moment are one unit of 90 kHz apart when they are decoded: all but their
-/// DTS is kept, and nothing changes if no two in a row have one DTS, as those whose stamps can be moments.
+/// States that units of a data stream that are due at one moment are decoded one after another, up to 63 units of 90 kHz earlier:
+/// all but their DTS is kept, and nothing changes if no two in a row have one DTS, as those whose stamps can be moments.
 pub fn apart_by_one()
     ensures keep { ApartKeep }
     ensures stay { ApartStay }
     ensures sound { SoundStay }
-    ensures apart { OneApart }
+    ensures apart { RowRises }
 {}
 
 /// States that the moments of a stream's units are their stamps less one constant: plus that, modulo 2^33, they are the stamps.

@@ -70,7 +70,7 @@ still_have_bytes (d ∷ ds) (u ∷ us) all =
 
 sources_have_bytes : (made : Bool) (pid : ℕ) (findings : List FindingView) → All HasBytes (map (λ w. w.unit) (source_of made pid findings))
 unfolding source_of
-sources_have_bytes false pid findings = still_have_bytes (apart_dts (carried_units pid findings)) (carried_units pid findings) (have_bytes pid findings)
+sources_have_bytes false pid findings = still_have_bytes (apart_dts 0 (carried_units pid findings)) (carried_units pid findings) (have_bytes pid findings)
 sources_have_bytes true pid findings = still_have_bytes (made_dts (pts_of (carried_units pid findings))) (carried_units pid findings) (have_bytes pid findings)
 
 -- 2. The units of a stream keep what it declares

@@ -103,7 +103,7 @@ with_made (d ∷ ds) (u ∷ us) all =
 
 sources : (made : Bool) (pid : ℕ) (fs : List FindingView) → All Carried (source_of made pid fs)
 unfolding source_of
-sources false pid fs = with_made (apart_dts (carried_units pid fs)) (carried_units pid fs) (all_units (is_split pid fs) pid fs)
+sources false pid fs = with_made (apart_dts 0 (carried_units pid fs)) (carried_units pid fs) (all_units (is_split pid fs) pid fs)
 sources true pid fs = with_made (made_dts (pts_of (carried_units pid fs))) (carried_units pid fs) (all_units (is_split pid fs) pid fs)
 
 -- 3. At moments of a run

@@ -84,7 +84,7 @@ AllDue rate n us = All (λ u. u.dts * rate ≤ n * slot_units_at_1bps) us
 
 -- the units of a stream, whose clock shows `base` at moment 0 if that of the description shows base0, are found again: all of them and
 -- no other. Where no two of a data stream in a row are due at one moment, they are just those of the wire (es_units `ApartStay`); else all
--- but DTS is (`ApartKeep`), and DTS that are the same are one unit of 90 kHz apart (`OneApart`)
+-- but DTS is (`ApartKeep`), and of a row with one DTS each is decoded before the next (`RowRises`)
 abbrev pub FoundAgainLaw : Type 0
 FoundAgainLaw = (d : Described) (p : Planned) (findings : List FindingView) (units : List (ℕ × AccessUnit)) (n k : ℕ) (s : DescribedStream) (base : ℕ) →
     IsInRange d → IsServing d p → AreUnits false findings d units → n ≤ 2 ^ 40 → slice_get d.streams k ≡ Some s →

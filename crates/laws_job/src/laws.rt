@@ -41,7 +41,7 @@ pub fn declared()
 /// States that if the run ends no earlier than the DTS of each unit of a stream, what a demultiplexer finds in these
 /// bytes, with their end, are all these units and no other: on the stream's PID the units are those of the input, in
 /// order, their marks and bytes the same and their stamps later by one constant, modulo 2^33; where units of a data stream
-/// in a row have one DTS, theirs are one unit of 90 kHz apart, and if no two have one DTS they are their own (`own`). If
+/// in a row have one DTS, all but the last are decoded a little earlier, and if no two have one DTS it is their own (`own`). If
 /// that constant is 0 they are the input's.
 pub fn found_again()
     ensures moved { FoundAgainLaw }

@@ -1,4 +1,4 @@
-use Rattle.es_units.proofs.ApartUnits.{apart_keep, apart_stay, sound_stay, one_apart}
+use Rattle.es_units.proofs.ApartUnits.{apart_keep, apart_stay, sound_stay, row_rises}
 use Rattle.es_units.proofs.laws.apart_by_one.Goals as goal
 
 pub returns-clause-keep : goal.returns-clause-keep
@@ -11,4 +11,4 @@ pub returns-clause-sound : goal.returns-clause-sound
 returns-clause-sound c = sound_stay
 
 pub returns-clause-apart : goal.returns-clause-apart
-returns-clause-apart c = one_apart
+returns-clause-apart c = row_rises
