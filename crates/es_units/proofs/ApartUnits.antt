@@ -1,8 +1,7 @@
 -- Units of data streams that are due at one moment, one by one.
-use Rattle.std.proofs.Common.{◌≡◌, ◌≤◌, ◌<◌, ◌∙◌, ℕ, zero, suc, ◌+◌, ◌-◌, ◌%◌, ◌^◌, ◌++◌, ◌==◌, ◌&&◌, ◌||◌, nat_le, Bool, true, false, Option, Some, None, List, [], ◌∷◌, length, map, refl, sym, ap, ap₂, arith, drop, get_or, slice_get, add-one}
+use Rattle.std.proofs.Common.{◌≡◌, ◌≤◌, ◌<◌, ◌∙◌, ℕ, zero, suc, ◌+◌, ◌-◌, ◌%◌, ◌^◌, ◌++◌, ◌==◌, ◌&&◌, ◌||◌, nat_le, Bool, true, false, Option, Some, None, List, [], ◌∷◌, length, map, refl, sym, ap, ap₂, arith, drop, get_or, add-one}
 use Rattle.std.proofs.Math.Seq.{drop-cons}
 use Rattle.std.proofs.lemmas.List.{append_assoc, append-nil, drop_all}
-use Rattle.std.proofs.lemmas.Option.{get_or_from_slice_get, slice_get_within}
 use Rattle.std.proofs.lemmas.Bool.Decides.{nat_tests}
 use Rattle.pes_packet.specs.declared.marks.Marks.{Marks}
 use Rattle.unit_queue.proofs.CauseLemmas.{or_false}
@@ -29,10 +28,9 @@ same_head : (u v : CarriedUnit) (us later : List CarriedUnit) → later ≡ v �
 unfolding is_same_next
 same_head u v us later is = rw is refl
 
-pub same_at : (i : ℕ) (u v : CarriedUnit) (us : List CarriedUnit) → slice_get us i ≡ Some v →
+pub same_at : (i : ℕ) (u v : CarriedUnit) (us : List CarriedUnit) → i < length us → v ≡ get_or us i v →
     is_same_next u (drop i us) ≡ (u.stream_id == 0xBD && v.unit.dts == u.unit.dts)
-same_at i u v us at =
-    same_head u v (drop (i + 1) us) (drop i us) (next_unit i us v (slice_get_within us i v at) (sym (get_or_from_slice_get us i v v at)))
+same_at i u v us below here = same_head u v (drop (i + 1) us) (drop i us) (next_unit i us v below here)
 
 pub same_end : (i : ℕ) (u : CarriedUnit) (us : List CarriedUnit) → length us ≤ i → is_same_next u (drop i us) ≡ false
 unfolding is_same_next
