@@ -1,6 +1,7 @@
 -- Units of data streams that are due at one moment, one by one.
-use Rattle.std.proofs.Common.{◌≡◌, ◌≤◌, ◌<◌, ◌∙◌, ℕ, zero, suc, ◌+◌, ◌-◌, ◌%◌, ◌^◌, ◌++◌, ◌==◌, ◌&&◌, ◌||◌, nat_le, Bool, true, false, Option, Some, None, List, [], ◌∷◌, length, map, refl, sym, ap, ap₂, arith}
-use Rattle.std.proofs.lemmas.List.{append_assoc, append-nil}
+use Rattle.std.proofs.Common.{◌≡◌, ◌≤◌, ◌<◌, ◌∙◌, ℕ, zero, suc, ◌+◌, ◌-◌, ◌%◌, ◌^◌, ◌++◌, ◌==◌, ◌&&◌, ◌||◌, nat_le, Bool, true, false, Option, Some, None, List, [], ◌∷◌, length, map, refl, sym, ap, ap₂, arith, drop, get_or, add-one}
+use Rattle.std.proofs.Math.Seq.{drop-cons}
+use Rattle.std.proofs.lemmas.List.{append_assoc, append-nil, drop_all}
 use Rattle.std.proofs.lemmas.Bool.Decides.{nat_tests}
 use Rattle.pes_packet.specs.declared.marks.Marks.{Marks}
 use Rattle.unit_queue.proofs.CauseLemmas.{or_false}
@@ -17,34 +18,52 @@ use Rattle.es_units.proofs.UnitMoments.{contents}
 same_number : (a b : ℕ) → (a == b) ≡ true → a ≡ b
 same_number a b e = grind (arith, nat_tests)
 
--- 1. DTS, one by one
+-- 1. One after another
 
-pub dts_more : (all out after : List ℕ) (left us : List CarriedUnit) (u : CarriedUnit) (place next d : ℕ) → all ≡ out ++ apart_dts place left → left ≡ u ∷ us →
-    d ≡ apart_by (is_same_next u us) place u.unit.dts → next ≡ next_place (is_same_next u us) place → after ≡ out ++ d ∷ [] → all ≡ after ++ apart_dts next us
-unfolding apart_dts
-dts_more all out after left us u place next d is at made on pushed =
-    rw (pushed, made, on) (is ∙ ap (λ (l : List CarriedUnit). out ++ apart_dts place l) at
-    ∙ sym (append_assoc out (apart_by (is_same_next u us) place u.unit.dts ∷ []) (apart_dts (next_place (is_same_next u us) place) us)))
+next_unit : (i : ℕ) (us : List CarriedUnit) (u : CarriedUnit) → i < length us → u ≡ get_or us i u → drop i us ≡ u ∷ drop (i + 1) us
+next_unit i us u below here = rw (drop-cons us i u below, add-one i, sym here) refl
 
-pub dts_end : (all out : List ℕ) (left : List CarriedUnit) (place : ℕ) → all ≡ out ++ apart_dts place left → length left ≡ 0 → out ≡ all
+-- whether a unit is due when the one at a place is
+same_head : (u v : CarriedUnit) (us later : List CarriedUnit) → later ≡ v ∷ us → is_same_next u later ≡ (u.stream_id == 0xBD && v.unit.dts == u.unit.dts)
+unfolding is_same_next
+same_head u v us later is = rw is refl
+
+pub same_at : (i : ℕ) (u v : CarriedUnit) (us : List CarriedUnit) → i < length us → v ≡ get_or us i v →
+    is_same_next u (drop i us) ≡ (u.stream_id == 0xBD && v.unit.dts == u.unit.dts)
+same_at i u v us below here = same_head u v (drop (i + 1) us) (drop i us) (next_unit i us v below here)
+
+pub same_end : (i : ℕ) (u : CarriedUnit) (us : List CarriedUnit) → length us ≤ i → is_same_next u (drop i us) ≡ false
+unfolding is_same_next
+same_end i u us over = rw (drop_all i us over) refl
+
+pub dts_more : (all out after : List ℕ) (i : ℕ) (us : List CarriedUnit) (u : CarriedUnit) (place next d : ℕ) → all ≡ out ++ apart_dts place (drop i us) → i < length us → u ≡ get_or us i u →
+    d ≡ apart_by (is_same_next u (drop (i + 1) us)) place u.unit.dts → next ≡ next_place (is_same_next u (drop (i + 1) us)) place → after ≡ out ++ d ∷ [] →
+    all ≡ after ++ apart_dts next (drop (i + 1) us)
 unfolding apart_dts
-dts_end all out [] place is none = sym (is ∙ append-nil out)
-dts_end all out (u ∷ us) place is none = absurd cc
+dts_more all out after i us u place next d is below here made on pushed =
+    let later = drop (i + 1) us in
+    rw (pushed, made, on) (is ∙ ap (λ (l : List CarriedUnit). out ++ apart_dts place l) (next_unit i us u below here)
+    ∙ sym (append_assoc out (apart_by (is_same_next u later) place u.unit.dts ∷ []) (apart_dts (next_place (is_same_next u later) place) later)))
+
+pub dts_end : (all out : List ℕ) (i : ℕ) (us : List CarriedUnit) (place : ℕ) → all ≡ out ++ apart_dts place (drop i us) → length us ≤ i → out ≡ all
+unfolding apart_dts
+dts_end all out i us place is over =
+    sym (is ∙ ap (λ (l : List CarriedUnit). out ++ apart_dts place l) (drop_all i us over) ∙ append-nil out)
 
 -- 2. Whether two in a row are due at one moment
 
-pub same_here : (found us : List CarriedUnit) (u : CarriedUnit) → found ≡ u ∷ us → is_same_next u us ≡ true → has_same found ≡ true
+pub same_here : (i : ℕ) (us : List CarriedUnit) (u : CarriedUnit) → i < length us → u ≡ get_or us i u → is_same_next u (drop (i + 1) us) ≡ true → has_same (drop i us) ≡ true
 unfolding has_same
-same_here found us u is same = rw (is, same) refl
+same_here i us u below here same = rw (next_unit i us u below here, same) refl
 
-pub same_later : (found us : List CarriedUnit) (u : CarriedUnit) → found ≡ u ∷ us → is_same_next u us ≡ false → has_same found ≡ has_same us
+pub same_later : (i : ℕ) (us : List CarriedUnit) (u : CarriedUnit) → i < length us → u ≡ get_or us i u → is_same_next u (drop (i + 1) us) ≡ false →
+    has_same (drop i us) ≡ has_same (drop (i + 1) us)
 unfolding has_same
-same_later found us u is other = rw (is, other) refl
+same_later i us u below here other = rw (next_unit i us u below here, other) refl
 
-pub same_none : (found : List CarriedUnit) → length found ≡ 0 → has_same found ≡ false
+pub same_none : (i : ℕ) (us : List CarriedUnit) → length us ≤ i → has_same (drop i us) ≡ false
 unfolding has_same
-same_none [] none = refl
-same_none (u ∷ us) none = absurd cc
+same_none i us over = rw (drop_all i us over) refl
 
 -- 3. All but DTS is kept
 
@@ -111,8 +130,8 @@ unfolding distance
 no_distance a w same = omega (arith, same)
 
 not_true : (b : Bool) → (b ≡ true → ⊥) → b ≡ false
-not_true true no = absurd (no refl)
-not_true false no = refl
+not_true true never = absurd (never refl)
+not_true false never = refl
 
 pub and_false : (b c : Bool) → c ≡ false → (b && c) ≡ false
 and_false true c is = is

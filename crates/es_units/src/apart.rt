@@ -1,6 +1,6 @@
 //! Units of data streams that are due at one moment, each with a DTS of its own.
 
-ghost use Rattle.std.specs.Prelude.{◌≡◌, ◌≤◌, IfOk};
+ghost use Rattle.std.specs.Prelude.{◌≡◌, ◌≤◌, ◌==◌, ◌&&◌, IfOk, drop};
 ghost use Rattle.es_units.specs.ApartUnits as spec;
 
 use crate::made_units::with_dts;
@@ -11,15 +11,33 @@ use std::alloc::{AllocError, Allocator};
 // Private_stream_1 (ISO/IEC 13818-1, table 2-22).
 const PRIVATE_STREAM_1: u8 = 0xbd;
 
-// Whether a unit of private_stream_1 is due when the first of these is.
-#[tactic(auto, unfolding(crate::specs::ApartUnits::is_same_next))]
-fn is_same_next<A: Allocator>(unit: &FoundUnit<'_, A>, later: &[FoundUnit<'_, A>]) -> bool
-    ensures { result ≡ spec.is_same_next unit.now later.now }
+// The DTS of a unit.
+fn dts_of<A: Allocator>(unit: &FoundUnit<'_, A>) -> u64
+    ensures { result ≡ unit.now.unit.dts }
 {
-    let Some((next, _)) = later.split_first() else {
-        return false;
-    };
+    unit.dts
+}
+
+// Whether a unit of private_stream_1 is due when another one is.
+fn is_same<A: Allocator>(unit: &FoundUnit<'_, A>, next: &FoundUnit<'_, A>) -> bool
+    ensures { result ≡ (unit.now.stream_id == 0xBD && next.now.unit.dts == unit.now.unit.dts) }
+{
     unit.stream_id == PRIVATE_STREAM_1 && next.dts == unit.dts
+}
+
+// Whether it is due when the unit at a place is, if there is one.
+#[tactic(auto, using(crate::proofs::ApartUnits::same_end))]
+fn is_same_at<A: Allocator>(
+    at: usize,
+    unit: &FoundUnit<'_, A>,
+    found: &[FoundUnit<'_, A>],
+) -> bool
+    ensures { result ≡ spec.is_same_next unit.now (drop at found.now) }
+{
+    match found.get(at) {
+        None => false,
+        Some(next) => is_same(unit, next),
+    }
 }
 
 // How many units of a row are before the next unit, if so many are before this one, counted up to 63.
@@ -45,40 +63,31 @@ fn apart_by(same: bool, place: u8, dts: u64) -> u64
     }
 }
 
-// The DTS of a unit that these follow, with so many of its row before it.
-fn apart_from<A: Allocator>(place: u8, unit: &FoundUnit<'_, A>, later: &[FoundUnit<'_, A>]) -> u64
-    requires { place ≤ 63 }
-    ensures { result ≡ spec.apart_by (spec.is_same_next unit.now later.now) place unit.now.unit.dts }
-{
-    apart_by(is_same_next(unit, later), place, unit.dts)
-}
-
 // The DTS of units.
-fn apart_dts<A: Allocator>(alloc: A, found: &[FoundUnit<'_, A>]) -> Result<Vec<u64, A>, AllocError>
+fn apart_dts<A: Allocator>(
+    alloc: A,
+    found: &[FoundUnit<'_, A>],
+) -> Result<Vec<u64, A>, AllocError>
     ensures { IfOk result (λ dts. dts.items ≡ spec.apart_dts 0 found.now) }
 {
     let mut dts = Vec::with_capacity(alloc, found.len())?;
-    let mut left = found;
     let mut place = 0;
-    'units: while let Some((next, later)) = left.split_first() {
-        dts.push(apart_from(place, next, later))?;
-        place = next_place(is_same_next(next, later), place);
-        left = later;
+    for (at, unit) in found.iter().enumerate() {
+        let same = is_same_at(at + 1, unit, found);
+        dts.push(apart_by(same, place, dts_of(unit)))?;
+        place = next_place(same, place);
     }
     Ok(dts)
 }
 
 // Whether two in a row are due at one moment.
-#[tactic(auto, using(crate::proofs::ApartUnits::same_here, crate::proofs::ApartUnits::same_later, crate::proofs::ApartUnits::same_none))]
 fn has_same<A: Allocator>(found: &[FoundUnit<'_, A>]) -> bool
     ensures { result ≡ spec.has_same found.now }
 {
-    let mut left = found;
-    while let Some((next, later)) = left.split_first() {
-        if is_same_next(next, later) {
+    for (at, unit) in found.iter().enumerate() {
+        if is_same_at(at + 1, unit, found) {
             return true;
         }
-        left = later;
     }
     false
 }
