@@ -1,0 +1,34 @@
+//! The access units at which a decoder may begin.
+
+ghost use Rattle.std.specs.Prelude.{◌≡◌};
+ghost use Rattle.stream_coding.specs.AccessPoints as spec;
+
+use crate::structures::{Structure, has};
+
+#[tactic(auto, unfolding(crate::specs::AccessPoints::is_avc_access))]
+fn is_avc_access(unit: &[u8]) -> bool
+    ensures { result ≡ spec.is_avc_access unit.now }
+{
+    has(Structure::AvcParameters, unit)
+        && (has(Structure::IdrSlice, unit) || has(Structure::RecoveryPoint, unit))
+}
+
+#[tactic(auto, unfolding(crate::specs::AccessPoints::is_hevc_access))]
+fn is_hevc_access(unit: &[u8]) -> bool
+    ensures { result ≡ spec.is_hevc_access unit.now }
+{
+    has(Structure::HevcParameters, unit) && has(Structure::IrapSlice, unit)
+}
+
+/// Returns whether a decoder may begin with this access unit of a stream that a program map names with this stream_type.
+#[tactic(auto, unfolding(crate::specs::AccessPoints::is_access_point))]
+pub fn is_access_point(stream_type: u8, unit: &[u8]) -> bool
+    ensures { result ≡ spec.is_access_point stream_type unit.now }
+{
+    match stream_type {
+        0x01 | 0x02 => has(Structure::SequenceHeader, unit),
+        0x1b => is_avc_access(unit),
+        0x24 => is_hevc_access(unit),
+        _ => false,
+    }
+}
