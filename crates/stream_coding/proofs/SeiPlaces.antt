@@ -68,7 +68,7 @@ unfolding place_after
 after_byte p bytes rest b is within other =
     let here = one_more b rest (subst (λ (l : List ℕ). ends_nal l ≡ false) is within) in
     let plain = no_prevention b (nal_bytes rest)
-        (none_prevented b rest (subst (λ (l : List ℕ). bytes_eq (take 3 l) (0 ∷ 0 ∷ 3 ∷ []) ≡ false) is other)) in
+    (none_prevented b rest (subst (λ (l : List ℕ). bytes_eq (take 3 l) (0 ∷ 0 ∷ 3 ∷ []) ≡ false) is other)) in
     rw (is, here, plain) refl
 
 -- 3. After 00 00 03

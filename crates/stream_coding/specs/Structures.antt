@@ -1,10 +1,11 @@
--- Where the structures of a coded stream begin that say its level, its video buffer, or how many channels it has.
+-- Where the structures of a coded stream begin that say its level, its video buffer, how many channels it has, or that a decoder may
+-- begin there.
 use Rattle.std.specs.Prelude.{ℕ, ◌/◌, ◌%◌, ◌==◌, ◌&&◌, nat_lt, Bool, if◌then◌else◌, Option, None, Some, List, [], ◌∷◌, take, drop, is_some}
 use Rattle.std.specs.Option.{option_and_then, option_or, option_map_or}
 use Rattle.std.specs.Str.{bytes_eq}
 use Rattle.stream_coding.specs.Sei.{has_recovery_point}
 use Rattle.stream_coding.specs.declared.structures.Structure.{Structure}
-use Rattle.stream_coding.specs.declared.structures.Structure.TheVariants.{SequenceHeader, SequenceExtension, AvcParameters, IdrSlice, RecoveryPoint, HevcParameters, IrapSlice, AdtsHeader}
+use Rattle.stream_coding.specs.declared.structures.Structure.TheVariants.{SequenceHeader, SequenceExtension, PictureHeader, AvcParameters, IdrSlice, RecoveryPoint, HevcParameters, IrapSlice, AdtsHeader}
 
 -- 1. What is at the front of bytes
 
@@ -16,6 +17,11 @@ after_start_code bytes = if bytes_eq (take 3 bytes) (0 ∷ 0 ∷ 1 ∷ []) then 
 unfoldable pub sequence_header : List ℕ → Option (List ℕ)
 sequence_header [] = None
 sequence_header (code ∷ rest) = if code == 0xB3 then Some rest else None
+
+-- of a picture header (6.2.3) what follows the start code's value 0x00
+unfoldable pub picture_header : List ℕ → Option (List ℕ)
+picture_header [] = None
+picture_header (code ∷ rest) = if code == 0x00 then Some rest else None
 
 -- of a sequence extension (6.2.2.3) what follows the start code's value 0xB5: extension_start_code_identifier, 1 in 4 bits, is the
 -- first of it
@@ -63,6 +69,7 @@ adts_header _ = None
 unfoldable pub at_front : Structure → List ℕ → Option (List ℕ)
 at_front SequenceHeader bytes = option_and_then sequence_header (after_start_code bytes)
 at_front SequenceExtension bytes = option_and_then sequence_extension (after_start_code bytes)
+at_front PictureHeader bytes = option_and_then picture_header (after_start_code bytes)
 at_front AvcParameters bytes = option_and_then avc_parameters (after_start_code bytes)
 at_front IdrSlice bytes = option_and_then idr_slice (after_start_code bytes)
 at_front RecoveryPoint bytes = option_and_then recovery_point (after_start_code bytes)

@@ -1,4 +1,4 @@
-//! The structures of a coded stream that say its level, its video buffer, or how many channels it has.
+//! The structures of a coded stream that say its level, its video buffer, how many channels it has, or where a decoder may begin.
 
 ghost use Rattle.std.specs.Prelude.{◌≡◌, option_map};
 ghost use Rattle.stream_coding.specs.Structures as spec;
@@ -12,6 +12,8 @@ pub(crate) enum Structure {
     SequenceHeader,
     /// The sequence extension of ISO/IEC 13818-2 video.
     SequenceExtension,
+    /// The picture header of ISO/IEC 11172-2 and 13818-2 video.
+    PictureHeader,
     /// The sequence parameter set of ISO/IEC 14496-10 video.
     AvcParameters,
     /// A slice of an IDR picture of ISO/IEC 14496-10 video.
@@ -42,6 +44,17 @@ fn sequence_header(bytes: &[u8]) -> Option<&[u8]>
     match bytes {
         [] => None,
         [code, rest @ ..] => if *code == 0xb3 { Some(rest) } else { None },
+    }
+}
+
+// The bytes after the start code of a picture header.
+#[tactic(auto, unfolding(crate::specs::Structures::picture_header))]
+fn picture_header(bytes: &[u8]) -> Option<&[u8]>
+    ensures { option_map (λ rest. rest.now) result ≡ spec.picture_header bytes.now }
+{
+    match bytes {
+        [] => None,
+        [code, rest @ ..] => if *code == 0x00 { Some(rest) } else { None },
     }
 }
 
@@ -169,6 +182,7 @@ fn at_front(structure: Structure, bytes: &[u8]) -> Option<&[u8]>
     match structure {
         Structure::SequenceHeader => sequence_header(after_start_code(bytes)?),
         Structure::SequenceExtension => sequence_extension(after_start_code(bytes)?),
+        Structure::PictureHeader => picture_header(after_start_code(bytes)?),
         Structure::AvcParameters => avc_parameters(after_start_code(bytes)?),
         Structure::IdrSlice => idr_slice(after_start_code(bytes)?),
         Structure::RecoveryPoint => recovery_point(after_start_code(bytes)?),
