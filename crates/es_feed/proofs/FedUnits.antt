@@ -21,6 +21,7 @@ use Rattle.es_feed.specs.declared.due.Due.{Due}
 use Rattle.es_feed.specs.declared.origin.Origin.{Origin}
 use Rattle.es_feed.specs.Feeding.{FedStreamView, Fed, FeedView, ahead_of, unless_ahead, unless_fault, at_moment, last_dts, base_by, base_of, origin_after, before_with, fed_with, stream_with, fed_by, whole_by, after_found, lost_by, told_by, told_fed, told_of, fault_by, unit_after, follow_after, greatest_if, due_of, with_streams, place_from, feed_with, after_at, fed_at, after_place, fed_place, after_unit, fed_unit, map_fed, after_one, fed_one, after_all, fed_all, fed_last, fed_ends, fed_to_end}
 use Rattle.es_units.proofs.UnitSteps.{uncut_carried}
+use Rattle.given_marks.specs.Marking.{no_marking}
 use Rattle.es_feed.specs.Laws.{FedAsCarried, FedInTurn, has_loss, is_loss}
 use Rattle.es_feed.proofs.UncutUnits.{Uncut, no_unit, past_here, uncut_step, under_cut}
 
@@ -157,7 +158,7 @@ abbrev due_from : ℕ → Due
 due_from e = record { earliest = e; greatest = None }
 
 abbrev single : ℕ → Origin → FedStreamView → FeedView
-single e o s = record { earliest = e; origin = o; shown = None; ticked = 0; maps = []; streams = s ∷ [] }
+single e o s = record { earliest = e; origin = o; shown = None; ticked = 0; marking = no_marking; maps = []; streams = s ∷ [] }
 
 pub other_role : (pid : ℕ) (f : FindingView) → has_pid pid f.pid ≡ false → role_of pid f ≡ Ignored
 unfolding role_of

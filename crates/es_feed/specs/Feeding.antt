@@ -21,6 +21,7 @@ use Rattle.es_feed.specs.declared.fed_map.FedMap.{FedMap}
 use Rattle.es_feed.specs.declared.origin.Origin.{Origin}
 use Rattle.es_feed.specs.Origins.{base_for, no_origin, origin_with}
 use Rattle.es_feed.specs.Maps.{maps_after, new_map}
+use Rattle.given_marks.specs.Marking.{MarkingView}
 
 -- 1. A stream
 
@@ -148,18 +149,20 @@ abbrev pub after_found : FedStreamView → FindingView → FedStreamView
 after_found s f = record s { units = after_finding s.units f; follow = follow_after s f }
 
 -- all streams, with the moment at which the first unit is due, the constants, what the clock showed last, in units of 90 kHz, once it has
--- come, the last tick, 0 before the first, and the programs' maps
+-- come, the last tick, 0 before the first, the marks that are asked for, and the programs' maps
 pub record FeedView : Type 0 where
   pub earliest : ℕ
   pub origin : Origin
   pub shown : Option ℕ
   pub ticked : ℕ
+  pub marking : MarkingView
   pub maps : List FedMap
   pub streams : List FedStreamView
 
 -- before the first packet of a stream
-abbrev pub feed_first : ℕ → List FedMap → List FedStreamView → FeedView
-feed_first earliest maps streams = record { earliest = earliest; origin = no_origin; shown = None; ticked = 0; maps = maps; streams = streams }
+abbrev pub feed_first : ℕ → MarkingView → List FedMap → List FedStreamView → FeedView
+feed_first earliest marking maps streams =
+    record { earliest = earliest; origin = no_origin; shown = None; ticked = 0; marking = marking; maps = maps; streams = streams }
 
 -- the greatest DTS of units that were fed and of ticks; 0 before the first
 unfoldable pub dts_or_0 : Option ℕ → ℕ
@@ -182,7 +185,7 @@ abbrev pub due_of : FeedView → Due
 due_of feed = record { earliest = feed.earliest; greatest = greatest_if feed.shown (greatest_of feed) }
 
 abbrev pub with_streams : FeedView → Origin → List FedStreamView → FeedView
-with_streams feed o streams = record { earliest = feed.earliest; origin = o; shown = feed.shown; ticked = feed.ticked; maps = feed.maps; streams = streams }
+with_streams feed o streams = record { earliest = feed.earliest; origin = o; shown = feed.shown; ticked = feed.ticked; marking = feed.marking; maps = feed.maps; streams = streams }
 
 -- the first stream of this PID; the first of these has number k
 unfoldable pub place_from : Option ℕ → ℕ → List FedStreamView → Option ℕ
@@ -222,7 +225,7 @@ map_fed None = None
 map_fed (Some change) = Some (255, Err (Map change))
 
 abbrev pub watched : FeedView → FindingView → FeedView
-watched feed f = record { earliest = feed.earliest; origin = feed.origin; shown = feed.shown; ticked = feed.ticked; maps = maps_after f feed.maps; streams = feed.streams }
+watched feed f = record { earliest = feed.earliest; origin = feed.origin; shown = feed.shown; ticked = feed.ticked; marking = feed.marking; maps = maps_after f feed.maps; streams = feed.streams }
 
 -- after a finding, and what it feeds
 abbrev pub after_one : FeedView → FindingView → FeedView

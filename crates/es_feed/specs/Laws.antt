@@ -12,6 +12,7 @@ use Rattle.demux.specs.Stream.{StreamState}
 use Rattle.es_feed.specs.Feeding.{FeedView, after_all, fed_all, fed_to_end, feed_first, lost_by}
 use Rattle.es_feed.specs.Ticks.{after_packets, fed_packets}
 use Rattle.es_feed.specs.declared.feed_fault.Loss.{Loss}
+use Rattle.given_marks.specs.Marking.{all_marked, no_marking}
 
 -- what later findings feed comes after what the earlier ones have fed
 abbrev pub FedInTurn : Type 0
@@ -19,7 +20,7 @@ FedInTurn = (feed : FeedView) (fs more : List FindingView) → fed_all feed (fs 
 
 -- one stream of a PID and no map, before its first unit
 abbrev pub one_stream : ℕ → ℕ → ℕ → FeedView
-one_stream earliest number pid = feed_first earliest [] (record { number = number; before = None; units = none_so_far pid true; follow = false } ∷ [])
+one_stream earliest number pid = feed_first earliest no_marking [] (record { number = number; before = None; units = none_so_far pid true; follow = false } ∷ [])
 
 -- packets of a PID are lost before one of the findings
 unfoldable pub is_loss : Option Loss → Bool
@@ -36,7 +37,9 @@ FedAsCarried = (earliest number pid : ℕ) (fs : List FindingView) (u : AccessUn
     map (λ w. w.unit) (carried_units pid fs) ≡ u ∷ us → first_fault (distance earliest u.dts) None 0 (u ∷ us) ≡ None →
     fed_to_end (one_stream earliest number pid) fs ≡ map (λ x. (number, Ok x)) (moved (distance earliest u.dts) None (u ∷ us))
 
--- where no program is known, and so no clock, what is fed of packets is what is fed of all that is found in them
+-- where no program is known, and so no clock, what is fed of packets is what is fed of all that is found in them, with the marks that are
+-- asked for
 abbrev pub FedWithoutClock : Type 0
 FedWithoutClock = (s : StreamState) (feed : FeedView) (packets : List (List ℕ)) → feed.maps ≡ [] →
-    (after_packets s feed packets ≡ after_all feed (found_in_all s packets)) × (fed_packets s feed packets ≡ fed_all feed (found_in_all s packets))
+    (after_packets s feed packets ≡ after_all feed (all_marked feed.marking (found_in_all s packets)))
+    × (fed_packets s feed packets ≡ fed_all feed (all_marked feed.marking (found_in_all s packets)))

@@ -12,6 +12,7 @@ use crate::fed_streams::{greatest_of, place_of, take_at};
 use crate::feed_fault::{FeedFault, NewMap};
 use crate::origin::Origin;
 use demux::Finding;
+use given_marks::Marking;
 use pes_packet::Unit;
 use std::alloc::{AllocError, Global};
 use std::collections::VecDeque;
@@ -20,13 +21,14 @@ use std::marker::Model;
 /// The number that stands where there is no stream, and that of a tick.
 pub(crate) const NO_STREAM: u8 = 255;
 
-/// The maps of a description's programs, its streams with their current units, and the clock.
+/// The maps of a description's programs, its streams with their current units, the marks that are asked for, and the clock.
 #[derive(Drop)]
 pub struct UnitFeed {
     pub(crate) earliest: u64,
     pub(crate) origin: Origin,
     pub(crate) shown: Option<u64>,
     pub(crate) ticked: u64,
+    pub(crate) marking: Marking,
     pub(crate) maps: Vec<FedMap>,
     pub(crate) streams: Vec<FedStream>,
 }
@@ -44,6 +46,7 @@ impl Model for UnitFeed {
       origin = f.origin;
       shown = f.shown;
       ticked = f.ticked;
+      marking = f.marking;
       maps = f.maps.items;
       streams = f.streams.items;
     } };
@@ -91,15 +94,22 @@ fn greatest_if(shown: Option<u64>, greatest: u64) -> Option<u64>
 
 impl UnitFeed {
     /// Returns the programs' maps and the streams of a description before the first packet, each stream with its number and
-    /// its own PID; the first unit of all is to be due at `earliest`. The clock is the first program's clock.
-    pub fn new(earliest: u64, maps: Vec<FedMap>, streams: Vec<FedStream>) -> UnitFeed
-        ensures { result ≡ spec.feed_first earliest maps.items streams.items }
+    /// its own PID; the first unit of all is to be due at `earliest`. The clock is the first program's clock. What is found
+    /// of a stream is marked by `marking` before it is fed.
+    pub fn new(
+        earliest: u64,
+        marking: Marking,
+        maps: Vec<FedMap>,
+        streams: Vec<FedStream>,
+    ) -> UnitFeed
+        ensures { result ≡ spec.feed_first earliest marking maps.items streams.items }
     {
         UnitFeed {
             earliest,
             origin: Origin::new(),
             shown: None,
             ticked: 0,
+            marking,
             maps,
             streams,
         }

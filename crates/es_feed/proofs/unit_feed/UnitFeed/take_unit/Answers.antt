@@ -24,7 +24,7 @@ pub returns-clause-feed : goal.returns-clause-feed
 returns-clause-feed c =
     let f = finding_view c.args.finding.now in
     let i = c.self.inside in
-    let feed : FeedView = record { earliest = i.earliest; origin = i.origin; shown = i.shown; ticked = i.ticked; maps = i.maps.items; streams = i.streams.items } in
+    let feed : FeedView = record { earliest = i.earliest; origin = i.origin; shown = i.shown; ticked = i.ticked; marking = i.marking; maps = i.maps.items; streams = i.streams.items } in
     let due : c.due-due.result ≡ due_of feed = c.due-due.ensures.value ∙ ap (λ (v : FeedView). due_of v) (sym c.self.view_is) in
     let at = c.in-Some.ensures.value ∙ ap (λ (ss : List FedStreamView). place_from f.pid 0 ss) c.deref.ensures.value in
     let below : c.in-Some.k < length feed.streams = omega (arith, c.in-Some.ensures.bound, ap (length {A = FedStreamView}) c.deref.ensures.value) in
@@ -35,7 +35,7 @@ pub returns-clause-fed : goal.returns-clause-fed
 returns-clause-fed c =
     let f = finding_view c.args.finding.now in
     let i = c.self.inside in
-    let feed : FeedView = record { earliest = i.earliest; origin = i.origin; shown = i.shown; ticked = i.ticked; maps = i.maps.items; streams = i.streams.items } in
+    let feed : FeedView = record { earliest = i.earliest; origin = i.origin; shown = i.shown; ticked = i.ticked; marking = i.marking; maps = i.maps.items; streams = i.streams.items } in
     let due : c.due-due.result ≡ due_of feed = c.due-due.ensures.value ∙ ap (λ (v : FeedView). due_of v) (sym c.self.view_is) in
     let at = c.in-Some.ensures.value ∙ ap (λ (ss : List FedStreamView). place_from f.pid 0 ss) c.deref.ensures.value in
     let below : c.in-Some.k < length feed.streams = omega (arith, c.in-Some.ensures.bound, ap (length {A = FedStreamView}) c.deref.ensures.value) in
