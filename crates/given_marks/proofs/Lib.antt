@@ -1,1 +1,1 @@
-mod MarkedFindings
+pub mod MarkedFindings

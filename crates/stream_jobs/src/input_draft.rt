@@ -74,8 +74,8 @@ fn is_selected_program(selected: &[u16], program: &Program) -> bool
     selected.is_empty() || is_among(program.program_number, selected)
 }
 
-// The programs that are taken.
-fn selected_programs(
+/// Returns the programs that are taken.
+pub(crate) fn selected_programs(
     alloc: Global,
     selected: &[u16],
     named: &[Program],
@@ -129,6 +129,7 @@ fn table_warnings(
         options.without,
         options.buffers,
         options.names,
+        options.aligned,
         association,
         &found.streams,
         &mut warnings,
