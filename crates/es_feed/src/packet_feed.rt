@@ -103,7 +103,7 @@ impl PacketFeed {
             return Err(AllocError);
         };
         self.packets = index.saturating_add(1);
-        self.feed.marking.mark_all(&mut found);
+        self.feed.mark(&mut found);
         self.feed.take_all(alloc, found.as_slice(), fed)?;
         self.take_pcr(alloc, found_pcr(index, &read), fed)
     }
@@ -163,7 +163,7 @@ impl PacketFeed {
             return Err(AllocError);
         };
         let mut found = demux.into_findings();
-        feed.marking.mark_all(&mut found);
+        feed.mark(&mut found);
         feed.take_all(alloc, found.as_slice(), fed)?;
         feed.finish(fed)?;
         Ok(())

@@ -3,6 +3,7 @@
 ghost use Rattle.std.specs.Prelude.{◌≡◌, ◌≤◌, ◌++◌, ◌^◌, IfSome, OnOk, map};
 ghost use Rattle.demux.specs.Shown.{finding_view};
 ghost use Rattle.std.specs.Option.{option_to_list};
+ghost use Rattle.given_marks.specs.Marking.{all_marked};
 ghost use Rattle.es_feed.specs.Feeding as spec;
 
 use crate::due::Due;
@@ -28,7 +29,7 @@ pub struct UnitFeed {
     pub(crate) origin: Origin,
     pub(crate) shown: Option<u64>,
     pub(crate) ticked: u64,
-    pub(crate) marking: Marking,
+    marking: Marking,
     pub(crate) maps: Vec<FedMap>,
     pub(crate) streams: Vec<FedStream>,
 }
@@ -113,6 +114,13 @@ impl UnitFeed {
             maps,
             streams,
         }
+    }
+
+    /// Marks what is found of a stream, before it is taken.
+    pub(crate) fn mark(&self, findings: &mut [Finding<'_>])
+        ensures { map finding_view findings.new ≡ all_marked self.now.marking (map finding_view findings.old) }
+    {
+        self.marking.mark_all(findings);
     }
 
     /// Returns the greatest DTS of units that were fed and of ticks.
