@@ -1,1 +1,2 @@
+mod TypedPids
 pub mod MarkedFindings

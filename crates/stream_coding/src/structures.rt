@@ -211,7 +211,10 @@ fn found_in(structure: Structure, unit: &[u8]) -> Option<&[u8]>
 pub(crate) fn has(structure: Structure, unit: &[u8]) -> bool
     ensures { result ≡ spec.has structure unit.now }
 {
-    found_in(structure, unit).is_some()
+    match found_in(structure, unit) {
+        Some(_) => true,
+        None => false,
+    }
 }
 
 /// Returns the bytes of the first structure of this kind in a unit, without its beginning; none where there is none.
