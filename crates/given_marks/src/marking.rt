@@ -1,6 +1,7 @@
 //! What is asked for, and the findings that are marked by it.
 
-ghost use Rattle.std.specs.Prelude.{◌≡◌, map};
+ghost use Rattle.std.specs.Prelude.{◌≡◌, ◌==◌, map};
+ghost use Rattle.std.specs.List.{list_any};
 ghost use Rattle.demux.specs.Shown.{finding_view, part_bytes, what_view};
 ghost use Rattle.given_marks.specs.Marking as spec;
 
@@ -91,6 +92,13 @@ fn with_access(begun: Option<(u64, Kind)>) -> Option<(u64, Kind)>
     }
 }
 
+// Whether a PID is one of these.
+fn is_among(pids: &[u16], pid: u16) -> bool
+    ensures { result ≡ list_any (λ p. p == pid) pids.now }
+{
+    pids.iter().any(|other| *other == pid)
+}
+
 // Whether a finding of a PID is aligned.
 #[tactic(auto, unfolding(crate::specs::Marking::is_aligned))]
 fn is_aligned(pids: &[u16], pid: Option<u16>) -> bool
@@ -98,7 +106,7 @@ fn is_aligned(pids: &[u16], pid: Option<u16>) -> bool
 {
     match pid {
         None => false,
-        Some(pid) => pids.iter().any(|other| *other == pid),
+        Some(pid) => is_among(pids, pid),
     }
 }
 
