@@ -1,5 +1,5 @@
 -- What is written of an answer, and what the input that was read leads to.
-use Rattle.std.proofs.Common.{◌≡◌, ◌∙◌, ◌++◌, ◌∷◌, ◌/◌, ◌==◌, ◌&&◌, ℕ, suc, Bool, true, false, List, [], length, refl, sym, ap, subst, append-nil, Option, Some, None, Result, Ok, Err, IfOk, IsUtf8, All, inl, inr, arith}
+use Rattle.std.proofs.Common.{◌≡◌, ◌∙◌, ◌+◌, ◌++◌, ◌∷◌, ◌/◌, ◌==◌, ◌&&◌, ℕ, suc, Bool, true, false, List, [], length, refl, sym, ap, subst, append-nil, Option, Some, None, Result, Ok, Err, IfOk, IsUtf8, All, inl, inr, arith}
 use Rattle.std.specs.List.{AllZip}
 use Rattle.std.proofs.lemmas.Bool.Decides.{nat_tests}
 use Rattle.pes_packet.specs.AccessUnits.{AccessUnit}
@@ -34,7 +34,7 @@ use Rattle.packet_sync.specs.declared.packet_sizes.OtherPackets.{OtherPackets}
 use Rattle.job_run.specs.SlipLines.{packets_line}
 use Rattle.job_run.specs.Outcomes.{BytesLead, FindingsLead, Gives, GivesJob, GivesReasons, GivesUnits, IsFound, IsTold, IsWritten, Leads, InputLeads, ReportsWhy, Withholds, found_line}
 use Rattle.std.specs.Int.{bytes_high_first}
-use Rattle.unit_records.specs.Records.{record_head, word_of}
+use Rattle.unit_records.specs.Records.{private_bytes, private_size, record_head, word_of}
 use Rattle.es_feed.specs.Records.{records_of, written}
 use Rattle.job_run.specs.SeveralInputs.{GivesJobIn}
 use Rattle.job_run.specs.Streams.{IsOfStream, IsRead, PacketNotesView, ReadingView, findings_of}
@@ -56,7 +56,8 @@ cons_is_not x xs = suc_is_not (length xs)
 record_is_not : (stream size : ℕ) (marks : Marks) (dts pts : ℕ) (unit more : List ℕ) → (length ((record_head stream marks size dts pts ++ unit) ++ more) == 0) ≡ false
 unfolding record_head
 record_is_not stream size marks dts pts unit more =
-    cons_is_not stream (((bytes_high_first 4 (word_of marks size) ++ (bytes_high_first 8 dts ++ bytes_high_first 8 pts)) ++ unit) ++ more)
+    cons_is_not stream
+    (((bytes_high_first 4 (word_of marks (private_size marks + size)) ++ (bytes_high_first 8 dts ++ (bytes_high_first 8 pts ++ private_bytes marks.private_data))) ++ unit) ++ more)
 
 -- nothing is written where there is no text, no plan and no unit
 pub nothing_written : (text plan : List ℕ) (units : List (ℕ × AccessUnit)) → ((length text == 0) && ((length plan == 0) && (length units == 0))) ≡ (length (written text plan units) == 0)
