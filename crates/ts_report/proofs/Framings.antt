@@ -1,22 +1,25 @@
 -- A stream that is viewed by access units, or is not.
-use Rattle.std.proofs.Common.{◌≡◌, ◌∙◌, sym, ℕ, Option, Some, None, refl, ap, subst}
+use Rattle.std.proofs.Common.{◌≡◌, ◌∙◌, sym, ℕ, Bool, List, ◌++◌, Option, Some, None, refl, ap, subst}
 use Rattle.std.specs.Prelude.{unwrap_or, is_some, if◌then◌else◌}
 use Rattle.stream_coding.specs.declared.frame_headers.FrameKind.{FrameKind}
-use Rattle.stream_coding.specs.FrameWalks.{walk_after}
+use Rattle.stream_coding.specs.FrameWalks.{WalkView, walk_after}
 use Rattle.ts_packet.specs.Views.{PacketView}
 use Rattle.arrival.specs.declared.clock.PcrSample.{PcrSample}
 use Rattle.tstd_rows.specs.Held.{Held, IsHeld}
 use Rattle.tstd_rows.specs.Entering.{after}
 use Rattle.tstd_rows.specs.EnteringVideo.{video_of, video_unit_of}
-use Rattle.tstd_rows.specs.HeldVideo.{HoldsVideoOf}
+use Rattle.tstd_rows.specs.HeldVideo.{HoldsVideoOf, VideoSizes}
 use Rattle.tstd_rows.specs.declared.stream_buffers.StreamBuffers.{StreamBuffers}
+use Rattle.events.specs.declared.event.Event.{Event}
+use Rattle.ts_report.specs.declared.counted_buffers.CountedBuffers.{CountedBuffers}
 use Rattle.ts_report.specs.declared.entry_events.Place.{Place}
 use Rattle.ts_report.specs.declared.entry_frames.EntryFrames.{EntryFrames}
 use Rattle.ts_report.specs.declared.stream_entry.StreamEntry.{StreamEntry}
 use Rattle.ts_report.specs.declared.tally.Tally.{Tally}
+use Rattle.ts_report.specs.declared.video_tally.VideoTally.{VideoTally}
 use Rattle.ts_report.specs.declared.view_options.ViewOptions.{ViewOptions}
-use Rattle.ts_report.specs.EntryFrames.{AreCounted, Counted, frames_among, payload_events, place_of, walk_in, whole_after, whole_events, front_after, count_of}
-use Rattle.ts_report.specs.Entries.{AreFrames, EntryState, Framed, IsEntry, arriving_at, beginning_in, counted_at, entry_after, entry_entered, events_entered, framed_after, held_after, held_in, is_unread, parts_delayed, payload_at, seen_held, seen_tally, tally_in, unit_stay, video_tally_after, counter_after}
+use Rattle.ts_report.specs.EntryFrames.{AreCounted, Counted, FramedPayload, frames_among, payload_after, payload_events, place_of, walk_in, whole_after, whole_events, front_after, count_of}
+use Rattle.ts_report.specs.Entries.{AreFrames, EntryState, Framed, IsEntry, arriving_at, beginning_in, counted_at, entry_after, entry_entered, events_entered, framed_after, held_after, held_in, is_unread, parts_delayed, payload_at, payload_of, seen_held, seen_tally, tally_in, unit_stay, video_tally_after, counter_after}
 use Rattle.ts_report.specs.StreamTables.{new_framed}
 use Rattle.ts_report.specs.MarkTallies.{with_beginning}
 use Rattle.ts_report.specs.declared.mark_tally.MarkTally.{MarkTally}

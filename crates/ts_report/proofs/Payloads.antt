@@ -1,5 +1,5 @@
 -- A payload whose frames enter the buffers of a stream.
-use Rattle.std.proofs.Common.{◌≡◌, ◌∙◌, ℕ, Bool, List, ◌++◌, refl, ap, subst, append_assoc}
+use Rattle.std.proofs.Common.{◌≡◌, ◌∙◌, ℕ, Bool, List, ◌++◌, Option, refl, sym, ap, subst, append_assoc}
 use Rattle.std.specs.Prelude.{min}
 use Rattle.stream_coding.specs.declared.frame_walk.FramePart.{FramePart}
 use Rattle.stream_coding.specs.FrameWalks.{WalkView}

@@ -1,10 +1,11 @@
 -- The two buffers of video of a stream, if they are viewed.
-use Rattle.std.proofs.Common.{◌≡◌, ℕ, List, Option, Some, None, refl, ap, subst}
+use Rattle.std.proofs.Common.{◌≡◌, ◌∙◌, sym, ℕ, List, [], Option, Some, None, refl, ap, ap₂, subst}
 use Rattle.tstd_rows.specs.declared.excess.Excess.{Excess}
 use Rattle.tstd_rows.specs.declared.unit_seen.UnitSeen.{UnitSeen}
 use Rattle.tstd_rows.specs.History.{Part}
 use Rattle.tstd_rows.specs.Held.{Held}
-use Rattle.tstd_rows.specs.HeldVideo.{HoldsVideo, IsVideoHeld, VideoSizes}
+use Rattle.tstd_rows.specs.HeldVideo.{HoldsVideo, HoldsVideoOf, IsVideoHeld, VideoSizes}
+use Rattle.tstd_rows.specs.declared.stream_buffers.StreamBuffers.{StreamBuffers}
 use Rattle.tstd_rows.specs.declared.video_buffers.VideoBuffers.{VideoBuffers}
 use Rattle.tstd_rows.specs.declared.busy_watch.Stay.{Stay}
 use Rattle.tstd_rows.specs.Busy.{busy_under_way, leak_busy}

@@ -2,7 +2,7 @@
 -- what its buffers hold by PES packets, and what is counted of it; of video the sizes of its two buffers, if they are viewed, and what is
 -- counted of them; of sound what its buffers hold by access units, if these are viewed; how long a byte may stay in them, and how many units
 -- had bytes that stayed longer; and what is counted of the marks of its units.
-use Rattle.std.specs.Prelude.{◌≡◌, ℕ, ◌/◌, ◌==◌, ◌&&◌, not, is_some, nat_le, nat_lt, unwrap_or, Bool, true, false, if◌then◌else◌, length, List, [], ◌++◌, Option, Some, None}
+use Rattle.std.specs.Prelude.{◌≡◌, ℕ, ◌+◌, ◌-◌, ◌/◌, ◌^◌, ◌==◌, ◌&&◌, min, not, is_some, nat_le, nat_lt, unwrap_or, Bool, true, false, if◌then◌else◌, length, List, [], ◌++◌, Option, Some, None}
 use Rattle.ts_packet.specs.Views.{PacketView}
 use Rattle.arrival.specs.Arrivals.{step_of}
 use Rattle.arrival.specs.Clock.{pcr_period}
@@ -22,7 +22,7 @@ use Rattle.ts_report.specs.declared.clocks.Beginning.TheVariants.{Nothing, Unrea
 use Rattle.ts_report.specs.declared.stream_entry.StreamEntry.{StreamEntry}
 use Rattle.ts_report.specs.declared.tally.Tally.{Tally}
 use Rattle.ts_report.specs.Clocks.{ahead_of, beginning_of, due_at, longest_stay}
-use Rattle.ts_report.specs.EntryEvents.{ahead_events, closing_events}
+use Rattle.ts_report.specs.EntryEvents.{ahead_events, closing_events, ended_events}
 use Rattle.ts_report.specs.HeldEvents.{tally_events}
 use Rattle.ts_report.specs.MarkTallies.{mark_events, with_beginning}
 use Rattle.ts_report.specs.declared.mark_tally.MarkTally.{MarkTally}
@@ -36,8 +36,8 @@ use Rattle.events.specs.declared.rule_event.BufferKind.TheVariants.{Elementary, 
 use Rattle.tstd_rows.specs.declared.busy_watch.Stay.{Stay}
 use Rattle.ts_report.specs.declared.entry_events.Place.{Place}
 use Rattle.ts_report.specs.declared.video_tally.VideoTally.{VideoTally}
-use Rattle.ts_report.specs.VideoEvents.{video_closing_events}
-use Rattle.ts_report.specs.VideoFigures.{figures_of, is_video_good}
+use Rattle.ts_report.specs.VideoEvents.{video_closing_events, video_ended_events}
+use Rattle.ts_report.specs.VideoFigures.{figures_of, is_video_good, limits_of}
 use Rattle.ts_report.specs.VideoTallies.{with_video}
 
 -- a stream of sound by access units: where the walk over its frames is, when its unit is due, what its buffers hold, and what is counted

@@ -1,7 +1,7 @@
 -- A stream of sound whose main buffer is viewed by access units: each of its frames leaves the main buffer at its own decoding time, the first
 -- frame of a unit at the unit's stamp and together with the header of its PES packet, each further one when the frame before it has sounded
 -- (ISO/IEC 13818-1, 2.4.2.3 and 2.7.5). Bytes that are no frames leave with the frame before them.
-use Rattle.std.specs.Prelude.{◌≡◌, ℕ, ◌+◌, ◌-◌, ◌*◌, ◌^◌, min, is_some, unwrap_or, Bool, true, false, if◌then◌else◌, length, drop, slice_get, List, [], ◌∷◌, ◌++◌, Option, Some, None}
+use Rattle.std.specs.Prelude.{◌≡◌, ℕ, ◌+◌, ◌-◌, ◌*◌, ◌^◌, min, nat_eq, is_some, unwrap_or, Bool, true, false, if◌then◌else◌, length, drop, slice_get, List, [], ◌∷◌, ◌++◌, Option, Some, None}
 use Rattle.ts_packet.specs.Views.{PacketView}
 use Rattle.arrival.specs.Arrivals.{step_of}
 use Rattle.arrival.specs.declared.clock.PcrSample.{PcrSample}

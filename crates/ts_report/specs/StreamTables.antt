@@ -1,5 +1,5 @@
 -- The streams whose buffers have begun.
-use Rattle.std.specs.Prelude.{◌≡◌, ℕ, ◌*◌, ◌&&◌, not, nat_eq, is_some, unwrap_or, Bool, if◌then◌else◌, List, [], ◌∷◌, ◌++◌, length, set, slice_get, flat_map, Option, Some, None}
+use Rattle.std.specs.Prelude.{◌≡◌, ℕ, ◌+◌, ◌*◌, ◌&&◌, not, nat_eq, is_some, unwrap_or, Bool, if◌then◌else◌, List, [], ◌∷◌, ◌++◌, drop, length, set, slice_get, flat_map, Option, Some, None}
 use Rattle.std.specs.List.{list_all}
 use Rattle.std.specs.Map.{lookup}
 use Rattle.indexmap.specs.IndexMap.{insert_entry}

@@ -8,7 +8,7 @@ use Rattle.tstd_rows.specs.HeldVideo.{HoldsVideoOf}
 use Rattle.tstd_rows.specs.declared.arriving.Arriving.{Arriving}
 use Rattle.events.specs.declared.event.Event.{Event}
 use Rattle.ts_report.specs.declared.video_tally.VideoTally.{VideoTally}
-use Rattle.ts_report.specs.EntryFrames.{AreCounted, Counted, FramedPayload, payload_view, walk_in, whole_after, whole_events}
+use Rattle.ts_report.specs.EntryFrames.{AreCounted, Counted, FramedPayload, payload_after, payload_view, walk_in, whole_after, whole_events}
 use Rattle.ts_report.specs.Entries.{arriving, arriving_at, beginning_in, is_unread, payload_at, payload_of}
 use Rattle.ts_report.specs.VideoTallies.{with_video}
 use Rattle.ts_report.proofs.Framings.{counted_of, framed_counted, framed_entered, framed_found, framed_video, has_frames, no_frames, whole_counted, whole_entered, whole_found, whole_video}
