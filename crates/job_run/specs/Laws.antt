@@ -4,7 +4,6 @@ use Rattle.demux.specs.Views.{FindingView}
 use Rattle.stream_jobs.specs.JobInput.{JobInputView}
 use Rattle.job_run.specs.Outcomes.{is_told_less}
 use Rattle.job_run.specs.Streams.{PacketNotesView}
-use Rattle.job_run.specs.declared.job_arguments.Reporting.{Reporting}
 
 -- whether something is lost, whichever lines are reported
 abbrev pub StatusStays : Type 0

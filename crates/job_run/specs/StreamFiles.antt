@@ -1,5 +1,5 @@
 -- Transport streams in files by their names, for one job.
-use Rattle.std.specs.Prelude.{◌≡◌, ◌⊎◌, ℕ, ◌+◌, ◌||◌, true, Bool, List, [], ◌∷◌, ◌++◌, codes, length, map, is_ok, slice_get, take, Option, Some, Result, Ok, Err}
+use Rattle.std.specs.Prelude.{◌≡◌, ◌⊎◌, ℕ, ◌+◌, ◌||◌, true, Bool, List, [], ◌∷◌, ◌++◌, codes, length, map, is_ok, slice_get, take, Some, Result, Ok, Err}
 use Rattle.std.specs.List.{AllZip, list_any}
 use Rattle.demux.specs.Views.{FindingView}
 use Rattle.devices.specs.Devices.{Device, IsUntouched}

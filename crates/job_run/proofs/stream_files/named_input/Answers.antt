@@ -1,6 +1,4 @@
-use Rattle.std.proofs.Common.{subst, sym, ap}
-use Rattle.std.specs.Prelude.{is_some}
-use Rattle.devices.specs.Files.{IsAsKnown, files_of}
+use Rattle.devices.specs.Files.{files_of}
 use Rattle.job_run.proofs.StreamFiles.{named_answer}
 use Rattle.job_run.proofs.stream_files.named_input.Goals as goal
 
