@@ -10,6 +10,7 @@ use Rattle.ts_packet.specs.PidList.{Entry, payload_of, pid_list}
 use Rattle.pes_packet.specs.AccessUnits.{AccessUnit}
 use Rattle.pes_packet.specs.Encoding.{on_wire, pes_packet_bytes}
 use Rattle.pes_packet.specs.Laws.{written_header}
+use Rattle.pes_packet.specs.Marks.{extension_size}
 use Rattle.pes_packet.specs.declared.marks.Marks.{Marks}
 use Rattle.pes_packet.specs.Reading.{header_at}
 use Rattle.pes_packet.specs.StreamIds.{fits_packet}
@@ -60,13 +61,13 @@ header_read id base0 n u fits whole =
     let text = unit_is_pes id base0 u fits in
     rw (text.header n whole) (reads_dts id (length u.bytes) u.marks (u.pts + base0) (u.dts + base0))
 
-some_by : (long same : Bool) → 1 ≤ cond long 45 (cond same 14 19)
-some_by true same = omega arith
-some_by false true = omega arith
-some_by false false = omega arith
+some_by : (long same : Bool) (extension : ℕ) → 1 ≤ cond long 45 (cond same 14 19 + extension)
+some_by true same extension = omega arith
+some_by false true extension = omega arith
+some_by false false extension = omega arith
 
 pub some_header : (base0 : ℕ) (u : AccessUnit) → 1 ≤ unit_header_size base0 u
-some_header base0 u = some_by u.marks.long (on_wire (u.pts + base0) == on_wire (u.dts + base0))
+some_header base0 u = some_by u.marks.long (on_wire (u.pts + base0) == on_wire (u.dts + base0)) (extension_size u.marks)
 
 -- those of one unit
 one_cut : (id base0 : ℕ) (u : AccessUnit) (before : Option AccessUnit) (bs : List (List ℕ)) (ps : List BegunPayload) (us : List AccessUnit) → IsTrue (fits_packet id (length u.bytes)) →
