@@ -4,6 +4,7 @@ use Rattle.std.proofs.lemmas.List.{length-take, length-drop, length-append}
 use Rattle.std.proofs.lemmas.List.Elements.{All-nil, All-cons, All-head, All-tail}
 use Rattle.pes_packet.specs.AccessUnits.{AccessUnit}
 use Rattle.pes_packet.specs.Encoding.{on_wire, pes_header_bytes, pes_packet_bytes}
+use Rattle.pes_packet.specs.Marks.{extension_size}
 use Rattle.pes_packet.proofs.Written.{header_sizes}
 use Rattle.clock27.specs.Arrival.{arrivals}
 use Rattle.clock27.specs.Departure.{departures}
@@ -52,10 +53,10 @@ cut_bytes front size [] = omega arith
 cut_bytes front size (s ∷ slots) = omega (arith, cut_bytes (front - 184) (size - (184 - front)) slots)
 
 -- a PES packet has a header
-header_some : (long same : Bool) → 1 ≤ (if long then 45 else (if same then 14 else 19))
-header_some true same = omega arith
-header_some false true = omega arith
-header_some false false = omega arith
+header_some : (long same : Bool) (more : ℕ) → 1 ≤ (if long then 45 else ((if same then 14 else 19) + more))
+header_some true same more = omega arith
+header_some false true more = omega arith
+header_some false false more = omega arith
 
 some_size : (l : OwnedStream) (u : AccessUnit) → 1 ≤ (timed l u).size
 unfolding pes_packet_bytes
@@ -66,7 +67,7 @@ some_size l u =
       arith,
       length-append head u.bytes,
       header_sizes l.parameters.stream_id (length u.bytes) u.marks (u.pts + base0) (u.dts + base0),
-      header_some u.marks.long (on_wire (u.pts + base0) == on_wire (u.dts + base0)),
+      header_some u.marks.long (on_wire (u.pts + base0) == on_wire (u.dts + base0)) (extension_size u.marks),
     )
 
 -- 2. What has left is no more than what came
