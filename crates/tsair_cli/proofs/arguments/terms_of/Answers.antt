@@ -1,7 +1,7 @@
 use Rattle.std.proofs.Common.{◌≤◌, arith}
 use Rattle.word_faults.specs.GivenOptions.{greatest_by}
 use Rattle.word_faults.specs.OptionRows.{kind_named}
-use Rattle.tsair_cli.proofs.arguments.options_of.Goals as goal
+use Rattle.tsair_cli.proofs.arguments.terms_of.Goals as goal
 
 pub overflow_cast-wait : goal.overflow_cast-wait
 unfolding kind_named greatest_by
