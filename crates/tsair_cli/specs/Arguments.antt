@@ -14,18 +14,16 @@ air_terms wait ahead slots room = record { wait = wait; ahead = ahead; slots = s
 abbrev pub air_options : Bool → Bool → Bool → Terms → Option ℕ → AirOptions
 air_options hex stop unframe terms periods = record { terms = terms; periods = periods; hex = hex; stop = stop; unframe = unframe }
 
+-- none where one of them is none
+abbrev pub terms_by : Option ℕ → Option ℕ → Option (Option ℕ) → Option (Option ℕ) → Option Terms
+terms_by wait ahead slots room =
+    option_and_then (λ w. option_and_then (λ a. option_and_then (λ s. option_and_then (λ r. Some (air_terms w a s r)) room) slots) ahead) wait
+
 -- times in units of 90 kHz: without words, a unit may come 2 s after a greater DTS, and a record may lie 10 s ahead
 unfoldable pub terms_of : List Row → Option Terms
 terms_of rows =
-    option_and_then (λ wait.
-    option_and_then (λ ahead.
-    option_and_then (λ slots.
-    option_and_then (λ room.
-    Some (air_terms wait ahead slots room))
-    (number_if options (codes "room") rows))
-    (number_if options (codes "slots") rows))
-    (number_of options (codes "ahead") rows))
-    (number_of options (codes "wait") rows)
+    terms_by (number_of options (codes "wait") rows) (number_of options (codes "ahead") rows) (number_if options (codes "slots") rows)
+    (number_if options (codes "room") rows)
 
 unfoldable pub options_of : List Row → Option AirOptions
 options_of rows =
