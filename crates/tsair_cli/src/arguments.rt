@@ -26,23 +26,32 @@ pub struct AirOptions {
     pub unframe: bool,
 }
 
-// The values of the options; none where one is out of its range.
-#[tactic(auto, unfolding(crate::specs::Arguments::options_of))]
-fn options_of(matches: &ArgMatches<'_>) -> Option<AirOptions>
-    ensures { result ≡ spec.options_of (rows_of (found_of matches.now)) }
+// The terms of the run; none if a number is out of its range.
+#[tactic(auto, unfolding(crate::specs::Arguments::terms_of))]
+fn terms_of(matches: &ArgMatches<'_>) -> Option<Terms>
+    ensures { result ≡ spec.terms_of (rows_of (found_of matches.now)) }
 {
     let wait = number_of(&OPTIONS, matches, "wait")? as u32;
     let ahead = number_of(&OPTIONS, matches, "ahead")?;
     let slots = number_if(&OPTIONS, matches, "slots")?;
     let room = number_if(&OPTIONS, matches, "room")?;
+    Some(Terms {
+        wait,
+        ahead,
+        slots,
+        room,
+    })
+}
+
+// The values of the options; none if one is out of its range.
+#[tactic(auto, unfolding(crate::specs::Arguments::options_of))]
+fn options_of(matches: &ArgMatches<'_>) -> Option<AirOptions>
+    ensures { result ≡ spec.options_of (rows_of (found_of matches.now)) }
+{
+    let terms = terms_of(matches)?;
     let periods = number_if(&OPTIONS, matches, "switch")?;
     Some(AirOptions {
-        terms: Terms {
-            wait,
-            ahead,
-            slots,
-            room,
-        },
+        terms,
         periods,
         hex: is_given(text_of(matches, "hex")),
         stop: is_given(text_of(matches, "stop")),

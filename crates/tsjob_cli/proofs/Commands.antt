@@ -1,12 +1,16 @@
 -- The program for words as people type them.
 use Rattle.std.proofs.Common.{◌≡◌, ◌∙◌, ℕ, Bool, true, false, List, Option, Some, None, inl, inr, refl, sym, ap, subst}
+use Rattle.std.specs.Prelude.{◌⊎◌, codes}
 use Rattle.word_faults.specs.CommandLine.{Text}
+use Rattle.word_faults.specs.SortedWords.{are_taken}
+use Rattle.word_faults.specs.UsageReport.{AnswersWords}
 use Rattle.devices.specs.Devices.{Device, IsUntouched, Port, between}
 use Rattle.devices.specs.Files.{Files}
-use Rattle.tsjob_cli.specs.Command.{Answers, Outputs, PerformsWords, Saves, ToFile, WritesTo, explains_files, output_file, words_but_output}
+use Rattle.tsjob_cli.specs.Command.{Answers, Commands, LacksWords, Outputs, PerformsWords, Saves, ToFile, WritesTo, explains_files, known_words, output_file, words_but_output}
 use Rattle.tsjob_cli.specs.Explaining.{ExplainsFiles}
 use Rattle.tsjob_cli.specs.FileWords.{file_words}
 use Rattle.tsjob_cli.specs.MadeJobs.{MakesJob}
+use Rattle.tsjob_cli.specs.Options.{usage_text}
 
 both : (b : Bool) → b ≡ true → b ≡ false → ⊥
 both b is unlike = let clash : true ≡ false = sym is ∙ unlike in absurd cc
@@ -29,3 +33,11 @@ explained outputs words files input output faults status is unread e = record { 
 pub not_explained : (outputs : Outputs) (words : List Text) (files : Files) (input output faults : Device) (status : ℕ) → explains_files words ≡ false →
     PerformsWords outputs words files input output faults status → Answers outputs words files input output faults status
 not_explained outputs words files input output faults status isnt p = record { explains = λ yes. absurd (both (explains_files words) yes isnt); performs = λ no. p }
+
+-- words are sorted
+pub commanded : (outputs : Outputs) (shown sorted : List Text) (files : Files) (input output faults : Device) (status : ℕ) → shown ≡ sorted →
+    (are_taken (known_words shown) shown ≡ true → Answers outputs shown files input output faults status ⊎ LacksWords input output faults status) →
+    (are_taken (known_words shown) shown ≡ false → AnswersWords (codes "tsjob") (known_words shown) shown usage_text input output faults status) →
+    Commands outputs sorted files input output faults status
+commanded outputs shown sorted files input output faults status same taken other =
+    subst (λ (words : List Text). Commands outputs words files input output faults status) same (record { taken = taken; other = λ no. inl (other no) })

@@ -30,10 +30,16 @@ leads bytes lines o status explained status_is is =
 
 -- of files
 
-pub files_explained : (files : Files) (names : List Text) (bytes : List ℕ) (o : Outcome) (output : Device) (before later after : Port) (status : ℕ) → HaveBytes files names bytes → later ≡ before →
-    ExplainLeads bytes o → IsWritten o output (between later after) status → ExplainsFiles files names output (between before after) status
-files_explained files names bytes o output before later after status have same l w =
-    inl (record { bytes = bytes; have = have; outcome = o; leads = l; written = subst (λ (p : Port). IsWritten o output (between p after) status) same w })
+pub files_explained : (files : Files) (names : List Text) (bytes shown : List ℕ) (o : Outcome) (output : Device) (before later after : Port) (status : ℕ) → HaveBytes files names bytes → shown ≡ bytes →
+    later ≡ before → ExplainLeads shown o → IsWritten o output (between later after) status → ExplainsFiles files names output (between before after) status
+files_explained files names bytes shown o output before later after status have are same l w =
+    inl (record {
+      bytes = bytes;
+      have = have;
+      outcome = o;
+      leads = subst (λ (xs : List ℕ). ExplainLeads xs o) are l;
+      written = subst (λ (p : Port). IsWritten o output (between p after) status) same w;
+    })
 
 pub files_unread : (files : Files) (names : List Text) (output faults : Device) (status : ℕ) → IsUntouched output → StopsAtOne files names faults status → ExplainsFiles files names output faults status
 files_unread files names output faults status unwritten why = inr (record { unwritten = unwritten; why = inl why; status_is = why.status_is })

@@ -1,4 +1,6 @@
 use Rattle.std.proofs.Common.{refl}
+use Rattle.devices.specs.Devices.{Port}
+use Rattle.record_frames.proofs.Unframing.{no_piece}
 use Rattle.word_faults.proofs.UsageReports.{of_memory, of_words}
 use Rattle.tsair_cli.proofs.program.run.Goals as goal
 
@@ -8,3 +10,11 @@ returns-in-Ok-None-clause-other g c = λ none. of_words _ _ _ _ _ _ _ _ _ _ c.kn
 pub returns-in-Err-clause-other : goal.returns-in-Err-clause-other
 returns-in-Err-clause-other g c = λ none.
     of_memory _ _ _ _ _ _ _ _ (record { clean = refl; unwritten = refl; reports = c.report_halt.ensures.reports; status_is = c.report_halt.ensures.status })
+
+pub returns-in-Err-clause-unframes : goal.returns-in-Err-clause-unframes
+returns-in-Err-clause-unframes g c = λ o given framed.
+    let input : Port = record { bytes = g.R.Read.remaining c.args.input.now; failed = g.R.Source.fault_count c.args.input.now } in
+    let output : Port = record { bytes = g.W.Write.contents c.args.output.now; failed = g.W.Sink.fault_count c.args.output.now } in
+    let faults : Port = record { bytes = g.E.Write.contents c.args.faults.now; failed = g.E.Sink.fault_count c.args.faults.now } in
+    let after : Port = record { bytes = g.E.Write.contents c.report_halt.new.faults; failed = g.E.Sink.fault_count c.report_halt.new.faults } in
+    no_piece input output faults after c.report_halt.result c.report_halt.ensures.reports c.report_halt.ensures.status
