@@ -7,7 +7,8 @@ use Rattle.tstd_rows.specs.VideoViewed.{elementary_peak, leaked, multiplexing_bu
 use Rattle.tstd_rows.specs.declared.unit_seen.DueTime.{DueTime}
 use Rattle.tstd_rows.specs.declared.unit_seen.UnitSeen.{UnitSeen}
 use Rattle.tstd_rows.proofs.VideoParts.{leaked_parts}
-use Rattle.tstd_rows.specs.HeldVideo.{HoldsVideo, IsVideoHeld, VideoSizes, video_entered, video_found, video_unit, video_view}
+use Rattle.tstd_rows.specs.HeldVideo.{HoldsVideo, IsVideoHeld, VideoSizes, video_entered, video_found, video_unit, video_unit_in, video_view}
+use Rattle.tstd_rows.specs.declared.late_causes.VideoUnit.{VideoUnit}
 use Rattle.tstd_rows.specs.declared.video_buffers.VideoBuffers.{VideoBuffers}
 use Rattle.tstd_rows.specs.declared.video_buffers.VideoEntered.{VideoEntered}
 
@@ -45,14 +46,14 @@ pub some_begun : {V E : Type 0} (result : Result V E) (video : Option VideoBuffe
 some_begun (Ok value) video v v' sizes rate parts due is k f = some_taken video v v' sizes rate parts (Begins due ∷ parts) is k f
 some_begun (Err e) video v v' sizes rate parts due is k f = tt
 
-pub some_unit : (video : Option VideoBuffers) (v : VideoBuffers) (sizes : Option VideoSizes) (rate : ℕ) (parts : List Part) (unit : Option UnitSeen) → video ≡ Some v → HoldsVideo video sizes rate parts →
-    ((s : VideoSizes) → IsVideoHeld v s rate parts → unit ≡ unit_of s.leak (leaked rate parts)) → unit ≡ video_unit sizes rate parts
+pub some_unit : (video : Option VideoBuffers) (v : VideoBuffers) (sizes : Option VideoSizes) (rate : ℕ) (parts : List Part) (unit : Option VideoUnit) → video ≡ Some v → HoldsVideo video sizes rate parts →
+    ((s : VideoSizes) → IsVideoHeld v s rate parts → unit ≡ video_unit_in s rate parts) → unit ≡ video_unit sizes rate parts
 unfolding video_unit
 some_unit None v sizes rate parts unit is k f = absurd cc
 some_unit (Some w) v None rate parts unit is k f = absurd k
 some_unit (Some w) v (Some s) rate parts unit is k f = let same : w ≡ v = cc in f s (subst (λ (x : VideoBuffers). IsVideoHeld x s rate parts) same k)
 
-pub none_unit : (video : Option VideoBuffers) (sizes : Option VideoSizes) (rate : ℕ) (parts : List Part) (unit : Option UnitSeen) → video ≡ None → HoldsVideo video sizes rate parts → unit ≡ None →
+pub none_unit : (video : Option VideoBuffers) (sizes : Option VideoSizes) (rate : ℕ) (parts : List Part) (unit : Option VideoUnit) → video ≡ None → HoldsVideo video sizes rate parts → unit ≡ None →
     unit ≡ video_unit sizes rate parts
 unfolding video_unit
 none_unit None None rate parts unit is k none = none

@@ -1,5 +1,5 @@
 -- Bytes of video that enter its two buffers.
-use Rattle.std.proofs.Common.{◌≡◌, ◌∙◌, Global, ℕ, ◌+◌, ◌*◌, ◌^◌, ◌≤◌, List, [], ◌∷◌, ◌++◌, Option, Some, None, Result, Ok, Err, IfOk, OnOk, refl, subst, ap, ap₂, arith}
+use Rattle.std.proofs.Common.{◌≡◌, ◌∙◌, Global, ℕ, ◌+◌, ◌*◌, ◌-◌, ◌^◌, ◌≤◌, max, List, [], ◌∷◌, ◌++◌, Option, Some, None, Result, Ok, Err, IfOk, OnOk, refl, subst, ap, ap₂, arith}
 use Rattle.std.specs.Option.{option_to_list}
 use Rattle.std.proofs.Math.Nat.{mul-le-mul, mul-le-mul_right}
 use Rattle.clock27.specs.Departure.{departures, last_left}
@@ -14,11 +14,14 @@ use Rattle.tstd_rows.specs.declared.transport_buffer.TransportBuffer.{TransportB
 use Rattle.tstd_rows.specs.History.{Part, arrivals_of, last_of, left_after, main_fullness, unit_of}
 use Rattle.tstd_rows.specs.History.Part.{Passes, Carries, Begins}
 use Rattle.tstd_rows.specs.MainExcess.{after_row, ended_by}
-use Rattle.tstd_rows.specs.VideoViewed.{elementary_held, last_leaked, leaked, multiplexing_under_way}
+use Rattle.tstd_rows.specs.VideoViewed.{elementary_held, last_leaked, last_transferred, leaked, multiplexing_under_way}
 use Rattle.tstd_rows.specs.Viewed.{IsViewOf}
 use Rattle.tstd_rows.specs.Busy.{busy_under_way, busy_with, leak_busy, never_busy}
 use Rattle.tstd_rows.specs.declared.busy_watch.BusyWatch.{BusyWatch}
 use Rattle.tstd_rows.specs.declared.viewed_buffers.StreamView.{StreamView}
+use Rattle.tstd_rows.specs.declared.eb_rooms.EbRooms.{EbRooms}
+use Rattle.tstd_rows.specs.Rooms.{AreRooms, capped}
+use Rattle.tstd_rows.proofs.Rooms.{rooms_passed}
 use Rattle.tstd_rows.specs.declared.main_watch.MainWatch.{MainWatch}
 use Rattle.tstd_rows.specs.declared.unit_seen.DueTime.{DueTime}
 use Rattle.tstd_rows.specs.declared.unit_seen.UnitSeen.{UnitSeen}
@@ -85,9 +88,9 @@ pub video_held : (old new : VideoBuffers) (sizes : VideoSizes) (rate : ℕ) (par
     IsViewOf new.view (Carries ls ∷ leaked rate parts) → new.view.transport.step ≡ old.view.transport.step → new.view.watch.size ≡ old.view.watch.size →
     most ≡ greatest_at (main_fullness old.view.transport.step (Carries ls ∷ leaked rate parts)) (left_after old.view.transport.step (leaked rate parts) ls) →
     last ≡ new.view.transport.last → new.elementary.size ≡ old.elementary.size → new.elementary.under_way ≡ after_row old.elementary.size old.elementary.under_way most last →
-    new.busy ≡ busy_with old.busy old.view.transport.last ls → IsVideoHeld new sizes rate (Carries times ∷ parts)
+    new.busy ≡ busy_with old.busy old.view.transport.last ls → AreRooms new.rooms rate sizes.leak sizes.elementary (Carries times ∷ parts) → IsVideoHeld new sizes rate (Carries times ∷ parts)
 unfolding leak_busy
-video_held old new sizes rate parts ls times most last k is view step size found last_is main_size main busy =
+video_held old new sizes rate parts ls times most last k is view step size found last_is main_size main busy rooms =
     let viewed = leaked_view new.view rate parts ls times is view in
     let leak : new.view.transport.step ≡ sizes.leak = step ∙ k.leak in
     let most_is : most ≡ elementary_found rate sizes.leak parts times = elementary_is old sizes rate parts ls times most k is found in
@@ -104,6 +107,7 @@ video_held old new sizes rate parts ls times most last k is view step size found
           ∙ grown rate sizes.leak sizes.elementary parts times;
       busy = busy ∙ ap₂ (λ (w : BusyWatch) (l : ℕ). busy_with w l ls) k.busy (leaked_last old.view sizes.leak rate parts k.leak k.view)
           ∙ ap (λ (ts : List ℕ). busy_with (leak_busy rate sizes.leak sizes.second parts) (last_leaked rate sizes.leak parts) ts) is;
+      rooms = rooms;
     }
 
 same_video : (e : VideoEntered) (multiplexing : List Excess) (elementary : Option Excess) (most elementary_most : ℕ) → option_to_list e.waiting ++ option_to_list e.free ≡ multiplexing →
@@ -141,9 +145,9 @@ video_found old new sizes rate parts ls times most last e k is view step found l
 -- a unit begins
 video_begun : (old new : VideoBuffers) (sizes : VideoSizes) (rate : ℕ) (parts : List Part) (due : DueTime) → IsVideoHeld old sizes rate parts → IsViewOf new.view (leaked rate (Begins due ∷ parts)) →
     new.view.transport ≡ old.view.transport → new.view.watch ≡ old.view.watch → new.elementary ≡ old.elementary → new.busy ≡ old.busy →
-    IsVideoHeld new sizes rate (Begins due ∷ parts)
+    AreRooms new.rooms rate sizes.leak sizes.elementary (Begins due ∷ parts) → IsVideoHeld new sizes rate (Begins due ∷ parts)
 unfolding elementary_under_way leak_busy
-video_begun old new sizes rate parts due k view transport watch elementary busy =
+video_begun old new sizes rate parts due k view transport watch elementary busy rooms =
     record {
       leak = ap (λ (t : TransportBuffer). t.step) transport ∙ k.leak;
       size = ap (λ (w : ExcessWatch). w.size) watch ∙ k.size;
@@ -151,19 +155,24 @@ video_begun old new sizes rate parts due k view transport watch elementary busy 
       main_size = ap (λ (m : MainWatch). m.size) elementary ∙ k.main_size;
       under_way = ap (λ (m : MainWatch). m.under_way) elementary ∙ k.under_way;
       busy = busy ∙ k.busy;
+      rooms = rooms;
     }
 
-pub begun_in : {V E : Type 0} (result : Result V E) (old : VideoBuffers) (view : StreamView Global) (sizes : VideoSizes) (rate : ℕ) (parts : List Part) (due : DueTime) → IsVideoHeld old sizes rate parts →
-    OnOk result ((parts : List Part) → IsViewOf old.view parts → IsViewOf view (Begins due ∷ parts)) → view.transport ≡ old.view.transport → view.watch ≡ old.view.watch →
-    OnOk result (IsVideoHeld (record { view = view; elementary = old.elementary; busy = old.busy }) sizes rate (Begins due ∷ parts))
-begun_in (Ok value) old view sizes rate parts due k views transport watch =
-    video_begun old (record { view = view; elementary = old.elementary; busy = old.busy }) sizes rate parts due k (begun_view view rate parts due (views (leaked rate parts) k.view)) transport watch refl refl
-begun_in (Err e) old view sizes rate parts due k views transport watch = tt
+pub begun_in : {V E : Type 0} (result : Result V E) (old : VideoBuffers) (view : StreamView Global) (rooms : EbRooms) (sizes : VideoSizes) (rate : ℕ) (parts : List Part) (due : DueTime) →
+    IsVideoHeld old sizes rate parts → OnOk result ((parts : List Part) → IsViewOf old.view parts → IsViewOf view (Begins due ∷ parts)) → view.transport ≡ old.view.transport →
+    view.watch ≡ old.view.watch → AreRooms rooms rate sizes.leak sizes.elementary (Begins due ∷ parts) →
+    OnOk result (IsVideoHeld (record { view = view; elementary = old.elementary; busy = old.busy; rooms = rooms }) sizes rate (Begins due ∷ parts))
+begun_in (Ok value) old view rooms sizes rate parts due k views transport watch kept =
+    video_begun old (record { view = view; elementary = old.elementary; busy = old.busy; rooms = rooms }) sizes rate parts due k (begun_view view rate parts due (views (leaked rate parts) k.view)) transport watch refl refl
+    kept
+begun_in (Err e) old view rooms sizes rate parts due k views transport watch kept = tt
 
-pub unit_in : {E : Type 0} (result : Result (Option UnitSeen) E) (old : VideoBuffers) (sizes : VideoSizes) (rate : ℕ) (parts : List Part) → IsVideoHeld old sizes rate parts →
-    IfOk result (λ unit. unit ≡ old.view.unit) → IfOk result (λ unit. unit ≡ unit_of sizes.leak (leaked rate parts))
-unit_in (Ok unit) old sizes rate parts k is = is ∙ k.view.unit ∙ ap (λ (s : ℕ). unit_of s (leaked rate parts)) k.leak
-unit_in (Err e) old sizes rate parts k is = tt
+-- when the last byte so far goes to EB
+pub entry_in : (v : VideoBuffers) (sizes : VideoSizes) (rate : ℕ) (parts : List Part) → IsVideoHeld v sizes rate parts → max v.view.transport.last v.rooms.last ≤ 2 ^ 128 - 1 →
+    max v.view.transport.last v.rooms.last ≡ capped (last_transferred rate sizes.leak sizes.elementary parts)
+entry_in v sizes rate parts k fits =
+    let last = ap (λ (l : ℕ). max l v.rooms.last) (leaked_last v.view sizes.leak rate parts k.leak k.view) in
+    omega (arith, fits, last, k.rooms.last)
 
 -- bytes that go no further than the transport buffer
 pub video_passed : (video : Option VideoBuffers) (sizes : Option VideoSizes) (rate : ℕ) (parts : List Part) (times : List ℕ) → HoldsVideo video sizes rate parts → HoldsVideo video sizes rate (Passes times ∷ parts)
@@ -171,13 +180,14 @@ unfolding elementary_under_way leaked leak_busy
 video_passed None None rate parts times k = tt
 video_passed None (Some s) rate parts times k = absurd k
 video_passed (Some v) None rate parts times k = absurd k
-video_passed (Some v) (Some s) rate parts times k = record { leak = k.leak; size = k.size; view = k.view; main_size = k.main_size; under_way = k.under_way; busy = k.busy }
+video_passed (Some v) (Some s) rate parts times k = record { leak = k.leak; size = k.size; view = k.view; main_size = k.main_size; under_way = k.under_way; busy = k.busy; rooms = rooms_passed v.rooms rate s.leak s.elementary parts times k.rooms }
 
 -- nothing has come
 pub video_empty : (video : VideoBuffers) (sizes : VideoSizes) (rate : ℕ) → video.view.transport.step ≡ sizes.leak → video.view.watch.size ≡ sizes.multiplexing → IsViewOf video.view [] →
-    video.elementary ≡ record { size = sizes.elementary; under_way = None } → video.busy ≡ never_busy sizes.second → IsVideoHeld video sizes rate []
+    video.elementary ≡ record { size = sizes.elementary; under_way = None } → video.busy ≡ never_busy sizes.second →
+    AreRooms video.rooms rate sizes.leak sizes.elementary [] → IsVideoHeld video sizes rate []
 unfolding elementary_under_way leak_busy
-video_empty video sizes rate leak size view main busy =
+video_empty video sizes rate leak size view main busy rooms =
     record {
       leak = leak;
       size = size;
@@ -185,6 +195,7 @@ video_empty video sizes rate leak size view main busy =
       main_size = ap (λ (m : MainWatch). m.size) main;
       under_way = ap (λ (m : MainWatch). m.under_way) main;
       busy = busy;
+      rooms = rooms;
     }
 
 -- how long MB is not empty

@@ -22,5 +22,6 @@ pub mod Busy
 pub mod Held
 pub mod Entering
 pub mod VideoBytes
+pub mod Rooms
 pub mod HeldVideo
 pub mod EnteringVideo
