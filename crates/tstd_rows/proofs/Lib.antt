@@ -27,6 +27,7 @@ pub mod LeakSteps
 pub mod Rows
 pub mod Packets
 pub mod Rooms
+pub mod RoomRows
 pub mod VideoRows
 pub mod VideoBegins
 pub mod VideoIfAny

@@ -48,10 +48,10 @@ raised_more a (x ∷ xs) (y ∷ ys) zs h =
     ap₂ (λ (m : ℕ) (l : List ℕ). m ∷ l) same (raised_more (max a x) xs ys zs (rest_of a x y xs ys h) ∙ ap (λ (m : ℕ). raised m (ys ++ zs)) same)
 
 -- or before them
-pub raised_after : (xs ys zs : List ℕ) → ((a : ℕ) → raised a xs ≡ raised a ys) → (a : ℕ) → raised a (zs ++ xs) ≡ raised a (zs ++ ys)
+pub raised_after : (from : ℕ) (xs ys zs : List ℕ) → ((a : ℕ) → from ≤ a → raised a xs ≡ raised a ys) → raised from (zs ++ xs) ≡ raised from (zs ++ ys)
 unfolding raised
-raised_after xs ys [] h a = h a
-raised_after xs ys (z ∷ zs) h a = ap (λ (l : List ℕ). max a z ∷ l) (raised_after xs ys zs h (max a z))
+raised_after from xs ys [] h = h from (omega arith)
+raised_after from xs ys (z ∷ zs) h = ap (λ (l : List ℕ). max from z ∷ l) (raised_after (max from z) xs ys zs (λ a le. h a (omega (arith, le))))
 
 -- times that are past are as good as none
 pub raised_past : (a now until n : ℕ) (xs : List ℕ) → now ≤ a → until ≤ now → raised a (replicate n 0 ++ xs) ≡ raised a (replicate n until ++ xs)

@@ -24,6 +24,7 @@ pub struct EbRooms {
 }
 
 // So many bytes go, for which there is room from `until` on: when the last of them does.
+#[tactic(auto, using(crate::proofs::RoomRows::gone_none, crate::proofs::RoomRows::gone_some))]
 fn gone(last: u128, until: u128, leak: u64, count: u64) -> u128
     ensures { result ≡ capped (last_left leak last (replicate count until)) }
 {
