@@ -1,12 +1,16 @@
 -- Bytes of video that enter its two buffers.
-use Rattle.std.proofs.Common.{◌≡◌, ◌∙◌, Global, ℕ, ◌+◌, ◌*◌, ◌-◌, ◌^◌, ◌≤◌, max, List, [], ◌∷◌, ◌++◌, Option, Some, None, Result, Ok, Err, IfOk, OnOk, refl, subst, ap, ap₂, arith}
+use Rattle.std.proofs.Common.{◌≡◌, ◌∙◌, sym, Global, ℕ, ◌+◌, ◌*◌, ◌-◌, ◌^◌, ◌≤◌, max, List, [], ◌∷◌, ◌++◌, length, replicate, take, drop, Option, Some, None, Result, Ok, Err, IfOk, OnOk, refl, subst, ap, ap₂, arith}
 use Rattle.std.specs.Option.{option_to_list}
 use Rattle.std.proofs.Math.Nat.{mul-le-mul, mul-le-mul_right}
 use Rattle.clock27.specs.Departure.{departures, last_left}
 use Rattle.clock27.specs.Peak.{greatest_at, most_found}
 use Rattle.tstd.proofs.RisingTimes.{greatest_ext}
+use Rattle.std.proofs.lemmas.List.{length-append}
 use Rattle.arrival.specs.declared.row.Row.{Row}
-use Rattle.tstd_rows.specs.Buffers.{IsSoon}
+use Rattle.arrival.specs.Rows.{times_of}
+use Rattle.tstd_rows.specs.declared.leaving.Leaving.{Leaving}
+use Rattle.tstd_rows.proofs.Pieces.{length-row}
+use Rattle.tstd_rows.specs.Buffers.{IsSoon, times_left}
 use Rattle.tstd_rows.specs.Excesses.{excess_after, excesses_ended}
 use Rattle.tstd_rows.specs.declared.excess.Excess.{Excess}
 use Rattle.tstd_rows.specs.declared.excess.ExcessWatch.{ExcessWatch}
@@ -20,8 +24,10 @@ use Rattle.tstd_rows.specs.Busy.{busy_under_way, busy_with, leak_busy, never_bus
 use Rattle.tstd_rows.specs.declared.busy_watch.BusyWatch.{BusyWatch}
 use Rattle.tstd_rows.specs.declared.viewed_buffers.StreamView.{StreamView}
 use Rattle.tstd_rows.specs.declared.eb_rooms.EbRooms.{EbRooms}
-use Rattle.tstd_rows.specs.Rooms.{AreRooms, capped}
-use Rattle.tstd_rows.proofs.Rooms.{rooms_passed}
+use Rattle.tstd.specs.declared.buffered_units.BufferedUnit.{BufferedUnit}
+use Rattle.clock27.proofs.Departures.{length-departures}
+use Rattle.tstd_rows.specs.Rooms.{AreRooms, capped, raised, rooms_now}
+use Rattle.tstd_rows.proofs.Rooms.{rooms_carried, rooms_passed}
 use Rattle.tstd_rows.specs.declared.main_watch.MainWatch.{MainWatch}
 use Rattle.tstd_rows.specs.declared.unit_seen.DueTime.{DueTime}
 use Rattle.tstd_rows.specs.declared.unit_seen.UnitSeen.{UnitSeen}
@@ -57,7 +63,7 @@ unfolding leaked
 empty_view view rate v = v
 
 -- when the last byte leaves MB
-leaked_last : {A : Type 0} (view : StreamView A) (leak rate : ℕ) (parts : List Part) → view.transport.step ≡ leak → IsViewOf view (leaked rate parts) → view.transport.last ≡ last_leaked rate leak parts
+pub leaked_last : {A : Type 0} (view : StreamView A) (leak rate : ℕ) (parts : List Part) → view.transport.step ≡ leak → IsViewOf view (leaked rate parts) → view.transport.last ≡ last_leaked rate leak parts
 leaked_last view leak rate parts step v =
     ap (λ (b : TransportBuffer). b.last) v.arrived
     ∙ ap₂ (λ (s : ℕ) (ts : List ℕ). last_left s 0 ts) step (leaked_arrive rate parts)
@@ -109,6 +115,26 @@ video_held old new sizes rate parts ls times most last k is view step size found
           ∙ ap (λ (ts : List ℕ). busy_with (leak_busy rate sizes.leak sizes.second parts) (last_leaked rate sizes.leak parts) ts) is;
       rooms = rooms;
     }
+
+pub many_left : (l : Leaving) → l.waiting.bytes + l.free.bytes ≡ length (times_left l)
+many_left l =
+    sym (length-append (times_of l.waiting) (times_of l.free)
+    ∙ ap₂ (λ (m n : ℕ). m + n) (length-row l.waiting.from l.waiting.pace l.waiting.parts l.waiting.bytes) (length-row l.free.from l.free.pace l.free.parts l.free.bytes))
+
+-- and when EB has room for what comes next
+pub rooms_taken : (old : VideoBuffers) (settled new : EbRooms) (sizes : VideoSizes) (rate step n : ℕ) (parts : List Part) (ls times : List ℕ) → IsVideoHeld old sizes rate parts → ls ≡ left_after rate parts times →
+    n ≡ length ls → step ≡ sizes.leak →
+    ((from : ℕ) → old.view.transport.last ≤ from → raised from (rooms_now settled) ≡ raised from (rooms_now old.rooms)) → length (rooms_now settled) ≡ length (rooms_now old.rooms) →
+    settled.last ≡ old.rooms.last → settled.current ≡ old.rooms.current →
+    rooms_now new ≡ drop n (rooms_now settled ++ replicate n settled.current.until) →
+    new.last ≡ capped (last_left step settled.last (take n (rooms_now settled ++ replicate n settled.current.until))) → new.current.until ≡ settled.current.until →
+    AreRooms new rate sizes.leak sizes.elementary (Carries times ∷ parts)
+rooms_taken old settled new sizes rate step n parts ls times k is many leak rooms len last current next goes stays =
+    rooms_carried old.rooms settled new rate sizes.leak sizes.elementary n parts times k.rooms
+    (many ∙ ap length is ∙ length-departures rate (last_of rate parts) times)
+    (λ from le. rooms from (omega (arith, le, leaked_last old.view sizes.leak rate parts k.leak k.view))) len last
+    (ap (λ (u : BufferedUnit). u.until) current) next
+    (goes ∙ ap (λ (s : ℕ). capped (last_left s settled.last (take n (rooms_now settled ++ replicate n settled.current.until)))) leak) stays
 
 same_video : (e : VideoEntered) (multiplexing : List Excess) (elementary : Option Excess) (most elementary_most : ℕ) → option_to_list e.waiting ++ option_to_list e.free ≡ multiplexing →
     e.elementary ≡ elementary → e.multiplexing_most ≡ most → e.elementary_most ≡ elementary_most →
