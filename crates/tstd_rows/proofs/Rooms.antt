@@ -208,7 +208,6 @@ carried_alone rate leak parts times = last_left-append leak 0 (payload_left rate
 
 -- 4. What is kept, once bytes have come
 
-
 later_stopped : (cap a p q : ℕ) → q ≡ min p cap → min (max a q) cap ≡ min (max a p) cap
 later_stopped cap a p q is = omega (arith, is)
 
@@ -238,7 +237,7 @@ rooms_carried old settled new rate leak size n parts times k many rooms len last
       last =
           ap (λ (a : ℕ). capped (max a new.last)) (carried_alone rate leak parts times)
           ∙ later_stopped (2 ^ 128 - 1) (last_left leak alone these) (last_left leak old.last (take (length these) mine)) new.last
-              (goes ∙ ap₂ (λ (q m : ℕ). capped (last_left leak q (take m mine))) last count)
+          (goes ∙ ap₂ (λ (q m : ℕ). capped (last_left leak q (take m mine))) last count)
           ∙ ap (λ (m : ℕ). capped m) (last_both leak alone old.last these mine few)
           ∙ transfer_stopped leak (2 ^ 128 - 1) (max alone old.last) so_far these mine k.last
           ∙ ap (λ (m : ℕ). capped m) (sym all);
