@@ -1,10 +1,10 @@
 -- Bytes that go to the elementary stream buffer, and the times at which it has room for those that come next.
 use Rattle.std.proofs.Common.{◌≡◌, ◌∙◌, sym, ℕ, zero, suc, ◌+◌, ◌-◌, ◌*◌, ◌<◌, ◌≤◌, ◌^◌, max, min, List, [], ◌∷◌, ◌++◌, length, replicate, take, drop, append_assoc, refl, ap, ap₂, arith}
-use Rattle.std.proofs.lemmas.List.{length-append, length-replicate, replicate-append-replicate}
+use Rattle.std.proofs.lemmas.List.{append-nil, drop-replicate, length-append, length-replicate, replicate-append-replicate}
 use Rattle.tstd.specs.declared.buffered_units.BufferedUnit.{BufferedUnit}
 use Rattle.clock27.specs.Departure.{last_left}
 use Rattle.clock27.proofs.Departures.{last_left-append}
-use Rattle.tstd_rows.specs.Rooms.{capped, raised, rooms_in, rooms_waiting}
+use Rattle.tstd_rows.specs.RoomTimes.{capped, raised, rooms_in, rooms_waiting}
 use Rattle.tstd_rows.proofs.Rooms.{raised_after, raised_past}
 
 -- 1. Bytes for which there is room from one moment on
@@ -70,16 +70,47 @@ taken_of (suc m) zero w xs le = absurd (omega (arith, le))
 taken_of (suc m) (suc n) w xs le = ap (λ (l : List ℕ). w ∷ l) (taken_of m n w xs (omega (arith, le)))
 
 pub left_of : (m n w : ℕ) (xs : List ℕ) → m ≤ n → drop m (replicate n w ++ xs) ≡ replicate (n - m) w ++ xs
-left_of zero n w xs le = refl
+left_of zero n w xs le = let e : n ≡ n - 0 = omega arith in ap (λ (k : ℕ). replicate k w ++ xs) e
 left_of (suc m) zero w xs le = absurd (omega (arith, le))
-left_of (suc m) (suc n) w xs le = left_of m n w xs (omega (arith, le))
+left_of (suc m) (suc n) w xs le =
+    let e : n - m ≡ suc n - suc m = omega arith in left_of m n w xs (omega (arith, le)) ∙ ap (λ (k : ℕ). replicate k w ++ xs) e
 
 pub taken_past : (m n w : ℕ) (xs : List ℕ) → n ≤ m → take m (replicate n w ++ xs) ≡ replicate n w ++ take (m - n) xs
-taken_past m zero w xs le = refl
+taken_past m zero w xs le = let e : m ≡ m - 0 = omega arith in ap (λ (k : ℕ). take k xs) e
 taken_past zero (suc n) w xs le = absurd (omega (arith, le))
-taken_past (suc m) (suc n) w xs le = ap (λ (l : List ℕ). w ∷ l) (taken_past m n w xs (omega (arith, le)))
+taken_past (suc m) (suc n) w xs le =
+    let e : m - n ≡ suc m - suc n = omega arith in
+    ap (λ (l : List ℕ). w ∷ l) (taken_past m n w xs (omega (arith, le)) ∙ ap (λ (k : ℕ). replicate n w ++ take k xs) e)
 
 pub left_past : (m n w : ℕ) (xs : List ℕ) → n ≤ m → drop m (replicate n w ++ xs) ≡ drop (m - n) xs
-left_past m zero w xs le = refl
+left_past m zero w xs le = let e : m ≡ m - 0 = omega arith in ap (λ (k : ℕ). drop k xs) e
 left_past zero (suc n) w xs le = absurd (omega (arith, le))
-left_past (suc m) (suc n) w xs le = left_past m n w xs (omega (arith, le))
+left_past (suc m) (suc n) w xs le =
+    let e : m - n ≡ suc m - suc n = omega arith in left_past m n w xs (omega (arith, le)) ∙ ap (λ (k : ℕ). drop k xs) e
+
+-- 4. An empty buffer, and bytes for which there is room at once
+
+pub all_free : (size : ℕ) → rooms_in size [] (record { until = 0; bytes = 0 }) ≡ replicate size 0
+unfolding rooms_waiting
+all_free size = append-nil (replicate size 0)
+
+pub free_left : (count free m : ℕ) (xs : List ℕ) → m ≡ min count free → replicate (free - m) 0 ++ xs ≡ drop count (replicate free 0) ++ xs
+free_left count free m xs is =
+    let e : free - m ≡ free - count = omega (arith, is) in
+    ap (λ (k : ℕ). replicate k 0 ++ xs) e ∙ ap (λ (l : List ℕ). l ++ xs) (sym (drop-replicate count free 0))
+
+taken_all : (count free : ℕ) → take {A = ℕ} count (replicate free 0) ≡ replicate (min count free) 0
+taken_all zero free = let e : 0 ≡ min 0 free = omega arith in ap (λ (k : ℕ). replicate {A = ℕ} k 0) e
+taken_all (suc count) zero = refl
+taken_all (suc count) (suc free) =
+    let e : suc (min count free) ≡ min (suc count) (suc free) = omega arith in
+    ap (λ (l : List ℕ). 0 ∷ l) (taken_all count free) ∙ ap (λ (k : ℕ). replicate {A = ℕ} k 0) e
+
+pub free_taken : (leak last count free m : ℕ) → m ≡ min count free → capped (last_left leak last (replicate m 0)) ≡ capped (last_left leak last (take {A = ℕ} count (replicate free 0)))
+free_taken leak last count free m is = ap (λ (l : List ℕ). capped (last_left leak last l)) (ap (λ (k : ℕ). replicate {A = ℕ} k 0) is ∙ sym (taken_all count free))
+
+pub fits_free : (size : ℕ) (waiting : List BufferedUnit) → waiting ≡ [] → size < 2 ^ 64 → length (rooms_in size waiting (record { until = 0; bytes = 0 })) < 2 ^ 64
+fits_free size waiting none fits =
+    let len : length (rooms_in size waiting (record { until = 0; bytes = 0 })) ≡ size =
+    ap (λ (us : List BufferedUnit). length (rooms_in size us (record { until = 0; bytes = 0 }))) none ∙ ap length (all_free size) ∙ length-replicate size 0 in
+    omega (arith, fits, len)

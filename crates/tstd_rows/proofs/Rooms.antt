@@ -7,7 +7,8 @@ use Rattle.unit_timing.specs.LeakMethod.{rooms_of}
 use Rattle.tstd_rows.specs.History.{Part, last_of, left_after, payload_left, until_of}
 use Rattle.tstd_rows.specs.History.Part.{Passes, Carries, Begins}
 use Rattle.tstd_rows.specs.VideoViewed.{last_leaked, last_transfer, last_transferred, removed_of}
-use Rattle.tstd_rows.specs.Rooms.{AreRooms, capped, raised, rooms_next, rooms_now}
+use Rattle.tstd_rows.specs.RoomTimes.{capped, raised}
+use Rattle.tstd_rows.specs.Rooms.{AreRooms, rooms_next, rooms_now}
 use Rattle.tstd_rows.specs.declared.eb_rooms.EbRooms.{EbRooms}
 use Rattle.tstd_rows.specs.declared.unit_seen.DueTime.{DueTime}
 

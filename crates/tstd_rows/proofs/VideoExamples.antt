@@ -1,6 +1,6 @@
 -- The definitions of a video stream's two buffers at numbers.
 use Rattle.std.specs.Prelude.{option_and_then}
-use Rattle.tstd_rows.specs.Rooms.{raised}
+use Rattle.tstd_rows.specs.RoomTimes.{raised}
 use Rattle.std.proofs.Common.{◌≡◌, List, [], ◌∷◌, Some, None, refl}
 use Rattle.clock27.specs.Departure.{departures, last_left}
 use Rattle.clock27.specs.Fullness.{fullness}

@@ -26,7 +26,8 @@ use Rattle.tstd_rows.specs.declared.viewed_buffers.StreamView.{StreamView}
 use Rattle.tstd_rows.specs.declared.eb_rooms.EbRooms.{EbRooms}
 use Rattle.tstd.specs.declared.buffered_units.BufferedUnit.{BufferedUnit}
 use Rattle.clock27.proofs.Departures.{length-departures}
-use Rattle.tstd_rows.specs.Rooms.{AreRooms, capped, raised, rooms_now}
+use Rattle.tstd_rows.specs.RoomTimes.{capped, raised}
+use Rattle.tstd_rows.specs.Rooms.{AreRooms, rooms_now}
 use Rattle.tstd_rows.proofs.Rooms.{rooms_carried, rooms_passed}
 use Rattle.tstd_rows.specs.declared.main_watch.MainWatch.{MainWatch}
 use Rattle.tstd_rows.specs.declared.unit_seen.DueTime.{DueTime}

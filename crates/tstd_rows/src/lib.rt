@@ -32,6 +32,7 @@
 mod arriving;
 mod busy_watch;
 mod byte_excess;
+mod eb_filling;
 mod eb_rooms;
 mod entered;
 mod entering;

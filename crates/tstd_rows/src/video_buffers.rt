@@ -8,7 +8,7 @@ ghost use Rattle.tstd_rows.specs.VideoViewed.{elementary_peak, last_leaked, last
 ghost use Rattle.tstd_rows.specs.VideoBytes.{bytes_in};
 ghost use Rattle.tstd_rows.specs.Busy.{busy_under_way, leak_busy};
 ghost use Rattle.tstd_rows.specs.HeldVideo.{HoldsVideo, IsVideoHeld, VideoSizes, elementary_under_way, nothing_of_video, sizes_of, video_entered, video_found, video_unit, video_unit_in, video_view};
-ghost use Rattle.tstd_rows.specs.Rooms.{capped};
+ghost use Rattle.tstd_rows.specs.RoomTimes.{capped};
 
 use crate::busy_watch::{BusyWatch, Stay};
 use crate::eb_rooms::EbRooms;

@@ -1,0 +1,6 @@
+use Rattle.std.proofs.Common.{◌∙◌}
+use Rattle.tstd_rows.proofs.VideoRows.{entry_in}
+use Rattle.tstd_rows.proofs.video_buffers.VideoBuffers.last_entry.Goals as goal
+
+pub returns : goal.returns
+returns c = λ sizes rate parts k. entry_in c.args.self.now sizes rate parts k ?
