@@ -101,7 +101,7 @@ free_left count free m xs is =
 
 taken_all : (count free : ℕ) → take {A = ℕ} count (replicate free 0) ≡ replicate (min count free) 0
 taken_all zero free = let e : 0 ≡ min 0 free = omega arith in ap (λ (k : ℕ). replicate {A = ℕ} k 0) e
-taken_all (suc count) zero = refl
+taken_all (suc count) zero = let e : 0 ≡ min (suc count) 0 = omega arith in ap (λ (k : ℕ). replicate {A = ℕ} k 0) e
 taken_all (suc count) (suc free) =
     let e : suc (min count free) ≡ min (suc count) (suc free) = omega arith in
     ap (λ (l : List ℕ). 0 ∷ l) (taken_all count free) ∙ ap (λ (k : ℕ). replicate {A = ℕ} k 0) e

@@ -1,9 +1,9 @@
 -- The buffers of video of a stream that may have none.
-use Rattle.std.proofs.Common.{◌≡◌, ◌∙◌, ℕ, List, ◌∷◌, Option, Some, None, Result, Ok, Err, OnOk, refl, subst, ap, ap₂, arith}
+use Rattle.std.proofs.Common.{◌≡◌, ◌∙◌, ℕ, List, ◌∷◌, Option, Some, None, Result, Ok, Err, OnOk, refl, subst, ap}
 use Rattle.tstd_rows.specs.declared.transport_buffer.TransportBuffer.{TransportBuffer}
 use Rattle.tstd_rows.specs.History.{Part, transport_of, main_peak, unit_of}
 use Rattle.tstd_rows.specs.History.Part.{Begins}
-use Rattle.std.specs.Prelude.{◌-◌, ◌^◌, ◌==◌, min, if◌then◌else◌}
+use Rattle.std.specs.Prelude.{◌==◌, if◌then◌else◌}
 use Rattle.tstd_rows.specs.RoomTimes.{capped}
 use Rattle.tstd_rows.specs.VideoViewed.{elementary_peak, last_transferred, leaked, multiplexing_buffer, with_entry}
 use Rattle.tstd_rows.specs.declared.unit_seen.DueTime.{DueTime}
@@ -75,16 +75,13 @@ pub unit_held : (v : VideoBuffers) (sizes : VideoSizes) (rate : ℕ) (parts : Li
 unit_held v sizes rate parts k = k.view.unit ∙ ap (λ (s : ℕ). unit_of s (leaked rate parts)) k.leak
 
 -- the unit under way, with when its last byte goes to EB
-stops_once : (time : ℕ) → min (capped time) (2 ^ 128 - 1) ≡ min time (2 ^ 128 - 1)
-stops_once time = omega arith
-
-entry_capped : (unit : Option UnitSeen) (time : ℕ) → with_entry unit (capped time) ≡ with_entry unit time
+entry_same : (unit : Option UnitSeen) (time time' : ℕ) → capped time ≡ capped time' → with_entry unit time ≡ with_entry unit time'
 unfolding with_entry
-entry_capped None time = refl
-entry_capped (Some u) time = ap (λ (t : ℕ). Some (record { seen = u; entered = if u.bytes == 0 then 0 else t })) (stops_once time)
+entry_same None time time' is = refl
+entry_same (Some u) time time' is = ap (λ (t : ℕ). Some (record { seen = u; entered = if u.bytes == 0 then 0 else t })) is
 
 pub unit_entered : (v : VideoBuffers) (sizes : VideoSizes) (rate : ℕ) (parts : List Part) (unit : Option UnitSeen) (time : ℕ) → IsVideoHeld v sizes rate parts → unit ≡ v.view.unit →
-    time ≡ capped (last_transferred rate sizes.leak sizes.elementary parts) → with_entry unit time ≡ video_unit_in sizes rate parts
+    capped time ≡ capped (last_transferred rate sizes.leak sizes.elementary parts) → with_entry unit time ≡ video_unit_in sizes rate parts
 unit_entered v sizes rate parts unit time k is at =
-    ap₂ (λ (u : Option UnitSeen) (t : ℕ). with_entry u t) (is ∙ unit_held v sizes rate parts k) at
-    ∙ entry_capped (unit_of sizes.leak (leaked rate parts)) (last_transferred rate sizes.leak sizes.elementary parts)
+    ap (λ (u : Option UnitSeen). with_entry u time) (is ∙ unit_held v sizes rate parts k)
+    ∙ entry_same (unit_of sizes.leak (leaked rate parts)) time (last_transferred rate sizes.leak sizes.elementary parts) at

@@ -1,5 +1,5 @@
 -- Bytes of video that enter its two buffers.
-use Rattle.std.proofs.Common.{◌≡◌, ◌∙◌, sym, Global, ℕ, ◌+◌, ◌*◌, ◌-◌, ◌^◌, ◌≤◌, max, List, [], ◌∷◌, ◌++◌, length, replicate, take, drop, Option, Some, None, Result, Ok, Err, IfOk, OnOk, refl, subst, ap, ap₂, arith}
+use Rattle.std.proofs.Common.{◌≡◌, ◌∙◌, sym, Global, ℕ, ◌+◌, ◌*◌, ◌^◌, ◌≤◌, max, List, [], ◌∷◌, ◌++◌, length, replicate, take, drop, Option, Some, None, Result, Ok, Err, IfOk, OnOk, refl, subst, ap, ap₂, arith}
 use Rattle.std.specs.Option.{option_to_list}
 use Rattle.std.proofs.Math.Nat.{mul-le-mul, mul-le-mul_right}
 use Rattle.clock27.specs.Departure.{departures, last_left}
@@ -170,7 +170,7 @@ video_found old new sizes rate parts ls times most last e k is view step found l
     (elementary ∙ most_is)
 
 -- a unit begins
-video_begun : (old new : VideoBuffers) (sizes : VideoSizes) (rate : ℕ) (parts : List Part) (due : DueTime) → IsVideoHeld old sizes rate parts → IsViewOf new.view (leaked rate (Begins due ∷ parts)) →
+pub video_begun : (old new : VideoBuffers) (sizes : VideoSizes) (rate : ℕ) (parts : List Part) (due : DueTime) → IsVideoHeld old sizes rate parts → IsViewOf new.view (leaked rate (Begins due ∷ parts)) →
     new.view.transport ≡ old.view.transport → new.view.watch ≡ old.view.watch → new.elementary ≡ old.elementary → new.busy ≡ old.busy →
     AreRooms new.rooms rate sizes.leak sizes.elementary (Begins due ∷ parts) → IsVideoHeld new sizes rate (Begins due ∷ parts)
 unfolding elementary_under_way leak_busy
@@ -185,21 +185,10 @@ video_begun old new sizes rate parts due k view transport watch elementary busy 
       rooms = rooms;
     }
 
-pub begun_in : {V E : Type 0} (result : Result V E) (old : VideoBuffers) (view : StreamView Global) (rooms : EbRooms) (sizes : VideoSizes) (rate : ℕ) (parts : List Part) (due : DueTime) →
-    IsVideoHeld old sizes rate parts → OnOk result ((parts : List Part) → IsViewOf old.view parts → IsViewOf view (Begins due ∷ parts)) → view.transport ≡ old.view.transport →
-    view.watch ≡ old.view.watch → AreRooms rooms rate sizes.leak sizes.elementary (Begins due ∷ parts) →
-    OnOk result (IsVideoHeld (record { view = view; elementary = old.elementary; busy = old.busy; rooms = rooms }) sizes rate (Begins due ∷ parts))
-begun_in (Ok value) old view rooms sizes rate parts due k views transport watch kept =
-    video_begun old (record { view = view; elementary = old.elementary; busy = old.busy; rooms = rooms }) sizes rate parts due k (begun_view view rate parts due (views (leaked rate parts) k.view)) transport watch refl refl
-    kept
-begun_in (Err e) old view rooms sizes rate parts due k views transport watch kept = tt
-
 -- when the last byte so far goes to EB
-pub entry_in : (v : VideoBuffers) (sizes : VideoSizes) (rate : ℕ) (parts : List Part) → IsVideoHeld v sizes rate parts → max v.view.transport.last v.rooms.last ≤ 2 ^ 128 - 1 →
-    max v.view.transport.last v.rooms.last ≡ capped (last_transferred rate sizes.leak sizes.elementary parts)
-entry_in v sizes rate parts k fits =
-    let last = ap (λ (l : ℕ). max l v.rooms.last) (leaked_last v.view sizes.leak rate parts k.leak k.view) in
-    omega (arith, fits, last, k.rooms.last)
+pub entry_in : (v : VideoBuffers) (sizes : VideoSizes) (rate : ℕ) (parts : List Part) → IsVideoHeld v sizes rate parts →
+    capped (max v.view.transport.last v.rooms.last) ≡ capped (last_transferred rate sizes.leak sizes.elementary parts)
+entry_in v sizes rate parts k = ap (λ (l : ℕ). capped (max l v.rooms.last)) (leaked_last v.view sizes.leak rate parts k.leak k.view) ∙ k.rooms.last
 
 -- bytes that go no further than the transport buffer
 pub video_passed : (video : Option VideoBuffers) (sizes : Option VideoSizes) (rate : ℕ) (parts : List Part) (times : List ℕ) → HoldsVideo video sizes rate parts → HoldsVideo video sizes rate (Passes times ∷ parts)

@@ -187,7 +187,7 @@ impl VideoBuffers {
     // When the last byte so far goes to the elementary stream buffer, where none goes while that is full.
     fn last_entry(&self) -> u128
         ensures { (sizes : VideoSizes) (rate : ℕ) (parts : List Part) → IsVideoHeld self.now sizes rate parts →
-            result ≡ capped (last_transferred rate sizes.leak sizes.elementary parts) }
+            capped result ≡ capped (last_transferred rate sizes.leak sizes.elementary parts) }
     {
         self.view.transport.last.max(self.rooms.last)
     }
