@@ -1,7 +1,7 @@
 //! Bytes that go to the elementary stream buffer of video, and the room for those that come next.
 ghost use Rattle.std.specs.Prelude.{◌≡◌, ℕ, ◌-◌, ◌≤◌, ◌++◌, length, replicate, take, drop, OnOk};
 ghost use Rattle.clock27.specs.Departure.{last_left};
-ghost use Rattle.tstd_rows.specs.RoomTimes.{capped, raised, rooms_in, rooms_waiting};
+ghost use Rattle.tstd_rows.specs.RoomTimes.{capped, raised, rooms_waiting};
 ghost use Rattle.tstd_rows.specs.Rooms.{rooms_now};
 
 use crate::eb_rooms::EbRooms;
@@ -56,7 +56,7 @@ impl EbRooms {
     // So many bytes go, of those for which there is room at once: how many are left to go.
     fn take_free(&mut self, leak: u64, count: u64) -> u64
         ensures rest { result ≡ count - self.old.free }
-        ensures rooms { rooms_now self.new ≡ drop count (replicate self.old.free 0) ++ rooms_in 0 self.old.waiting.items self.old.current }
+        ensures free { self.new.free ≡ self.old.free - count }
         ensures last { self.new.last ≡ capped (last_left leak self.old.last (take count (replicate self.old.free 0))) }
         ensures waiting { self.new.waiting ≡ self.old.waiting }
         ensures current { self.new.current ≡ self.old.current }

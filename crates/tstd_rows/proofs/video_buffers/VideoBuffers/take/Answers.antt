@@ -1,4 +1,4 @@
-use Rattle.std.proofs.Common.{refl}
+use Rattle.std.proofs.Common.{◌∙◌, refl}
 use Rattle.tstd_rows.specs.Buffers.{times_left}
 use Rattle.tstd_rows.specs.VideoViewed.{leaked}
 use Rattle.tstd_rows.proofs.VideoRows.{many_left, rooms_taken, video_found, video_held}
