@@ -1,5 +1,5 @@
 -- Bytes that go to the elementary stream buffer, and the times at which it has room for those that come next.
-use Rattle.std.proofs.Common.{◌≡◌, ◌∙◌, sym, ℕ, zero, suc, ◌+◌, ◌-◌, ◌*◌, ◌<◌, ◌≤◌, ◌^◌, max, min, List, [], ◌∷◌, ◌++◌, length, replicate, take, drop, append_assoc, refl, ap, ap₂, arith}
+use Rattle.std.proofs.Common.{◌≡◌, ◌∙◌, sym, ℕ, zero, suc, ◌+◌, ◌-◌, ◌*◌, ◌<◌, ◌≤◌, ◌^◌, max, min, List, [], ◌∷◌, ◌++◌, length, replicate, take, drop, append_assoc, slice_index_or, refl, ap, ap₂, arith}
 use Rattle.std.proofs.lemmas.List.{append-nil, drop-replicate, take-replicate, length-append, length-replicate, replicate-append-replicate}
 use Rattle.tstd.specs.declared.buffered_units.BufferedUnit.{BufferedUnit}
 use Rattle.clock27.specs.Departure.{last_left}
@@ -63,6 +63,29 @@ as_many_settled free unit current waiting =
     let right = length-append (replicate free 0) (replicate unit.bytes unit.until ++ rest) ∙ ap (λ (n : ℕ). n + length (replicate unit.bytes unit.until ++ rest)) (length-replicate free 0) in
     let more = length-append (replicate unit.bytes unit.until) rest ∙ ap (λ (n : ℕ). n + length rest) (length-replicate unit.bytes unit.until) in
     omega (arith, left, there, right, more)
+
+-- the first of the units that wait
+pub front_of : (items : List BufferedUnit) (u : BufferedUnit) → 0 < length items → u ≡ slice_index_or items 0 u → items ≡ u ∷ drop 1 items
+front_of [] u some is = absurd (omega (arith, some))
+front_of (x ∷ xs) u some is = ap (λ (v : BufferedUnit). v ∷ xs) (sym is)
+
+at_least : (free : ℕ) (waiting : List BufferedUnit) (current : BufferedUnit) → free ≤ length (rooms_in free waiting current)
+at_least free waiting current =
+    let rest : List ℕ = rooms_waiting waiting ++ replicate current.bytes current.until in
+    let len = length-append (replicate free 0) rest ∙ ap (λ (n : ℕ). n + length rest) (length-replicate free 0) in
+    omega (arith, len)
+
+-- it joins those for which there is room
+pub joined_fits : (free most : ℕ) (unit current : BufferedUnit) (items : List BufferedUnit) → 0 < length items → unit ≡ slice_index_or items 0 unit → length (rooms_in free items current) < most →
+    length (rooms_in (free + unit.bytes) (drop 1 items) current) < most
+joined_fits free most unit current items some is fits =
+    let same = as_many_settled free unit current (drop 1 items) ∙ ap (λ (us : List BufferedUnit). length (rooms_in free us current)) (sym (front_of items unit some is)) in
+    omega (arith, fits, same)
+
+pub sum_fits : (free most : ℕ) (unit current : BufferedUnit) (items : List BufferedUnit) → 0 < length items → unit ≡ slice_index_or items 0 unit → length (rooms_in free items current) < most →
+    free + unit.bytes < most
+sum_fits free most unit current items some is fits =
+    omega (arith, joined_fits free most unit current items some is fits, at_least (free + unit.bytes) (drop 1 items) current)
 
 -- 3. Bytes go, some of a unit or all
 
