@@ -28,6 +28,7 @@ pub mod Rows
 pub mod Packets
 pub mod Rooms
 pub mod RoomRows
+pub mod WaitingRooms
 pub mod VideoRows
 pub mod VideoBegins
 pub mod VideoIfAny
