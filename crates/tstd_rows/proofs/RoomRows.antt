@@ -179,7 +179,7 @@ rooms_gone free b until count rest rest' waiting is is' =
 
 -- when the last of them goes
 pub last_gone : (leak free b until count rest rest' last last1 last2 last3 : ℕ) (waiting : List ℕ) → rest ≡ count - free → rest' ≡ rest - length waiting →
-    last1 ≡ capped (last_left leak last (take {A = ℕ} count (replicate free 0))) → last2 ≡ capped (last_left leak last1 (take rest waiting)) →
+    last1 ≡ capped (last_left leak last (take {A = ℕ} count (replicate free 0))) → capped last2 ≡ capped (last_left leak last1 (take rest waiting)) →
     last3 ≡ capped (last_left leak last2 (replicate rest' until)) →
     last3 ≡ capped (last_left leak last (take count ((replicate free 0 ++ (waiting ++ replicate b until)) ++ replicate count until)))
 last_gone leak free b until count rest rest' last last1 last2 last3 waiting is is' one two three =
@@ -196,7 +196,7 @@ last_gone leak free b until count rest rest' last last1 last2 last3 waiting is i
     let p : ℕ = last_left leak last firsts in
     let q : ℕ = last_left leak p (take rest waiting) in
     let first : min last1 cap ≡ min p cap = stops_at cap last1 p one in
-    let second : min last2 cap ≡ min q cap = stops_at cap last2 (last_left leak last1 (take rest waiting)) two ∙ last_stopped leak cap last1 p (take rest waiting) first in
+    let second : min last2 cap ≡ min q cap = two ∙ last_stopped leak cap last1 p (take rest waiting) first in
     three
     ∙ last_stopped leak cap last2 q (replicate rest' until) second
     ∙ ap (λ (m : ℕ). capped m)
@@ -221,7 +221,7 @@ rooms_after old s1 s2 free waiting current count rest rest' is free1 waiting1 cu
 
 pub last_after : (old s1 s2 : EbRooms) (leak count rest rest' last until : ℕ) → rest ≡ count - old.free → s1.waiting ≡ old.waiting → s1.current ≡ old.current →
     s1.last ≡ capped (last_left leak old.last (take {A = ℕ} count (replicate old.free 0))) → rest' ≡ rest - length (rooms_waiting s1.waiting.items) → s2.current ≡ s1.current →
-    s2.last ≡ capped (last_left leak s1.last (take rest (rooms_waiting s1.waiting.items))) → until ≡ s2.current.until → last ≡ capped (last_left leak s2.last (replicate rest' until)) →
+    capped s2.last ≡ capped (last_left leak s1.last (take rest (rooms_waiting s1.waiting.items))) → until ≡ s2.current.until → last ≡ capped (last_left leak s2.last (replicate rest' until)) →
     last ≡ capped (last_left leak old.last (take count (rooms_now old ++ replicate count old.current.until)))
 last_after old s1 s2 leak count rest rest' last until is waiting1 current1 last1 is' current2 last2 same last3 =
     let before : rooms_waiting s1.waiting.items ≡ rooms_waiting old.waiting.items = rw waiting1 refl in

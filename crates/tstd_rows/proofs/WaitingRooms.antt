@@ -25,6 +25,9 @@ first_in u us = omega (arith, length-append (replicate u.bytes u.until) (rooms_w
 abbrev less : BufferedUnit → ℕ → BufferedUnit
 less u m = record { until = u.until; bytes = u.bytes - m }
 
+stopped : (n m : ℕ) → n ≡ capped m → capped n ≡ capped m
+stopped n m is = omega (arith, is)
+
 -- some bytes of the first unit go
 pub less_fits : (free m most : ℕ) (u current : BufferedUnit) (items : List BufferedUnit) → 0 < length items → u ≡ slice_index_or items 0 u → length (rooms_in free items current) < most →
     length (rooms_in free (slice_set items 0 (record { until = u.until; bytes = u.bytes - m })) current) < most
@@ -52,7 +55,7 @@ gone_rooms rest m u (x ∷ us) whole some is few left h =
     ap₂ (λ (b v : ℕ). replicate b v ++ rooms_waiting us) bytes until ∙ sym (left_of rest x.bytes x.until (rooms_waiting us) some_left) ∙ h
 
 pub gone_time : (leak last last' rest m whole : ℕ) (u : BufferedUnit) (items : List BufferedUnit) → 0 < length items → u ≡ slice_index_or items 0 u → m ≡ min rest u.bytes → 0 < u.bytes - m →
-    last' ≡ capped (last_left leak last (replicate m u.until)) → capped (last_left leak last (take rest (rooms_waiting items))) ≡ whole → last' ≡ whole
+    last' ≡ capped (last_left leak last (replicate m u.until)) → capped (last_left leak last (take rest (rooms_waiting items))) ≡ whole → capped last' ≡ whole
 unfolding rooms_waiting
 gone_time leak last last' rest m whole u [] some is few left at h = absurd (omega (arith, some))
 gone_time leak last last' rest m whole u (x ∷ us) some is few left at h =
@@ -60,7 +63,7 @@ gone_time leak last last' rest m whole u (x ∷ us) some is few left at h =
     let until : u.until ≡ x.until = ap (λ (v : BufferedUnit). v.until) is in
     let all : m ≡ rest = omega (arith, few, left) in
     let some_left : rest ≤ x.bytes = omega (arith, few, left, same) in
-    at ∙ ap₂ (λ (n v : ℕ). capped (last_left leak last (replicate n v))) all until
+    stopped last' (last_left leak last (replicate m u.until)) at ∙ ap₂ (λ (n v : ℕ). capped (last_left leak last (replicate n v))) all until
     ∙ ap (λ (l : List ℕ). capped (last_left leak last l)) (sym (taken_of rest x.bytes x.until (rooms_waiting us) some_left)) ∙ h
 
 -- or all of them
@@ -134,9 +137,7 @@ unfolding rooms_waiting
 end_rooms rest [] whole none h = sym (none_left rest) ∙ h
 end_rooms rest (x ∷ us) whole none h = absurd cc
 
-pub end_time : (leak last rest whole : ℕ) (items : List BufferedUnit) → items ≡ [] → last < 2 ^ 128 → capped (last_left leak last (take rest (rooms_waiting items))) ≡ whole → last ≡ whole
+pub end_time : (leak last rest whole : ℕ) (items : List BufferedUnit) → items ≡ [] → capped (last_left leak last (take rest (rooms_waiting items))) ≡ whole → capped last ≡ whole
 unfolding rooms_waiting last_left
-end_time leak last rest whole [] none fits h =
-    let all : last ≡ capped last = omega (arith, fits) in
-    all ∙ ap (λ (l : List ℕ). capped (last_left leak last l)) (sym (none_taken rest)) ∙ h
-end_time leak last rest whole (x ∷ us) none fits h = absurd cc
+end_time leak last rest whole [] none h = ap (λ (l : List ℕ). capped (last_left leak last l)) (sym (none_taken rest)) ∙ h
+end_time leak last rest whole (x ∷ us) none h = absurd cc

@@ -71,7 +71,7 @@ impl EbRooms {
     fn take_waiting(&mut self, leak: u64, count: u64) -> u64
         ensures rest { result ≡ count - length (rooms_waiting self.old.waiting.items) }
         ensures rooms { rooms_waiting self.new.waiting.items ≡ drop count (rooms_waiting self.old.waiting.items) }
-        ensures last { self.new.last ≡ capped (last_left leak self.old.last (take count (rooms_waiting self.old.waiting.items))) }
+        ensures last { capped self.new.last ≡ capped (last_left leak self.old.last (take count (rooms_waiting self.old.waiting.items))) }
         ensures free { self.new.free ≡ self.old.free }
         ensures current { self.new.current ≡ self.old.current }
     {

@@ -92,4 +92,4 @@ returns-clause-rooms c =
 pub returns-clause-last : goal.returns-clause-last
 returns-clause-last c =
     let items = c.loop-unit.self.waiting.items in
-    end_time c.args.leak c.loop-unit.self.last c.loop-unit.rest _ items (none_wait items _ c.loop-unit.self.waiting.ok.0 c.in_default.ensures.variant.1) ? c.loop-unit.invariant.last
+    end_time c.args.leak c.loop-unit.self.last c.loop-unit.rest _ items (none_wait items _ c.loop-unit.self.waiting.ok.0 c.in_default.ensures.variant.1) c.loop-unit.invariant.last
