@@ -16,7 +16,7 @@ use Rattle.es_feed.specs.Ticks.{after_own, fed_own, without_unit}
 use Rattle.es_feed.specs.declared.due.Due.{Due}
 use Rattle.es_feed.specs.declared.found_pcr.FoundPcr.{FoundPcr}
 use Rattle.es_feed.specs.declared.origin.Origin.{Origin}
-use Rattle.es_feed.proofs.FedUnits.{fixed, other_role}
+use Rattle.es_feed.proofs.OneStream.{fixed, other_role}
 use Rattle.es_feed.proofs.FedSteps.{Gives, HasBase, Out, Rests, clock_out, fault_split, finding_gives, finding_rests, fixes_fixed, given_before, given_others, given_units, units_in}
 use Rattle.es_feed.proofs.ListedStreams.{AreKeys, Key, get_set_other, get_set_same, key, key_at, keys, not_placed, placed, set_keys}
 use Rattle.es_feed.proofs.OwnUnits.{AreAlone, alone_after, alone_without, to_come, to_come_early, to_come_more}

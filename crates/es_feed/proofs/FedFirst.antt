@@ -15,7 +15,7 @@ use Rattle.es_feed.specs.Feeding.{Fed, FedStreamView, FeedView, at_moment, befor
 use Rattle.es_feed.specs.Origins.{no_origin}
 use Rattle.es_feed.specs.declared.due.Due.{Due}
 use Rattle.es_feed.specs.declared.origin.Origin.{Origin}
-use Rattle.es_feed.proofs.FedUnits.{fixed}
+use Rattle.es_feed.proofs.OneStream.{fixed}
 use Rattle.es_feed.proofs.FedSteps.{Fixes, HasBase, fault_split, fixes_first, fixes_fixed, given_ok, units_in}
 use Rattle.es_feed.proofs.FedEach.{AreFrom, Event, Step, StepGives, StepRests, after_event, fed_event, fed_events, finds, gives_by, last_moved, rests_on, step, step_advances, step_fixed, step_keys, units_of_all}
 use Rattle.es_feed.proofs.ListedStreams.{AreKeys, Key, get_set_other, get_set_same, key, key_at, keys}

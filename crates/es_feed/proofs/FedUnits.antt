@@ -1,28 +1,17 @@
 -- What is fed, finding by finding.
-use Rattle.std.proofs.Common.{◌≡◌, ◌∙◌, ◌<◌, ℕ, ◌+◌, ◌++◌, ◌||◌, ◌&&◌, Bool, true, false, if◌then◌else◌, Option, Some, None, Result, Ok, List, [], ◌∷◌, length, map, drop, get_or, slice_get, slice_set, refl, sym, ap, subst, add-one, inl, inr, ◌⊎◌, ◌≤◌, arith}
+use Rattle.std.proofs.Common.{◌≡◌, ◌∙◌, ◌<◌, ℕ, ◌+◌, ◌++◌, false, if◌then◌else◌, Option, Some, None, List, [], ◌∷◌, length, map, drop, get_or, slice_get, slice_set, refl, sym, ap, ap₂, add-one, inl, inr, ◌⊎◌, ◌≤◌, arith}
 use Rattle.std.specs.Option.{option_to_list}
-use Rattle.std.specs.Prelude.{nat_lt, is_some, not}
 use Rattle.std.proofs.Math.Seq.{drop-cons}
-use Rattle.std.proofs.lemmas.Bool.Decides.{nat_tests}
 use Rattle.std.proofs.lemmas.List.{append_assoc, append-nil, drop_all}
 use Rattle.std.proofs.lemmas.Option.{slice_get_cases}
-use Rattle.pes_packet.specs.AccessUnits.{AccessUnit}
 use Rattle.demux.specs.Views.{FindingView}
 use Rattle.demux.specs.Laws.{has_pid}
-use Rattle.es_units.specs.CarriedUnits.{CarriedUnit, Ignored, role_of, carried_units}
-use Rattle.es_units.specs.Stamps.{distance, dts_at, unit_at, moved, unit_fault, fault_or, first_fault}
-use Rattle.es_units.specs.UnitSteps.{UnitsSoFar, after_finding, after_findings, ended_unit, given, goes_on_as, has_cut, is_start_cut, made_whole, none_so_far}
-use Rattle.es_units.specs.declared.stamps.StampFault.{StampFault}
-use Rattle.es_feed.specs.declared.feed_fault.FeedFault.{FeedFault}
-use Rattle.es_feed.specs.declared.feed_fault.Loss.{Loss}
-use Rattle.es_feed.specs.Maps.{change_place, map_from, set_place}
-use Rattle.es_feed.specs.Origins.{base_for, no_origin, origin_with}
+use Rattle.es_units.specs.UnitSteps.{ended_unit, start_of}
 use Rattle.es_feed.specs.declared.due.Due.{Due}
 use Rattle.es_feed.specs.declared.origin.Origin.{Origin}
-use Rattle.es_feed.specs.Feeding.{FedStreamView, Fed, FeedView, ahead_of, unless_ahead, unless_fault, at_moment, last_dts, base_by, base_of, origin_after, before_with, fed_with, stream_with, fed_by, whole_by, after_found, lost_by, told_by, told_fed, told_of, fault_by, unit_after, follow_after, greatest_if, due_of, with_streams, place_from, feed_with, after_at, fed_at, after_place, fed_place, after_unit, fed_unit, map_fed, after_one, fed_one, after_all, fed_all, fed_last, fed_ends, fed_to_end}
-use Rattle.es_units.proofs.UnitSteps.{uncut_carried}
-use Rattle.es_feed.specs.Laws.{FedAsCarried, FedInTurn, has_loss, is_loss}
-use Rattle.es_feed.proofs.UncutUnits.{Uncut, no_unit, past_here, uncut_step, under_cut}
+use Rattle.es_feed.specs.Feeding.{FedStreamView, Fed, FeedView, origin_after, stream_with, fed_by, whole_by, after_found, told_fed, due_of, with_streams, place_from, feed_with, after_at, fed_at, after_place, fed_place, after_unit, fed_unit, after_one, fed_one, after_all, fed_all, fed_last, seen_by, seen_in, seen_of, seen_place}
+use Rattle.es_feed.specs.declared.restart.Seen.TheVariants.{NoUnit}
+use Rattle.es_feed.specs.Laws.{FedInTurn}
 
 -- 1. In turn
 
@@ -66,6 +55,25 @@ fed_is : (feed : FeedView) (f : FindingView) (k : ℕ) (s : FedStreamView) → S
     fed_unit feed f ≡ option_to_list (fed_by (due_of feed) feed.origin s (whole_by s f)) ++ option_to_list (told_fed s f)
 unfolding fed_place fed_at
 fed_is feed f k s at is = rw (sym at) (rw is refl)
+
+pub no_place_seen : (feed : FeedView) (f : FindingView) → None ≡ place_from f.pid 0 feed.streams → NoUnit ≡ seen_in feed f
+unfolding seen_place
+no_place_seen feed f none = rw (sym none) refl
+
+seen_is : (feed : FeedView) (f : FindingView) (k : ℕ) (s : FedStreamView) → Some k ≡ place_from f.pid 0 feed.streams → slice_get feed.streams k ≡ Some s →
+    seen_in feed f ≡ seen_of feed.shown (start_of (whole_by s f)) (fed_by (due_of feed) feed.origin s (whole_by s f))
+unfolding seen_place seen_by
+seen_is feed f k s at is = rw (sym at) (rw is refl)
+
+pub placed_seen : (feed : FeedView) (f : FindingView) (k : ℕ) (due : Due) (start : Option (ℕ × ℕ)) (unit : Option Fed) → Some k ≡ place_from f.pid 0 feed.streams → k < length feed.streams → due ≡ due_of feed →
+    ((s : FedStreamView) → slice_get feed.streams k ≡ Some s → start ≡ start_of (whole_by s f)) →
+    ((s : FedStreamView) → slice_get feed.streams k ≡ Some s → unit ≡ fed_by due feed.origin s (whole_by s f)) →
+    seen_of feed.shown start unit ≡ seen_in feed f
+placed_seen feed f k due start unit at below is begins gives =
+    let s = there feed.streams k below (slice_get_cases feed.streams k).1 in
+    ap₂ (λ (o : Option (ℕ × ℕ)) (x : Option Fed). seen_of feed.shown o x) (begins s.0 s.1)
+    (gives s.0 s.1 ∙ ap (λ (d : Due). fed_by d feed.origin s.0 (whole_by s.0 f)) is)
+    ∙ sym (seen_is feed f k s.0 at s.1)
 
 pub placed_after : (feed : FeedView) (f : FindingView) (k : ℕ) (due : Due) (o : Origin) (streams : List FedStreamView) → Some k ≡ place_from f.pid 0 feed.streams → k < length feed.streams → due ≡ due_of feed →
     ((s : FedStreamView) → slice_get feed.streams k ≡ Some s → streams ≡ slice_set feed.streams k (stream_with due feed.origin (after_found s f) (whole_by s f))) →
@@ -139,233 +147,3 @@ last_step due o next s ss one whole before after is feeds goes grown =
 pub last_end : (due : Due) (o : Origin) (whole fed : List Fed) → whole ≡ fed ++ fed_last due o [] → fed ≡ whole
 unfolding fed_last
 last_end due o whole fed is = sym (is ∙ append-nil fed)
-
--- 4. One stream, where no clock is known
-
-timed : Due → Origin → ℕ → Option ℕ → List CarriedUnit → List Fed
-timed d o n before [] = []
-timed d o n before (w ∷ ws) =
-    (n, at_moment d.greatest (base_of d o w) before w.unit) ∷ timed d (origin_with o w.packet (base_of d o w)) n (last_dts before (at_moment d.greatest (base_of d o w) before w.unit)) ws
-
-timed_one : (d : Due) (o : Origin) (n : ℕ) (before : Option ℕ) (w : Option CarriedUnit) (ws : List CarriedUnit) →
-    timed d o n before (option_to_list w ++ ws) ≡ option_to_list (fed_with d o n before w) ++ timed d (origin_after d o w) n (before_with d o before w) ws
-unfolding timed fed_with origin_after before_with
-timed_one d o n before None ws = refl
-timed_one d o n before (Some w) ws = refl
-
-abbrev due_from : ℕ → Due
-due_from e = record { earliest = e; greatest = None }
-
-abbrev single : ℕ → Origin → FedStreamView → FeedView
-single e o s = record { earliest = e; origin = o; shown = None; ticked = 0; maps = []; streams = s ∷ [] }
-
-pub other_role : (pid : ℕ) (f : FindingView) → has_pid pid f.pid ≡ false → role_of pid f ≡ Ignored
-unfolding role_of
-other_role pid f other = rw other refl
-
--- the stream at a finding that cuts nothing: a unit is under way where units follow one another
-record IsQuiet (s : FedStreamView) (f : FindingView) : Type 0 where
-  follows : s.follow ≡ is_some s.units.unit
-  goes_on : (is_some s.units.unit && not (is_some (unit_after s f))) ≡ false
-
-same_follow : (follow before after told : Bool) → follow ≡ before → (before && not after) ≡ false → told ≡ false → (after || (follow && not told)) ≡ after
-same_follow follow before true told is on none = refl
-same_follow follow true false told is on none = absurd cc
-same_follow follow false false told is on none = rw is refl
-
-other_follow : (follow before told : Bool) → follow ≡ before → (before || (follow && told)) ≡ follow
-other_follow follow true told is = sym is
-other_follow follow false told is = rw is refl
-
-nothing_told : (s : FedStreamView) (f : FindingView) → IsQuiet s f → lost_by f.packet f.what ≡ None → told_by s f ≡ None
-unfolding fault_by
-nothing_told s f quiet lost =
-    let cuts : (s.follow && not (is_some (unit_after s f))) ≡ false = ap (λ (b : Bool). b && not (is_some (unit_after s f))) quiet.follows ∙ quiet.goes_on in
-    rw (lost, cuts) refl
-
-no_loss : (own : Bool) (loss : Option Loss) → (own && is_loss loss) ≡ false → own ≡ true → loss ≡ None
-unfolding is_loss
-no_loss own None none is = refl
-no_loss true (Some loss) none is = absurd cc
-no_loss false (Some loss) none is = absurd cc
-
-other_after : (e : ℕ) (o : Origin) (s : FedStreamView) (f : FindingView) → s.follow ≡ is_some s.units.unit → role_of s.units.pid f ≡ Ignored →
-    single e o s ≡ single e o (stream_with (due_from e) o (after_found s f) None)
-unfolding before_with goes_on_as
-other_after e o s f follows other =
-    let with_these = λ (u : UnitsSoFar) (b : Bool). single e o (record { number = s.number; before = s.before; units = u; follow = b }) in
-    let units : after_finding s.units f ≡ s.units = rw other refl in
-    let same : follow_after s f ≡ s.follow =
-    ap (λ (u : UnitsSoFar). is_some u.unit || (s.follow && not (is_some (told_by s f)))) units ∙ other_follow s.follow (is_some s.units.unit) (not (is_some (told_by s f))) follows in
-    sym (ap (λ (b : Bool). with_these (after_finding s.units f) b) same ∙ ap (λ (u : UnitsSoFar). with_these u s.follow) units)
-
-single_after_by : (e : ℕ) (o : Origin) (s : FedStreamView) (f : FindingView) (own : Bool) → s.follow ≡ is_some s.units.unit → has_pid s.units.pid f.pid ≡ own →
-    after_one (single e o s) f ≡ single e (origin_after (due_from e) o (whole_by s f)) (stream_with (due_from e) o (after_found s f) (whole_by s f))
-unfolding map_from set_place place_from after_place after_at origin_after before_with made_whole greatest_if
-single_after_by e o s f true follows own = rw own refl
-single_after_by e o s f false follows own =
-    let other = other_role s.units.pid f own in
-    let stays : after_one (single e o s) f ≡ single e o s = rw own refl in
-    let none : whole_by s f ≡ None = rw other refl in
-    stays ∙ rw none (other_after e o s f follows other)
-
-single_fed_by : (e : ℕ) (o : Origin) (s : FedStreamView) (f : FindingView) (own : Bool) → has_pid s.units.pid f.pid ≡ own → (own ≡ true → told_by s f ≡ None) →
-    fed_one (single e o s) f ≡ option_to_list (fed_by (due_from e) o s (whole_by s f))
-unfolding map_from set_place change_place map_fed place_from fed_place fed_at fed_with made_whole greatest_if told_of
-single_fed_by e o s f true own none = rw (own, none refl) (append-nil (option_to_list (fed_by (due_from e) o s (whole_by s f))))
-single_fed_by e o s f false own none = rw (own, other_role s.units.pid f own) refl
-
-neither : (a b : Bool) → (a || b) ≡ false → (a ≡ false) × (b ≡ false)
-neither true b none = absurd cc
-neither false b none = (refl, none)
-
-fed_more : (feed : FeedView) (f : FindingView) (fs : List FindingView) → fed_to_end feed (f ∷ fs) ≡ fed_one feed f ++ fed_to_end (after_one feed f) fs
-unfolding fed_all after_all
-fed_more feed f fs = append_assoc (fed_one feed f) (fed_all (after_one feed f) fs) (fed_ends (after_all (after_one feed f) fs))
-
--- a stream of which nothing is lost or cut
-record IsWhole (s : FedStreamView) (fs : List FindingView) : Type 0 where
-  unlost : has_loss s.units.pid fs ≡ false
-  uncut : has_cut s.units.pid fs ≡ false
-  under : under_cut s.units.pid s.units.unit fs ≡ false
-  follows : s.follow ≡ is_some s.units.unit
-
--- a finding of it: nothing is told, and it is so after it too
-record IsStep (s : FedStreamView) (f : FindingView) (fs : List FindingView) : Type 0 where
-  silent : has_pid s.units.pid f.pid ≡ true → told_by s f ≡ None
-  uncut : has_cut s.units.pid fs ≡ false
-  unlost : has_loss s.units.pid fs ≡ false
-  under : under_cut s.units.pid (unit_after s f) fs ≡ false
-  follows : follow_after s f ≡ is_some (unit_after s f)
-
-whole_step_by : (s : FedStreamView) (f : FindingView) (own : Bool) → IsQuiet s f → has_pid s.units.pid f.pid ≡ own → (own ≡ true → told_by s f ≡ None) →
-    follow_after s f ≡ is_some (unit_after s f)
-unfolding goes_on_as
-whole_step_by s f true quiet own none =
-    let silent : is_some (told_by s f) ≡ false = ap (λ (o : Option FeedFault). is_some o) (none refl) in
-    same_follow s.follow (is_some s.units.unit) (is_some (unit_after s f)) (is_some (told_by s f)) quiet.follows quiet.goes_on silent
-whole_step_by s f false quiet own none =
-    let other = other_role s.units.pid f own in
-    let same : unit_after s f ≡ s.units.unit = rw other refl in
-    let told = not (is_some (told_by s f)) in
-    ap (λ (u : Option CarriedUnit). is_some u || (s.follow && told)) same
-    ∙ other_follow s.follow (is_some s.units.unit) told quiet.follows ∙ quiet.follows ∙ ap (λ (u : Option CarriedUnit). is_some u) (sym same)
-
-whole_step : (s : FedStreamView) (f : FindingView) (fs : List FindingView) → IsWhole s (f ∷ fs) → IsStep s f fs
-unfolding has_cut Uncut
-whole_step s f fs whole =
-    let pid = s.units.pid in
-    let cut = neither (is_start_cut pid (role_of pid f) fs) (has_cut pid fs) whole.uncut in
-    let lost = neither (has_pid pid f.pid && is_loss (lost_by f.packet f.what)) (has_loss pid fs) whole.unlost in
-    let on = uncut_step pid s.units.unit (role_of pid f) fs (sym (past_here pid s.units.unit f fs) ∙ whole.under) cut.0 in
-    let quiet : IsQuiet s f = record { follows = whole.follows; goes_on = on.1 } in
-    let silent : has_pid pid f.pid ≡ true → told_by s f ≡ None = λ own. nothing_told s f quiet (no_loss (has_pid pid f.pid) (lost_by f.packet f.what) lost.0 own) in
-    record { silent = silent; uncut = cut.1; unlost = lost.1; under = on.0; follows = whole_step_by s f (has_pid pid f.pid) quiet refl silent }
-
-single_timed : (e : ℕ) (o : Origin) (s : FedStreamView) (fs : List FindingView) → IsWhole s fs →
-    fed_to_end (single e o s) fs ≡ timed (due_from e) o s.number s.before (given s.units fs ++ option_to_list (ended_unit false (after_findings s.units fs).unit))
-unfolding fed_all after_all fed_last given after_findings timed greatest_if
-single_timed e o s [] whole =
-    let d = due_from e in
-    let w = ended_unit false s.units.unit in
-    sym (ap (λ (ws : List CarriedUnit). timed d o s.number s.before ws) (sym (append-nil (option_to_list w))) ∙ timed_one d o s.number s.before w [])
-single_timed e o s (f ∷ fs) whole =
-    let d = due_from e in
-    let step = whole_step s f fs whole in
-    let w = whole_by s f in
-    let t = stream_with d o (after_found s f) w in
-    let later = given t.units fs ++ option_to_list (ended_unit false (after_findings t.units fs).unit) in
-    let rest : IsWhole t fs = record { unlost = step.unlost; uncut = step.uncut; under = step.under; follows = step.follows } in
-    fed_more (single e o s) f fs
-    ∙ ap (λ (xs : List Fed). xs ++ fed_to_end (after_one (single e o s) f) fs) (single_fed_by e o s f (has_pid s.units.pid f.pid) refl step.silent)
-    ∙ ap (λ (feed : FeedView). option_to_list (fed_by d o s w) ++ fed_to_end feed fs) (single_after_by e o s f (has_pid s.units.pid f.pid) whole.follows refl)
-    ∙ ap (λ (xs : List Fed). option_to_list (fed_by d o s w) ++ xs) (single_timed e (origin_after d o w) t fs rest)
-    ∙ sym (timed_one d o s.number s.before w later)
-    ∙ ap (λ (ws : List CarriedUnit). timed d o s.number s.before ws) (sym (append_assoc (option_to_list w) (given t.units fs) (option_to_list (ended_unit false (after_findings t.units fs).unit))))
-
--- 5. Without a fault
-
-no_fault : (place : ℕ) (o : Option StampFault) (next : Option (ℕ × StampFault)) → fault_or place o next ≡ None → (o ≡ None) × (next ≡ None)
-unfolding fault_or
-no_fault place None next is = (refl, is)
-no_fault place (Some fault) next is = absurd cc
-
-unit_dts : (base : ℕ) (before : Option ℕ) (u : AccessUnit) → (unit_at base before u).dts ≡ dts_at base before u.dts
-unfolding unit_at
-unit_dts base before u = refl
-
--- a constant that is fixed where no clock has jumped
-abbrev pub fixed : ℕ → Origin
-fixed base = record { now = Some base; since = 0; before = None }
-
-not_before : (n : ℕ) → nat_lt n 0 ≡ false
-not_before n = grind (arith, nat_tests)
-
-pub base_first : (packet : ℕ) → base_for no_origin packet ≡ None
-unfolding base_for
-base_first packet = rw (not_before packet) refl
-
-pub base_fixed : (base packet : ℕ) → base_for (fixed base) packet ≡ Some base
-unfolding base_for
-base_fixed base packet = rw (not_before packet) refl
-
-pub origin_first : (base packet : ℕ) → origin_with no_origin packet base ≡ fixed base
-unfolding origin_with
-origin_first base packet = rw (not_before packet) refl
-
-pub origin_fixed : (base packet : ℕ) → origin_with (fixed base) packet base ≡ fixed base
-unfolding origin_with
-origin_fixed base packet = rw (not_before packet) refl
-
-base_is : (e base : ℕ) (w : CarriedUnit) → base_of (due_from e) (fixed base) w ≡ base
-unfolding base_by
-base_is e base w = rw (base_fixed base w.packet) refl
-
-timed_moved : (e base n place : ℕ) (before : Option ℕ) (ws : List CarriedUnit) → first_fault base before place (map (λ w. w.unit) ws) ≡ None →
-    timed (due_from e) (fixed base) n before ws ≡ map (λ (x : AccessUnit). (n, Ok x)) (moved base before (map (λ w. w.unit) ws))
-unfolding timed first_fault moved unless_fault unless_ahead ahead_of last_dts
-timed_moved e base n place before [] sound = refl
-timed_moved e base n place before (w ∷ ws) sound =
-    let d = due_from e in
-    let u = w.unit in
-    let two = no_fault place (unit_fault base before u) (first_fault base (Some (dts_at base before u.dts)) (place + 1) (map (λ w. w.unit) ws)) sound in
-    let here : at_moment None base before u ≡ Ok (unit_at base before u) = ap (λ (o : Option StampFault). unless_fault None o (unit_at base before u)) two.0 in
-    ap (λ (b : ℕ). (n, at_moment None b before u) ∷ timed d (origin_with (fixed base) w.packet b) n (last_dts before (at_moment None b before u)) ws) (base_is e base w)
-    ∙ ap (λ (o : Origin). (n, at_moment None base before u) ∷ timed d o n (last_dts before (at_moment None base before u)) ws) (origin_fixed base w.packet)
-    ∙ ap (λ (r : Result AccessUnit FeedFault). (n, r) ∷ timed d (fixed base) n (last_dts before r) ws) here
-    ∙ ap (λ (x : ℕ). (n, Ok (unit_at base before u)) ∷ timed d (fixed base) n (Some x) ws) (unit_dts base before u)
-    ∙ ap (λ (xs : List Fed). (n, Ok (unit_at base before u)) ∷ xs) (timed_moved e base n (place + 1) (Some (dts_at base before u.dts)) ws two.1)
-
-base_at_first : (e : ℕ) (w : CarriedUnit) → base_of (due_from e) no_origin w ≡ distance e w.unit.dts
-unfolding base_by
-base_at_first e w = rw (base_first w.packet) refl
-
-first_fixes : (e n : ℕ) (w : CarriedUnit) (ws : List CarriedUnit) → timed (due_from e) no_origin n None (w ∷ ws) ≡ timed (due_from e) (fixed (distance e w.unit.dts)) n None (w ∷ ws)
-unfolding timed
-first_fixes e n w ws =
-    let d = due_from e in
-    let base = distance e w.unit.dts in
-    let one = λ (o : Origin) (b : ℕ). (n, at_moment None b None w.unit) ∷ timed d o n (last_dts None (at_moment None b None w.unit)) ws in
-    ap (λ (b : ℕ). one (origin_with no_origin w.packet b) b) (base_at_first e w)
-    ∙ ap (λ (o : Origin). one o base) (origin_first base w.packet ∙ sym (origin_fixed base w.packet))
-    ∙ ap (λ (b : ℕ). one (origin_with (fixed base) w.packet b) b) (sym (base_is e base w))
-
-moved_by_first : (e n : ℕ) (ws : List CarriedUnit) (u : AccessUnit) (us : List AccessUnit) → map (λ w. w.unit) ws ≡ u ∷ us → first_fault (distance e u.dts) None 0 (u ∷ us) ≡ None →
-    timed (due_from e) no_origin n None ws ≡ map (λ (x : AccessUnit). (n, Ok x)) (moved (distance e u.dts) None (u ∷ us))
-moved_by_first e n [] u us is sound = absurd cc
-moved_by_first e n (w ∷ ws) u us is sound =
-    let head : w.unit ≡ u = cc in
-    let base : distance e w.unit.dts ≡ distance e u.dts = ap (λ (x : AccessUnit). distance e x.dts) head in
-    let all = map (λ (w : CarriedUnit). w.unit) (w ∷ ws) in
-    let whole : first_fault (distance e w.unit.dts) None 0 all ≡ None =
-    subst (λ (b : ℕ). first_fault b None 0 all ≡ None) (sym base) (subst (λ (l : List AccessUnit). first_fault (distance e u.dts) None 0 l ≡ None) (sym is) sound) in
-    first_fixes e n w ws ∙ timed_moved e (distance e w.unit.dts) n 0 None (w ∷ ws) whole
-    ∙ ap (λ (b : ℕ). map (λ (x : AccessUnit). (n, Ok x)) (moved b None all)) base
-    ∙ ap (λ (l : List AccessUnit). map (λ (x : AccessUnit). (n, Ok x)) (moved (distance e u.dts) None l)) is
-
-pub as_carried : FedAsCarried
-as_carried earliest number pid fs u us uncut unlost is sound =
-    let s : FedStreamView = record { number = number; before = None; units = none_so_far pid true; follow = false } in
-    single_timed earliest no_origin s fs (record { unlost = unlost; uncut = uncut; under = no_unit pid fs; follows = refl })
-    ∙ ap (λ (ws : List CarriedUnit). timed (due_from earliest) no_origin number None ws) (sym (uncut_carried true pid fs uncut))
-    ∙ moved_by_first earliest number (carried_units pid fs) u us is sound

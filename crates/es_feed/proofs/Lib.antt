@@ -1,5 +1,7 @@
 pub mod UncutUnits
+pub mod Restarts
 pub mod FedUnits
+pub mod OneStream
 pub mod ListedStreams
 pub mod OwnUnits
 pub mod FedSteps
@@ -12,6 +14,8 @@ pub mod FedMaps
 pub mod FedPackets
 pub mod PlainPackets
 pub mod FedStreams
+pub mod WatchedStreams
 pub mod FedTicks
 pub mod PendingOutput
+pub mod ToldLines
 pub mod PassedStreams

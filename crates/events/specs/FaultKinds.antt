@@ -43,6 +43,7 @@ word_of kinds.NotEmpty = codes "not_empty"
 word_of kinds.Delayed = codes "delayed"
 word_of kinds.Unreferenced = codes "unreferenced"
 word_of kinds.Missing = codes "missing"
+word_of kinds.Rest = codes "rest"
 
 -- the place among all kinds
 unfoldable pub place_of : FaultKind → ℕ
@@ -78,6 +79,7 @@ place_of kinds.NotEmpty = 28
 place_of kinds.Delayed = 29
 place_of kinds.Unreferenced = 30
 place_of kinds.Missing = 31
+place_of kinds.Rest = 32
 
 -- 2. Checks
 
@@ -115,6 +117,7 @@ check_of_kind kinds.NotEmpty = Some checks.EmptyBuffer
 check_of_kind kinds.Delayed = Some checks.DataDelay
 check_of_kind kinds.Unreferenced = Some checks.Unreferenced
 check_of_kind kinds.Missing = Some checks.Pid
+check_of_kind kinds.Rest = None
 
 -- a table that is scrambled is a PAT or a PMT
 unfoldable pub check_of_stream : FaultKind → ℕ → Option Check
@@ -150,6 +153,7 @@ check_of_stream kinds.NotEmpty pid = check_of_kind kinds.NotEmpty
 check_of_stream kinds.Delayed pid = check_of_kind kinds.Delayed
 check_of_stream kinds.Unreferenced pid = check_of_kind kinds.Unreferenced
 check_of_stream kinds.Missing pid = check_of_kind kinds.Missing
+check_of_stream kinds.Rest pid = check_of_kind kinds.Rest
 
 -- a section counts by its table_id, and a section of another table by its PID
 unfoldable pub check_of_section : FaultKind → ℕ → ℕ → Option Check
@@ -185,6 +189,7 @@ check_of_section kinds.NotEmpty pid table = check_of_kind kinds.NotEmpty
 check_of_section kinds.Delayed pid table = check_of_kind kinds.Delayed
 check_of_section kinds.Unreferenced pid table = check_of_kind kinds.Unreferenced
 check_of_section kinds.Missing pid table = check_of_kind kinds.Missing
+check_of_section kinds.Rest pid table = check_of_kind kinds.Rest
 
 unfoldable pub check_of : FaultKind → FaultSource → Option Check
 check_of kind Whole = check_of_kind kind
@@ -226,6 +231,7 @@ is_repetition kinds.NotEmpty = false
 is_repetition kinds.Delayed = false
 is_repetition kinds.Unreferenced = false
 is_repetition kinds.Missing = false
+is_repetition kinds.Rest = false
 
 -- of service information (EN 300 468, table 2): SI_repetition_error comes in addition to the check of the table
 unfoldable pub is_si_repetition : FaultKind → FaultSource → Bool

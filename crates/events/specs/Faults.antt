@@ -82,6 +82,7 @@ input_fault (inputs.PacketSize size) at = None
 input_fault inputs.Empty at = Some (point kinds.Empty Whole 0 None)
 input_fault (inputs.NoStream form) at = Some (point kinds.NoStream Whole 0 None)
 input_fault (inputs.OtherRate e) at = Some (point kinds.OtherRate (Stream e.pid) 0 None)
+input_fault (inputs.Rest e) at = Some (point kinds.Rest Whole e.packet at)
 
 unfoldable pub rule_fault : RuleEvent → Option ℕ → Option Fault
 rule_fault (rules.PtsRepetition e) at = Some (clock_fault kinds.PtsRepetition e at)

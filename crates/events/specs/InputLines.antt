@@ -4,6 +4,7 @@ use Rattle.events.specs.declared.input_event.FileForm.{FileForm}
 use Rattle.events.specs.declared.input_event.InputEvent.{InputEvent}
 use Rattle.events.specs.declared.input_event.InputEvent.TheVariants as inputs
 use Rattle.events.specs.declared.input_event.OtherRate.{OtherRate}
+use Rattle.events.specs.declared.input_event.RestBytes.{RestBytes}
 use Rattle.events.specs.declared.input_event.SlippedBytes.{SlippedBytes}
 use Rattle.events.specs.FileForms.{line_word}
 use Rattle.events.specs.ReportLines.{line_of, number_field, word_field}
@@ -25,9 +26,13 @@ abbrev pub other_rate_line : Bool → OtherRate → List ℕ
 other_rate_line json e = line_of json (codes "other_rate")
     (number_field (codes "pid") e.pid ∷ number_field (codes "given") e.given ∷ number_field (codes "references") e.references ∷ [])
 
+abbrev pub rest_line : Bool → RestBytes → List ℕ
+rest_line json e = line_of json (codes "rest") (number_field (codes "packet") e.packet ∷ number_field (codes "bytes") e.bytes ∷ [])
+
 unfoldable pub input_line : Bool → InputEvent → List ℕ
 input_line json (inputs.Slip e) = slip_line json e
 input_line json (inputs.PacketSize size) = packet_size_line json size
 input_line json inputs.Empty = empty_line json
 input_line json (inputs.NoStream form) = no_stream_line json form
 input_line json (inputs.OtherRate e) = other_rate_line json e
+input_line json (inputs.Rest e) = rest_line json e

@@ -196,6 +196,7 @@ fn input_fault(event: InputEvent, at: Option<u128>) -> Option<Fault>
             0,
             None,
         )),
+        InputEvent::Rest(e) => Some(point(FaultKind::Rest, FaultSource::Whole, e.packet, at)),
     }
 }
 

@@ -39,6 +39,7 @@ pub enum FaultKind {
     Delayed,
     Unreferenced,
     Missing,
+    Rest,
 }
 
 /// Where a fault is: in the whole stream, in the stream of a PID, in the tables of a program, or in a table by PID and table_id.
@@ -89,6 +90,7 @@ impl FaultKind {
             FaultKind::Delayed => "delayed",
             FaultKind::Unreferenced => "unreferenced",
             FaultKind::Missing => "missing",
+            FaultKind::Rest => "rest",
         }
     }
 
@@ -130,6 +132,7 @@ impl FaultKind {
             FaultKind::Delayed => 29,
             FaultKind::Unreferenced => 30,
             FaultKind::Missing => 31,
+            FaultKind::Rest => 32,
         }
     }
 

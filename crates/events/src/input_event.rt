@@ -13,6 +13,15 @@ pub struct SlippedBytes {
     pub bytes: u64,
 }
 
+/// Bytes after the last whole packet.
+#[derive(Clone, Copy)]
+pub struct RestBytes {
+    /// The number of packets before them.
+    pub packet: u64,
+    /// How many they are.
+    pub bytes: u64,
+}
+
 /// What an input that is no transport stream is, by its first bytes.
 #[derive(Clone, Copy, Debug, PartialEq, Eq)]
 pub enum FileForm {
@@ -50,6 +59,7 @@ pub enum InputEvent {
     /// The input is no transport stream.
     NoStream(FileForm),
     OtherRate(OtherRate),
+    Rest(RestBytes),
 }
 
 impl FileForm {

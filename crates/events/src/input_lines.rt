@@ -2,7 +2,7 @@
 ghost use Rattle.std.specs.Prelude.{◌≡◌, ◌++◌, OnOk, string_bytes};
 ghost use Rattle.events.specs.InputLines as spec;
 
-use crate::input_event::{FileForm, InputEvent, OtherRate, SlippedBytes};
+use crate::input_event::{FileForm, InputEvent, OtherRate, RestBytes, SlippedBytes};
 use crate::lines::{number, word, write_line};
 use std::alloc::AllocError;
 
@@ -46,6 +46,17 @@ fn write_other_rate(text: &mut String, json: bool, e: &OtherRate) -> Result<(), 
     write_line(text, json, "other_rate", &fields)
 }
 
+// Appends `rest`.
+fn write_rest(text: &mut String, json: bool, e: &RestBytes) -> Result<(), AllocError>
+    ensures { OnOk result (string_bytes text.new ≡ string_bytes text.old ++ spec.rest_line json e.now) }
+{
+    let fields = [
+        number("packet", u128::from(e.packet)),
+        number("bytes", u128::from(e.bytes)),
+    ];
+    write_line(text, json, "rest", &fields)
+}
+
 /// Appends the line of an event of the input.
 #[tactic(auto, unfolding(crate::specs::InputLines::input_line))]
 pub(crate) fn write_input(
@@ -61,5 +72,6 @@ pub(crate) fn write_input(
         InputEvent::Empty => write_line(text, json, "empty", &[]),
         InputEvent::NoStream(form) => write_no_stream(text, json, *form),
         InputEvent::OtherRate(e) => write_other_rate(text, json, e),
+        InputEvent::Rest(e) => write_rest(text, json, e),
     }
 }

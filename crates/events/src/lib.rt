@@ -46,7 +46,7 @@ pub use event::{
 pub use event_lines::write_events;
 pub use fault::{Fault, Measured, fault_of};
 pub use fault_kind::{FaultKind, FaultSource};
-pub use input_event::{FileForm, InputEvent, OtherRate, SlippedBytes};
+pub use input_event::{FileForm, InputEvent, OtherRate, RestBytes, SlippedBytes};
 pub use mark_event::MarkTotals;
 pub use packet_fault::{CheckWordFault, CounterFault, RefusalCause, RefusedPacket};
 pub use pid_name::PidName;
@@ -59,4 +59,4 @@ pub use summary::{
 };
 pub use timed_event::TimedEvent;
 pub use verdict_text::write_verdict_text;
-pub use video_event::{ElementaryLate, ElementaryTotals, MultiplexingTotals};
+pub use video_event::{ElementaryLate, ElementaryTotals, LateCause, MultiplexingTotals};

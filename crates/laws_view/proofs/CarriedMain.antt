@@ -13,8 +13,8 @@ use Rattle.arrival.specs.declared.arrival.Arrival.TheVariants.{AtRate}
 use Rattle.tstd_rows.specs.History.{arrivals_of, main_fullness, until_of}
 use Rattle.tstd_rows.specs.declared.arriving.Arriving.{Arriving}
 use Rattle.tstd_rows.specs.Held.{empty}
-use Rattle.ts_report.specs.Choices.{RequestView}
-use Rattle.ts_report.specs.Entries.{EntryState}
+use Rattle.ts_watch.specs.Choices.{RequestView}
+use Rattle.es_view.specs.Entries.{EntryState}
 use Rattle.laws_view.specs.StreamPackets.{Before, Followed, after_each, clocks_seen, most_packets}
 use Rattle.laws_view.specs.CarriedStreams.{BegunPayload, CarriesUnits, CutUnit, IsCut, cut_pieces, cut_senders, cut_units, payload_in}
 use Rattle.laws_view.specs.WholeStreams.{followed, known_at_begin, nothing_known, stream_packets}

@@ -27,9 +27,9 @@ use Rattle.laws_run.proofs.MonitoredJobs.{job_kept}
 use Rattle.laws_run.proofs.TablesFirst.{late_slot}
 use Rattle.arrival.specs.declared.clock.PcrSample.{PcrSample}
 use Rattle.arrival.specs.declared.arrival.Arrival.TheVariants.{AtRate}
-use Rattle.ts_report.specs.declared.view_options.ViewOptions.{ViewOptions}
-use Rattle.ts_report.specs.Choices.{RequestView}
-use Rattle.ts_report.specs.Entries.{EntryState}
+use Rattle.es_view.specs.declared.view_options.ViewOptions.{ViewOptions}
+use Rattle.ts_watch.specs.Choices.{RequestView}
+use Rattle.es_view.specs.Entries.{EntryState}
 use Rattle.laws_view.specs.AsMeasured.{AsMeasured, HasClock, IsClockOf, JobLateAsMeasuredLaw, RunLateAsMeasuredLaw}
 use Rattle.laws_view.specs.StreamPackets.{Before, Followed, clock_with, known_after, known_after_all, most_packets, reference_in, sound_packet}
 use Rattle.laws_view.specs.ViewedRuns.{FromTheFirst, IsViewedAs}

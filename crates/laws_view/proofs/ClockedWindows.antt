@@ -6,9 +6,9 @@ use Rattle.clock27.specs.Units.{byte_ticks_at_1bps}
 use Rattle.arrival.specs.declared.arrival.Arrival.TheVariants.{Unknown}
 use Rattle.clocked_packets.specs.Waiting.{no_packet}
 use Rattle.laws_arrival.specs.TimedPackets.{Timed}
-use Rattle.ts_report.specs.Choices.{RequestView}
+use Rattle.ts_watch.specs.Choices.{RequestView}
 use Rattle.ts_report.specs.ClockedViews.{clock_for}
-use Rattle.ts_report.specs.Entries.{EntryState}
+use Rattle.es_view.specs.Entries.{EntryState}
 use Rattle.ts_report.specs.StreamTables.{TableState}
 use Rattle.ts_report.specs.Views.{start}
 use Rattle.laws_view.specs.ClockedWindows.{ClockedWindowLaw, OfClockedWindow, report_tables, timed_in}

@@ -7,10 +7,10 @@ use Rattle.indexmap.specs.IndexMap.{insert_entry}
 use Rattle.ts_packet.specs.Views.{PacketView}
 use Rattle.stream_programs.specs.Streams.{FoundStreamView}
 use Rattle.ts_tables.specs.NamedStreams.{NamedView, clock_of as program_clock, stream_of}
-use Rattle.ts_report.specs.declared.view_options.ViewOptions.{ViewOptions}
-use Rattle.ts_report.specs.Choices.{chosen}
-use Rattle.ts_report.specs.Clocks.{ClockEntries}
-use Rattle.ts_report.specs.Entries.{EntryState}
+use Rattle.es_view.specs.declared.view_options.ViewOptions.{ViewOptions}
+use Rattle.ts_watch.specs.Choices.{chosen}
+use Rattle.es_view.specs.Clocks.{ClockEntries}
+use Rattle.es_view.specs.Entries.{EntryState}
 use Rattle.ts_report.specs.StreamTables.{TableState, beginning, begun, begun_if, entry_taken, new_entry, stream_buffers, stream_frames, stream_limit, stream_rates, taken, taken_at, taken_if, with_entry}
 use Rattle.laws_view.proofs.Lists.{get_either, get_first, get_last, lookup_other, lookup_same, set_other, set_same, some_is}
 

@@ -9,14 +9,14 @@ use Rattle.laws_arrival.specs.TimedPackets.{Timed}
 use Rattle.tstd_rows.specs.Held.{Held}
 use Rattle.tstd_rows.specs.Entering.{EnteredView, after, entered}
 use Rattle.tstd_rows.specs.declared.arriving.Arriving.{Arriving}
-use Rattle.ts_report.specs.declared.tally.Tally.{Tally}
-use Rattle.ts_report.specs.declared.view_options.ViewOptions.{ViewOptions}
-use Rattle.ts_report.specs.Choices.{RequestView}
-use Rattle.ts_report.specs.Clocks.{clock_of}
-use Rattle.ts_report.specs.Entries.{EntryState, arriving, beginning_in, is_unread}
-use Rattle.ts_report.specs.Tallies.{tally_after}
+use Rattle.es_view.specs.declared.tally.Tally.{Tally}
+use Rattle.es_view.specs.declared.view_options.ViewOptions.{ViewOptions}
+use Rattle.ts_watch.specs.Choices.{RequestView}
+use Rattle.es_view.specs.Clocks.{clock_of}
+use Rattle.es_view.specs.Entries.{EntryState, arriving, beginning_in, is_unread}
+use Rattle.es_view.specs.Tallies.{tally_after}
 use Rattle.ts_report.specs.Seen.{next_window}
-use Rattle.ts_report.specs.Tallies.{in_window}
+use Rattle.es_view.specs.Tallies.{in_window}
 use Rattle.ts_report.specs.Views.{ViewState, clocked, start, with_begun}
 use Rattle.laws_view.specs.HeldWindows.{BeginIn, OfWindow, TimedWindowLaw, options_then, window_entering}
 use Rattle.laws_view.specs.StreamPackets.{Before, Followed, after_each, clock_with, entered_each, known_after, seen_in, sound_packet}

@@ -16,7 +16,7 @@ use Rattle.tstd_rows.specs.declared.unit_seen.DueTime.{DueTime}
 use Rattle.tstd_rows.specs.declared.arriving.Arriving.{Arriving}
 use Rattle.tstd_rows.specs.Held.{Held, begun, carried, empty, main_ended, main_found, main_most, passed}
 use Rattle.tstd_rows.specs.Entering.{EnteredView, after, after_begin, after_header, after_lead, after_payload, after_unit, ended_with, entered, lead_in, nothing, payload_main, size_of, takes_in, with_packet}
-use Rattle.ts_report.specs.Entries.{EntryState}
+use Rattle.es_view.specs.Entries.{EntryState}
 use Rattle.laws_view.specs.MainExcesses.{NoMainExcessLaw, TimedNoExcessLaw}
 use Rattle.laws_view.specs.TimedStreams.{Entering, after_entering, entered_by, entering, stream_entering}
 use Rattle.laws_view.specs.WholeStreams.{stream_packets}

@@ -7,8 +7,8 @@ use Rattle.tstd.specs.PidPackets.{packets_from}
 use Rattle.tstd.specs.Carried.{packets_on}
 use Rattle.tstd.proofs.StreamPackets.{packets_same}
 use Rattle.tstd_rows.specs.Held.{transport_most}
-use Rattle.ts_report.specs.Choices.{RequestView}
-use Rattle.ts_report.specs.Entries.{EntryState}
+use Rattle.ts_watch.specs.Choices.{RequestView}
+use Rattle.es_view.specs.Entries.{EntryState}
 use Rattle.laws_view.specs.WholeStreams.{IsWhole, indices_of}
 use Rattle.laws_view.specs.MeasuredStreams.{MeasuredStreamLaw}
 use Rattle.laws_view.proofs.LaterPackets.{last_slots, packets_two, peak_le, slots_two}

@@ -29,8 +29,8 @@ use Rattle.monitor.proofs.FoundWhole.{packet_count}
 use Rattle.arrival.specs.declared.arrival.Arrival.TheVariants.{AtRate}
 use Rattle.tstd_rows.specs.History.{main_fullness}
 use Rattle.tstd_rows.specs.Held.{Held, empty, main_most}
-use Rattle.ts_report.specs.Choices.{RequestView}
-use Rattle.ts_report.specs.Entries.{EntryState}
+use Rattle.ts_watch.specs.Choices.{RequestView}
+use Rattle.es_view.specs.Entries.{EntryState}
 use Rattle.laws_view.specs.StreamPackets.{Before, Followed, after_each, clocks_seen, most_packets}
 use Rattle.laws_view.specs.CarriedStreams.{CutUnit, cut_pieces, cut_senders, cut_units}
 use Rattle.laws_view.specs.WholeStreams.{IsWhole, followed, known_at_begin, nothing_known, stream_packets}

@@ -25,8 +25,8 @@ use Rattle.mux_core.specs.Histories.{content_at}
 use Rattle.laws_run.proofs.MonitoredJobs.{job_kept}
 use Rattle.tstd_rows.specs.Limits.{tb_size}
 use Rattle.tstd_rows.specs.Held.{transport_most, transport_under_way}
-use Rattle.ts_report.specs.Choices.{RequestView}
-use Rattle.ts_report.specs.Entries.{EntryState}
+use Rattle.ts_watch.specs.Choices.{RequestView}
+use Rattle.es_view.specs.Entries.{EntryState}
 use Rattle.laws_view.specs.StreamPackets.{most_packets}
 use Rattle.laws_view.specs.WholeStreams.{IsWhole, indices_of}
 use Rattle.laws_view.specs.MuxedStreams.{JobNoExcessLaw, MuxedStreamLaw, NoExcess}
@@ -34,12 +34,12 @@ use Rattle.laws_view.proofs.MeasuredStreams.{no_fuller}
 use Rattle.laws_view.proofs.RateStreams.{whole_stream_law}
 
 -- bytes that find room begin no excess
-room_after : (step size prev : ℕ) (ts : List ℕ) → AreOver false step size prev ts → excess_after step size prev None ts ≡ None
+pub room_after : (step size prev : ℕ) (ts : List ℕ) → AreOver false step size prev ts → excess_after step size prev None ts ≡ None
 unfolding excess_after AreOver
 room_after step size prev [] room = refl
 room_after step size prev (t ∷ ts) room = rw room.0 (room_after step size (max t prev + step) ts room.1)
 
-room_ended : (step size prev : ℕ) (ts : List ℕ) → AreOver false step size prev ts → excesses_ended step size prev None ts ≡ []
+pub room_ended : (step size prev : ℕ) (ts : List ℕ) → AreOver false step size prev ts → excesses_ended step size prev None ts ≡ []
 unfolding excesses_ended AreOver
 room_ended step size prev [] room = refl
 room_ended step size prev (t ∷ ts) room = rw room.0 (room_ended step size (max t prev + step) ts room.1)

@@ -11,8 +11,8 @@ use Rattle.laws_arrival.specs.Times.{times_among}
 use Rattle.laws_arrival.proofs.Rising.{among-append}
 use Rattle.tstd_rows.specs.History.{arrivals_of}
 use Rattle.tstd_rows.specs.Held.{Held}
-use Rattle.ts_report.specs.Choices.{RequestView}
-use Rattle.ts_report.specs.Entries.{EntryState}
+use Rattle.ts_watch.specs.Choices.{RequestView}
+use Rattle.es_view.specs.Entries.{EntryState}
 use Rattle.ts_report.specs.Views.{start}
 use Rattle.laws_view.specs.HeldWindows.{OfWindow, window_entering}
 use Rattle.laws_view.specs.StreamPackets.{most_packets}

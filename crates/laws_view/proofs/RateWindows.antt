@@ -12,13 +12,13 @@ use Rattle.tstd_rows.specs.History.{transport_of}
 use Rattle.tstd_rows.specs.Held.{Held}
 use Rattle.tstd_rows.specs.Entering.{after}
 use Rattle.tstd_rows.specs.declared.arriving.Arriving.{Arriving}
-use Rattle.ts_report.specs.declared.view_options.ViewOptions.{ViewOptions}
-use Rattle.ts_report.specs.Choices.{RequestView}
-use Rattle.ts_report.specs.Entries.{EntryState}
+use Rattle.es_view.specs.declared.view_options.ViewOptions.{ViewOptions}
+use Rattle.ts_watch.specs.Choices.{RequestView}
+use Rattle.es_view.specs.Entries.{EntryState}
 use Rattle.ts_report.specs.Seen.{with_arrival}
 use Rattle.ts_report.specs.StreamTables.{TableState}
 use Rattle.ts_report.specs.Views.{ViewState, after_all, start}
-use Rattle.ts_report.specs.WindowEvents.{window_of}
+use Rattle.ts_watch.specs.WindowEvents.{window_of}
 use Rattle.laws_view.specs.HeldWindows.{BeginIn, HeldWindowLaw, OfRateWindow, OfWindow, known_then, window_entering, window_packets}
 use Rattle.laws_view.specs.StreamPackets.{Before, Followed, most_packets}
 use Rattle.laws_view.specs.TimedStreams.{Entering, InOrder, entering, entering_among, followed_by, view_by}

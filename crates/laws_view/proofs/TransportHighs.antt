@@ -15,9 +15,9 @@ use Rattle.tstd_rows.specs.declared.unit_seen.UnitSeen.{UnitSeen}
 use Rattle.tstd_rows.specs.Held.{Held, carried, passed, transport_found, transport_most}
 use Rattle.tstd_rows.specs.Entering.{EnteredView, after, after_begin, after_header, after_lead, after_payload, after_unit, ended_with, entered, lead_in, nothing, payload_transport_most, size_of, takes_in, with_packet}
 use Rattle.tstd_rows.specs.declared.arriving.Arriving.{Arriving}
-use Rattle.ts_report.specs.Tallies.{tally_after}
-use Rattle.ts_report.specs.Tallies.{in_window, with_excesses, with_packet as with_tallied, with_unit_if}
-use Rattle.ts_report.specs.declared.tally.Tally.{Tally}
+use Rattle.es_view.specs.Tallies.{tally_after}
+use Rattle.es_view.specs.Tallies.{in_window, with_excesses, with_packet as with_tallied, with_unit_if}
+use Rattle.es_view.specs.declared.tally.Tally.{Tally}
 use Rattle.laws_view.specs.HeldWindows.{window_entering}
 use Rattle.laws_view.specs.TimedStreams.{Entering, after_entering, entered_by}
 use Rattle.laws_view.specs.TransportHighs.{IsFull, IsFullWith, TimedTransportLaw, TransportHighLaw, TransportWithoutLaw, WindowTransportLaw, transport_after}

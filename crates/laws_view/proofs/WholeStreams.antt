@@ -2,16 +2,16 @@
 use Rattle.std.proofs.Common.{◌≡◌, ◌∙◌, sym, ap, refl, ℕ, List, ◌++◌, ◌∷◌, [], Option, None}
 use Rattle.std.proofs.lemmas.List.{append_assoc}
 use Rattle.events.specs.declared.event.Event.{Event}
-use Rattle.ts_report.specs.EntryEvents.{main_event, main_figures, transport_total, under_way_events}
-use Rattle.ts_report.specs.Entries.{EntryState, closed, closed_seen, place_at, seen_held, stays_closing}
-use Rattle.ts_report.specs.HeldEvents.{tally_events}
-use Rattle.ts_report.specs.MarkTallies.{mark_events}
-use Rattle.ts_report.specs.VideoEvents.{video_closing_events}
-use Rattle.ts_report.specs.VideoFigures.{figures_of}
+use Rattle.es_view.specs.EntryEvents.{main_event, main_figures, transport_total, under_way_events}
+use Rattle.es_view.specs.Entries.{EntryState, closed, closed_seen, place_at, seen_held, stays_closing}
+use Rattle.es_view.specs.HeldEvents.{tally_events}
+use Rattle.es_view.specs.MarkTallies.{mark_events}
+use Rattle.es_view.specs.VideoEvents.{video_closing_events}
+use Rattle.es_view.specs.VideoFigures.{figures_of}
 use Rattle.laws_view.specs.WholeStreams.{LastEventsLaw}
 
 by_packets : (window : ℕ) (e : EntryState) → e.framed ≡ None → (seen_held e ≡ e.held) × (closed_seen window e ≡ closed window e)
-unfolding Rattle.ts_report.specs.Entries.held_in Rattle.ts_report.specs.Entries.tally_in
+unfolding Rattle.es_view.specs.Entries.held_in Rattle.es_view.specs.Entries.tally_in
 by_packets window e none = rw none (refl, refl)
 
 pub last_events_law : LastEventsLaw

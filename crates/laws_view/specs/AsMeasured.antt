@@ -18,8 +18,8 @@ use Rattle.mux_core.specs.Histories.{content_at}
 use Rattle.mux_core.specs.WholeJobs.{capacity_for, first_refused, job_history, output_of}
 use Rattle.arrival.specs.declared.arrival.Arrival.TheVariants.{AtRate}
 use Rattle.tstd_rows.specs.Held.{main_most, transport_most}
-use Rattle.ts_report.specs.Choices.{RequestView}
-use Rattle.ts_report.specs.Entries.{EntryState}
+use Rattle.ts_watch.specs.Choices.{RequestView}
+use Rattle.es_view.specs.Entries.{EntryState}
 use Rattle.laws_view.specs.StreamPackets.{known_after_all, most_packets}
 use Rattle.laws_view.specs.CarriedStreams.{CarriesUnits, CutUnit, KeepsClock, cut_units}
 use Rattle.laws_view.specs.ViewedRuns.{FromTheFirst, IsViewedAs}

@@ -8,7 +8,7 @@ use Rattle.pes_packet.specs.Encoding.{header_size, pes_packet_bytes}
 use Rattle.pes_packet.specs.StreamIds.{fits_packet}
 use Rattle.arrival.specs.declared.clock.PcrSample.{PcrSample}
 use Rattle.arrival.specs.Clock.{pcr_period}
-use Rattle.ts_report.specs.Clocks.{longest_stay, tick_of}
+use Rattle.es_view.specs.Clocks.{longest_stay, tick_of}
 use Rattle.laws_view.specs.StreamPackets.{Before, Followed, clocks_seen}
 
 -- ---- the PES packets of units, in payloads

@@ -4,10 +4,10 @@ use Rattle.arrival.specs.declared.arrival.Arrival.{Arrival}
 use Rattle.arrival.specs.declared.arrival.Arrival.TheVariants.{Unknown}
 use Rattle.clocked_packets.specs.Waiting.{QueueState, last_arrival, released, stepped}
 use Rattle.laws_arrival.specs.TimedPackets.{Timed, timed_packets}
-use Rattle.ts_report.specs.Choices.{RequestView}
+use Rattle.ts_watch.specs.Choices.{RequestView}
 use Rattle.ts_report.specs.ClockedViews.{ClockedState, clock_for}
 use Rattle.ts_report.specs.ClockedViews as clocked
-use Rattle.ts_report.specs.Entries.{EntryState}
+use Rattle.es_view.specs.Entries.{EntryState}
 use Rattle.ts_report.specs.StreamTables.{TableState}
 use Rattle.ts_report.specs.Views.{ViewState, after_packet, arriving, start}
 use Rattle.laws_view.specs.HeldWindows.{BeginIn, options_then, window_entering}

@@ -4,8 +4,8 @@ use Rattle.std.specs.Prelude.{◌≡◌, ℕ, ◌+◌, ◌^◌, ◌<◌, List, �
 use Rattle.arrival.specs.declared.arrival.Arrival.TheVariants.{Unknown}
 use Rattle.tstd_rows.specs.Held.{main_most, transport_most}
 use Rattle.laws_arrival.specs.TimedPackets.{Timed}
-use Rattle.ts_report.specs.Choices.{RequestView}
-use Rattle.ts_report.specs.Entries.{EntryState}
+use Rattle.ts_watch.specs.Choices.{RequestView}
+use Rattle.es_view.specs.Entries.{EntryState}
 use Rattle.ts_report.specs.StreamTables.{TableState}
 use Rattle.ts_report.specs.Views.{start}
 use Rattle.laws_view.specs.ClockedWindows.{report_tables, timed_in}

@@ -2,13 +2,13 @@
 use Rattle.std.specs.Prelude.{◌≡◌, ℕ, ◌+◌, ◌^◌, ◌<◌, ◌≤◌, ◌==◌, false, List, [], ◌∷◌, ◌++◌, length, slice_get, unwrap_or, Some, None}
 use Rattle.tstd_rows.specs.declared.arriving.Arriving.{Arriving}
 use Rattle.laws_arrival.specs.TimedPackets.{Timed}
-use Rattle.ts_report.specs.declared.view_options.ViewOptions.{ViewOptions}
-use Rattle.ts_report.specs.Choices.{RequestView}
-use Rattle.ts_report.specs.Clocks.{clock_of}
-use Rattle.ts_report.specs.Entries.{EntryState}
+use Rattle.es_view.specs.declared.view_options.ViewOptions.{ViewOptions}
+use Rattle.ts_watch.specs.Choices.{RequestView}
+use Rattle.es_view.specs.Clocks.{clock_of}
+use Rattle.es_view.specs.Entries.{EntryState}
 use Rattle.ts_report.specs.Seen.{with_arrival}
 use Rattle.ts_report.specs.Views.{ViewState, after_all, start}
-use Rattle.ts_report.specs.WindowEvents.{window_of}
+use Rattle.ts_watch.specs.WindowEvents.{window_of}
 use Rattle.laws_view.specs.StreamPackets.{Before, seen_among}
 use Rattle.laws_view.specs.TimedStreams.{Entering, entering, entering_among, followed_by, view_by}
 use Rattle.laws_view.specs.WholeStreams.{followed}

@@ -8,8 +8,8 @@ use Rattle.tstd.specs.Carried.{packets_on}
 use Rattle.tstd.specs.Measured.{IsStreamFullness}
 use Rattle.tstd.specs.declared.fullness.StreamFullness.{StreamFullness}
 use Rattle.tstd_rows.specs.Held.{transport_most}
-use Rattle.ts_report.specs.Choices.{RequestView}
-use Rattle.ts_report.specs.Entries.{EntryState}
+use Rattle.ts_watch.specs.Choices.{RequestView}
+use Rattle.es_view.specs.Entries.{EntryState}
 use Rattle.laws_view.specs.WholeStreams.{IsWhole}
 
 -- the most in the transport buffer is no more than what measuring all packets of the PID finds, and the same where its buffers begin with

@@ -11,9 +11,9 @@ use Rattle.mux_core.specs.WholeJobs.{capacity_for, first_refused, job_history, o
 use Rattle.arrival.specs.declared.arrival.Arrival.TheVariants.{AtRate}
 use Rattle.tstd_rows.specs.Limits.{tb_size}
 use Rattle.tstd_rows.specs.Held.{empty, transport_most, transport_under_way}
-use Rattle.ts_report.specs.Choices.{RequestView}
-use Rattle.ts_report.specs.EntryEvents.{with_one}
-use Rattle.ts_report.specs.Entries.{EntryState, closed}
+use Rattle.ts_watch.specs.Choices.{RequestView}
+use Rattle.es_view.specs.EntryEvents.{with_one}
+use Rattle.es_view.specs.Entries.{EntryState, closed}
 use Rattle.ts_report.specs.Views.{after_all, start}
 use Rattle.laws_view.specs.StreamPackets.{entered_each, most_packets}
 use Rattle.laws_view.specs.WholeStreams.{IsWhole, stream_packets}

@@ -10,9 +10,9 @@ use Rattle.arrival.specs.declared.arrival.Arrival.{Arrival}
 use Rattle.tstd_rows.specs.Held.{Held}
 use Rattle.tstd_rows.specs.Entering.{EnteredView, after, entered}
 use Rattle.tstd_rows.specs.declared.arriving.Arriving.{Arriving}
-use Rattle.ts_report.specs.declared.view_options.ViewOptions.{ViewOptions}
-use Rattle.ts_report.specs.Clocks.{place_of, sample_in}
-use Rattle.ts_report.specs.Entries.{arriving, counter_after}
+use Rattle.es_view.specs.declared.view_options.ViewOptions.{ViewOptions}
+use Rattle.es_view.specs.Clocks.{place_of, sample_in}
+use Rattle.es_view.specs.Entries.{arriving, counter_after}
 
 -- packets from this one on enter no buffer: those before are all in the first 2^40 bytes
 abbrev pub most_packets : ℕ

@@ -17,10 +17,10 @@ use Rattle.tstd_rows.specs.History.{arrivals_of}
 use Rattle.tstd_rows.specs.declared.arriving.Arriving.{Arriving}
 use Rattle.tstd_rows.specs.Entering.{EnteredView, after, entered}
 use Rattle.tstd_rows.specs.Held.{Held, empty}
-use Rattle.ts_report.specs.Choices.{RequestView}
+use Rattle.ts_watch.specs.Choices.{RequestView}
 use Rattle.ts_report.specs.ClockedViews.{clock_for, last_view}
 use Rattle.ts_report.specs.ClockedViews as clocked
-use Rattle.ts_report.specs.Entries.{EntryState}
+use Rattle.es_view.specs.Entries.{EntryState}
 use Rattle.ts_report.specs.Seen.{with_arrival}
 use Rattle.ts_report.specs.Views.{ViewState, after_packet, arriving, start}
 use Rattle.laws_view.specs.StreamPackets.{Before, Followed, known_after, most_packets, seen_in, sound_packet}

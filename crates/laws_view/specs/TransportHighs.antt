@@ -9,10 +9,10 @@ use Rattle.tstd_rows.specs.Held.{Held}
 use Rattle.tstd_rows.specs.Entering.{EnteredView}
 use Rattle.tstd_rows.specs.History.{arrivals_of}
 use Rattle.laws_arrival.specs.TimedPackets.{Timed}
-use Rattle.ts_report.specs.Choices.{RequestView}
-use Rattle.ts_report.specs.Entries.{EntryState}
-use Rattle.ts_report.specs.Tallies.{in_window}
-use Rattle.ts_report.specs.declared.tally.Tally.{Tally}
+use Rattle.ts_watch.specs.Choices.{RequestView}
+use Rattle.es_view.specs.Entries.{EntryState}
+use Rattle.es_view.specs.Tallies.{in_window}
+use Rattle.es_view.specs.declared.tally.Tally.{Tally}
 use Rattle.laws_view.specs.ClockedWindows.{OfClockedWindow}
 use Rattle.laws_view.specs.HeldWindows.{OfRateWindow, OfWindow, window_entering, window_packets}
 use Rattle.laws_view.specs.StreamPackets.{most_packets}

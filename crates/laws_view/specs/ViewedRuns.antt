@@ -18,9 +18,9 @@ use Rattle.mux_core.specs.WholeJobs.{capacity_for, first_refused, job_history, o
 use Rattle.laws_run.specs.TablesFirst.{DueLate}
 use Rattle.arrival.specs.declared.arrival.Arrival.TheVariants.{AtRate}
 use Rattle.tstd_rows.specs.Held.{empty, main_most}
-use Rattle.ts_report.specs.Choices.{RequestView}
-use Rattle.ts_report.specs.Entries.{EntryState, closed}
-use Rattle.ts_report.specs.Tallies.{is_late}
+use Rattle.ts_watch.specs.Choices.{RequestView}
+use Rattle.es_view.specs.Entries.{EntryState, closed}
+use Rattle.es_view.specs.Tallies.{is_late}
 use Rattle.laws_view.specs.StreamPackets.{entered_each, most_packets}
 use Rattle.laws_view.specs.StreamUnits.{all_units}
 use Rattle.laws_view.specs.WholeStreams.{IsWhole, stream_packets}

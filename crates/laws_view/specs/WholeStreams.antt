@@ -21,15 +21,15 @@ use Rattle.tstd_rows.specs.declared.arriving.Arriving.{Arriving}
 use Rattle.tstd_rows.specs.Limits.{tb_size}
 use Rattle.tstd_rows.specs.Entering.{EnteredView}
 use Rattle.tstd_rows.specs.Held.{empty, main_most, transport_most, transport_under_way}
-use Rattle.ts_report.specs.declared.view_options.ViewOptions.{ViewOptions}
-use Rattle.ts_report.specs.Choices.{RequestView}
+use Rattle.es_view.specs.declared.view_options.ViewOptions.{ViewOptions}
+use Rattle.ts_watch.specs.Choices.{RequestView}
 use Rattle.events.specs.declared.event.Event.{Event}
-use Rattle.ts_report.specs.EntryEvents.{main_event, main_figures, transport_event, with_one}
-use Rattle.ts_report.specs.Entries.{EntryState, closed, closed_seen, end_events, place_at, seen_held, stays_closing}
-use Rattle.ts_report.specs.Tallies.{is_late}
-use Rattle.ts_report.specs.MarkTallies.{mark_events}
-use Rattle.ts_report.specs.VideoEvents.{video_closing_events}
-use Rattle.ts_report.specs.VideoFigures.{figures_of}
+use Rattle.es_view.specs.EntryEvents.{main_event, main_figures, transport_event, with_one}
+use Rattle.es_view.specs.Entries.{EntryState, closed, closed_seen, end_events, place_at, seen_held, stays_closing}
+use Rattle.es_view.specs.Tallies.{is_late}
+use Rattle.es_view.specs.MarkTallies.{mark_events}
+use Rattle.es_view.specs.VideoEvents.{video_closing_events}
+use Rattle.es_view.specs.VideoFigures.{figures_of}
 use Rattle.ts_report.specs.StreamTables.{beginning, stream_buffers}
 use Rattle.ts_report.specs.Views.{ViewState, after_all, start}
 use Rattle.laws_view.specs.StreamUnits.{all_units, units_ended}

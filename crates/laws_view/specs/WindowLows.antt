@@ -5,9 +5,9 @@ use Rattle.tstd_rows.specs.Held.{Held}
 use Rattle.tstd_rows.specs.Entering.{EnteredView, after, size_of, takes_in}
 use Rattle.tstd_rows.specs.History.{Part}
 use Rattle.tstd_rows.specs.Lows.{IsLow, least_of_both}
-use Rattle.ts_report.specs.Tallies.{tally_after}
-use Rattle.ts_report.specs.Tallies.{in_window}
-use Rattle.ts_report.specs.declared.tally.Tally.{Tally}
+use Rattle.es_view.specs.Tallies.{tally_after}
+use Rattle.es_view.specs.Tallies.{in_window}
+use Rattle.es_view.specs.declared.tally.Tally.{Tally}
 use Rattle.laws_view.specs.TimedStreams.{Entering, after_entering, entered_by}
 
 -- the least that a byte of these packets finds in the main buffer, and that so far

@@ -5,6 +5,8 @@ mod Elements
 pub mod JobUnits
 mod AndThen
 mod JobInputs
+mod AskedMarks
+mod MapWarnings
 mod NewPlaces
 pub mod NewNumbersApart
 mod NewNumbersBecome

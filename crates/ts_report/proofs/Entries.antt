@@ -3,8 +3,8 @@ use Rattle.std.proofs.Common.{◌≡◌, ◌∙◌, sym, ℕ, zero, suc, Bool, t
 use Rattle.std.specs.Prelude.{flat_map, set, slice_get}
 use Rattle.std.specs.List.{list_all}
 use Rattle.events.specs.declared.event.Event.{Event}
-use Rattle.ts_report.specs.declared.stream_entry.StreamEntry.{StreamEntry}
-use Rattle.ts_report.specs.Entries.{EntryState, IsEntry}
+use Rattle.es_view.specs.declared.stream_entry.StreamEntry.{StreamEntry}
+use Rattle.es_view.specs.Entries.{EntryState, IsEntry}
 use Rattle.ts_report.specs.StreamTables.{AreEntries}
 
 pub same_length : (bs : List StreamEntry) (es : List EntryState) → AreEntries bs es → length bs ≡ length es
@@ -116,10 +116,3 @@ none_unjudged f whole (e ∷ es) are same = absurd are
 
 pub all_good : (f : EntryState → Bool) (whole : Bool) → Unjudged [] f whole → true ≡ whole
 all_good f whole a = none_unjudged f whole a.left a.are a.same
-
--- past the end nothing is left
-pub drop_past : {X : Type 0} (xs : List X) (i : ℕ) → length xs ≤ i → drop i xs ≡ []
-drop_past [] zero h = refl
-drop_past [] (suc i) h = refl
-drop_past (x ∷ xs) zero h = absurd (omega arith)
-drop_past (x ∷ xs) (suc i) h = drop_past xs i (omega arith)

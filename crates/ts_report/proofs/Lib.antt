@@ -2,10 +2,4 @@ pub mod Entries
 pub mod Packets
 pub mod ClockedPackets
 pub mod Tables
-pub mod Sections
-pub mod HeaderTables
-pub mod TablePackets
-pub mod Videos
-pub mod Frames
-pub mod Payloads
-pub mod Framings
+pub mod NewFramings

@@ -6,7 +6,7 @@ use Rattle.clocked_packets.specs.Waiting.{QueueState, last_arrival, no_packet, r
 use Rattle.clocked_packets.specs.declared.packet_queue.ClockPid.{ClockPid}
 use Rattle.clocked_packets.specs.declared.packet_queue.ClockPid.TheVariants.{OfFirst, OfProgram}
 use Rattle.events.specs.declared.event.Event.{Event}
-use Rattle.ts_report.specs.Choices.{RequestView}
+use Rattle.ts_watch.specs.Choices.{RequestView}
 use Rattle.ts_report.specs.Moments.{has_moments, moment_at}
 use Rattle.ts_report.specs.Seen.{arrival_events}
 use Rattle.ts_report.specs.Views.{IsView, ViewState, arriving}

@@ -29,17 +29,17 @@ use Rattle.arrival.specs.declared.arrival.Arrival.{Arrival}
 use Rattle.arrival.specs.declared.arrival.Arrival.TheVariants.{Unknown, AtRate, OnLines}
 use Rattle.events.specs.declared.event.Event.{Event}
 use Rattle.events.specs.declared.event.Event.TheVariants as found
-use Rattle.ts_report.specs.declared.view_options.ViewOptions.{ViewOptions}
-use Rattle.ts_report.specs.Clocks.{ClockEntries, clocks_after, no_clocks}
-use Rattle.ts_report.specs.ClockEvents.{clock_events, errors_in, report_events_if}
-use Rattle.ts_report.specs.Choices.{ChoiceView}
-use Rattle.ts_report.specs.ReferenceEvents.{reference_events}
-use Rattle.ts_report.specs.RuleEvents.{RuleState, accuracy_count, accuracy_events, judge_after, no_rule, packet_events, with_judge}
-use Rattle.ts_report.specs.RuleEvents as rules
-use Rattle.ts_report.specs.SystemEvents.{excess_events}
-use Rattle.ts_report.specs.TableEvents.{TablesState, has_table, no_tables, table_events}
-use Rattle.ts_report.specs.TableEvents as tables
-use Rattle.ts_report.specs.WindowEvents.{pid_events, window_of}
+use Rattle.es_view.specs.declared.view_options.ViewOptions.{ViewOptions}
+use Rattle.es_view.specs.Clocks.{ClockEntries, clocks_after, no_clocks}
+use Rattle.ts_watch.specs.ClockEvents.{clock_events, errors_in, report_events_if}
+use Rattle.ts_watch.specs.Choices.{ChoiceView}
+use Rattle.ts_watch.specs.ReferenceEvents.{reference_events}
+use Rattle.ts_watch.specs.RuleEvents.{RuleState, accuracy_count, accuracy_events, judge_after, no_rule, packet_events, with_judge}
+use Rattle.ts_watch.specs.RuleEvents as rules
+use Rattle.ts_watch.specs.SystemEvents.{excess_events}
+use Rattle.ts_watch.specs.TableEvents.{TablesState, has_table, no_tables, table_events}
+use Rattle.ts_watch.specs.TableEvents as tables
+use Rattle.ts_watch.specs.WindowEvents.{pid_events, window_of}
 
 -- the number of packets, and of those that are refused or have transport_error_indicator; the window of the last packet that is
 -- not; the packets of each PID; the last clock reference of each, and what all of them came to, by the rate, with the number of

@@ -13,22 +13,22 @@ use Rattle.ts_tables.specs.NamedStreams.{NamedView, stream_of}
 use Rattle.ts_tables.specs.NamedStreams as naming
 use Rattle.tstd_rows.specs.Held.{Held, empty}
 use Rattle.events.specs.declared.event.Event.{Event}
-use Rattle.ts_report.specs.declared.stream_entry.StreamEntry.{StreamEntry}
+use Rattle.es_view.specs.declared.stream_entry.StreamEntry.{StreamEntry}
 use Rattle.ts_report.specs.declared.stream_table.StreamTable.{StreamTable}
-use Rattle.ts_report.specs.declared.view_options.ViewOptions.{ViewOptions}
-use Rattle.ts_report.specs.Choices.{ChoiceView, buffers_for, chosen, frames_for, rates_for}
-use Rattle.ts_report.specs.Clocks.{ClockEntries, clock_of}
-use Rattle.ts_report.specs.Entries.{EntryState, Framed, IsEntry, end_events, entry_after, entry_events, units_of}
-use Rattle.ts_report.specs.EntryFrames.{unit_in}
+use Rattle.es_view.specs.declared.view_options.ViewOptions.{ViewOptions}
+use Rattle.ts_watch.specs.Choices.{ChoiceView, buffers_for, chosen, frames_for, rates_for}
+use Rattle.es_view.specs.Clocks.{ClockEntries, clock_of}
+use Rattle.es_view.specs.Entries.{EntryState, Framed, IsEntry, end_events, entry_after, entry_events, units_of}
+use Rattle.es_view.specs.EntryFrames.{unit_in}
 use Rattle.stream_coding.specs.declared.frame_headers.FrameKind.{FrameKind}
 use Rattle.stream_coding.specs.FrameWalks.{no_walk}
 use Rattle.stream_coding.specs.Stays.{longest_stay}
-use Rattle.ts_report.specs.Entries.{is_good as entry_is_good}
-use Rattle.ts_report.specs.EntryEvents.{stream_event}
-use Rattle.ts_report.specs.Tallies.{none_counted}
-use Rattle.ts_report.specs.VideoFigures.{sizes_if}
-use Rattle.ts_report.specs.VideoTallies.{none_of_video}
-use Rattle.ts_report.specs.MarkTallies.{none_marked}
+use Rattle.es_view.specs.Entries.{is_good as entry_is_good}
+use Rattle.es_view.specs.EntryEvents.{stream_event}
+use Rattle.es_view.specs.Tallies.{none_counted}
+use Rattle.es_view.specs.VideoFigures.{sizes_if}
+use Rattle.es_view.specs.VideoTallies.{none_of_video}
+use Rattle.es_view.specs.MarkTallies.{none_marked}
 use Rattle.tstd_rows.specs.declared.video_buffers.VideoRates.{VideoRates}
 
 -- which streams are viewed, the place of each PID, and the streams

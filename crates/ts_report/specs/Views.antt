@@ -7,15 +7,15 @@ use Rattle.ts_packet.specs.Packets.{null_packet}
 use Rattle.events.specs.declared.event.Event.{Event}
 use Rattle.ts_report.specs.declared.view.View.{View}
 use Rattle.arrival.specs.declared.arrival.Arrival.{Arrival}
-use Rattle.ts_report.specs.Choices.{RequestView}
+use Rattle.ts_watch.specs.Choices.{RequestView}
 use Rattle.events.specs.declared.packet_fault.RefusalCause.TheVariants as causes
 use Rattle.ts_report.specs.Seen.{SeenState, cause_of, clock_errors, counted, counter_events, section_events, end_event, next_window, nothing_seen, pid_ends, refused_events, system_excesses, with_clock, with_counter_read}
-use Rattle.ts_report.specs.RuleEvents.{holds_none}
+use Rattle.ts_watch.specs.RuleEvents.{holds_none}
 use Rattle.ts_report.specs.Seen as seeing
 use Rattle.ts_report.specs.StreamTables.{IsTable, TableState, begin_events, begun, has_stream, events_of, no_streams, table_end, table_units, taken}
 use Rattle.ts_report.specs.StreamTables as tables
-use Rattle.ts_report.specs.SystemEvents.{all_fit, system_events}
-use Rattle.ts_report.specs.WindowEvents.{window_events}
+use Rattle.ts_watch.specs.SystemEvents.{all_fit, system_events}
+use Rattle.ts_watch.specs.WindowEvents.{window_events}
 use Rattle.system_tables.specs.Programs.{known}
 
 -- what is kept: what was seen, and the streams whose buffers have begun

@@ -8,11 +8,11 @@ ghost use Rattle.ts_report.specs.Views.{IsView, ViewState};
 
 use crate::moments::{has_moments, moment_at};
 use crate::view::View;
-use crate::view_request::ViewRequest;
 use arrival::Arrival;
 use clocked_packets::{ClockPid, PacketQueue};
 use events::Event;
 use std::alloc::{AllocError, Global};
+use ts_watch::view_request::ViewRequest;
 
 /// A stream so far: at a constant rate it keeps no packet, otherwise the packets since the last clock reference.
 ///

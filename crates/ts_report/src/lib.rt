@@ -14,35 +14,13 @@
 //! the caller stops when a view is crowded, with 4,096 waiting units or more in a stream (`is_crowded`).
 #![tactic(auto)]
 
-mod clock_events;
 mod clocked_view;
-mod clocks;
-mod counted_buffers;
-mod entry_events;
-mod entry_frames;
-mod entry_stays;
-mod held_events;
-mod mark_tally;
 mod moments;
-mod pid_labels;
-mod reference_events;
-mod rule_watch;
 mod seen;
-mod stream_entry;
 mod stream_table;
-mod system_events;
-mod table_watch;
-mod tally;
-mod video_events;
-mod video_figures;
-mod video_tally;
 mod view;
-mod view_choice;
-mod view_options;
-mod view_request;
-mod window_events;
 
 pub use clocked_view::ClockedView;
-pub use view_choice::ViewChoice;
-pub use view_options::ViewOptions;
-pub use view_request::ViewRequest;
+pub use es_view::view_options::ViewOptions;
+pub use ts_watch::view_choice::ViewChoice;
+pub use ts_watch::view_request::{ViewRequest, ViewSpan};

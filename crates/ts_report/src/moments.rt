@@ -2,11 +2,11 @@
 ghost use Rattle.std.specs.Prelude.{◌≡◌};
 ghost use Rattle.ts_report.specs.Moments as spec;
 
-use crate::clocks::first_byte;
-use crate::view_options::ViewOptions;
 use arrival::Arrival;
 use clock27::Rate;
 use clock27::units::BYTE_TICKS_AT_1BPS;
+use es_view::clocks::first_byte;
+use es_view::view_options::ViewOptions;
 
 // The time of bytes at a rate, in ticks, rounded down.
 fn ticks_at(rate: Rate, byte: u64) -> u128

@@ -6,21 +6,14 @@ ghost use Rattle.ts_packet.specs.Reading.{packet_at};
 ghost use Rattle.ts_packet.specs.Views.{PacketView, packet_view};
 ghost use Rattle.ts_packet.specs.declared.packet.PacketError.{PacketError};
 ghost use Rattle.tr101290.specs.Continuity.{error_at};
-ghost use Rattle.ts_report.specs.RuleEvents.{accuracy_count, accuracy_events};
+ghost use Rattle.ts_watch.specs.RuleEvents.{accuracy_count, accuracy_events};
 ghost use Rattle.ts_report.specs.Seen as spec;
 ghost use Rattle.ts_report.specs.Seen.{timing_of};
-ghost use Rattle.ts_report.specs.WindowEvents.{window_events};
+ghost use Rattle.ts_watch.specs.WindowEvents.{window_events};
 
-use crate::clock_events::{errors_in, push_clocks, push_report};
-use crate::clocks::Clocks;
-use crate::reference_events::push_references;
-use crate::rule_watch::RuleWatch;
-use crate::system_events::push_excesses;
-use crate::table_watch::TableWatch;
-use crate::view_choice::ViewChoice;
-use crate::view_options::ViewOptions;
-use crate::window_events::{push_pids, push_window, window_of};
 use arrival::Arrival;
+use es_view::clocks::Clocks;
+use es_view::view_options::ViewOptions;
 use events::{CounterFault, Event, RefusalCause, RefusedPacket, ReportEnd, UnclockedPackets};
 use pid_windows::PidWindow;
 use std::alloc::{AllocError, Global};
@@ -29,6 +22,13 @@ use system_tables::SystemTables;
 use tr101290::{ContinuityError, ContinuityWatch, PcrReport, PcrTiming, PcrWatches, TableTiming};
 use ts_packet::{Packet, PacketError, has_pcr};
 use ts_tables::{NamedStreams, ServiceNames};
+use ts_watch::clock_events::{errors_in, push_clocks, push_report};
+use ts_watch::reference_events::push_references;
+use ts_watch::rule_watch::RuleWatch;
+use ts_watch::system_events::push_excesses;
+use ts_watch::table_watch::TableWatch;
+use ts_watch::view_choice::ViewChoice;
+use ts_watch::window_events::{push_pids, push_window, window_of};
 
 /// The state of a stream beside its buffers: the number of packets, and of refused packets; the last packet of each PID; the window of the last packet; the
 /// packets of each PID; the last clock reference of each, and the counts of all of them, with the number of their errors; the

@@ -3,26 +3,25 @@ ghost use Rattle.std.specs.Prelude.{◌≡◌, ◌++◌, ◌≤◌, List, OnOk, 
 ghost use Rattle.std.specs.List.{list_all};
 ghost use Rattle.std.specs.Map.{lookup};
 ghost use Rattle.ts_packet.specs.Views.{packet_view};
-ghost use Rattle.ts_report.specs.Choices as choices;
+ghost use Rattle.ts_watch.specs.Choices as choices;
 ghost use Rattle.ts_report.specs.Crowding as crowding;
 ghost use Rattle.ts_report.specs.StreamTables as spec;
-ghost use Rattle.ts_report.specs.Entries.{AreFrames, EntryState, IsEntry, end_events, units_of};
-ghost use Rattle.ts_report.specs.EntryFrames.{unit_in};
+ghost use Rattle.es_view.specs.Entries.{AreFrames, EntryState, IsEntry, end_events, units_of};
+ghost use Rattle.es_view.specs.EntryFrames.{unit_in};
 ghost use Rattle.tstd_rows.specs.Held.{Held};
-ghost use Rattle.ts_report.specs.Entries.{is_good as entry_is_good};
+ghost use Rattle.es_view.specs.Entries.{is_good as entry_is_good};
 ghost use Rattle.ts_report.specs.StreamTables.{AreEntries, IsTable, TableState};
 
-use crate::clocks::Clocks;
-use crate::counted_buffers::CountedBuffers;
-use crate::entry_events::stream_event;
-use crate::entry_frames::{EntryFrames, unit_in};
-use crate::mark_tally::MarkTally;
-use crate::stream_entry::StreamEntry;
-use crate::tally::Tally;
-use crate::video_figures::view_video_if;
-use crate::video_tally::VideoTally;
-use crate::view_choice::ViewChoice;
-use crate::view_options::ViewOptions;
+use es_view::clocks::Clocks;
+use es_view::counted_buffers::CountedBuffers;
+use es_view::entry_events::stream_event;
+use es_view::entry_frames::{EntryFrames, unit_in};
+use es_view::mark_tally::MarkTally;
+use es_view::stream_entry::StreamEntry;
+use es_view::tally::Tally;
+use es_view::video_figures::view_video_if;
+use es_view::video_tally::VideoTally;
+use es_view::view_options::ViewOptions;
 use events::Event;
 use pid_map::PidMap;
 use std::alloc::{AllocError, Global};
@@ -30,6 +29,7 @@ use stream_coding::{Buffers, Coding, FrameKind, coding_of, longest_stay};
 use stream_programs::FoundStream;
 use ts_packet::Packet;
 use ts_tables::NamedStreams;
+use ts_watch::view_choice::ViewChoice;
 use tstd_rows::{StreamBuffers, VideoRates};
 
 /// Which streams are viewed; the streams whose buffers have begun, and the place of each PID among them.
@@ -60,7 +60,7 @@ fn coding_by(stream: &FoundStream, packet: &Packet<'_>) -> Coding
 }
 
 // A stream, where its program is viewed.
-#[tactic(auto, unfolding(crate::specs::Choices::chosen))]
+#[tactic(auto, unfolding(ts_watch::specs::Choices::chosen))]
 fn chosen<'n>(choice: &ViewChoice, stream: Option<&'n FoundStream>) -> Option<&'n FoundStream>
     ensures { option_map (λ s. s.now) result ≡ choices.chosen choice.now (option_map (λ s. s.now) stream.entry) }
 {
@@ -73,7 +73,7 @@ fn chosen<'n>(choice: &ViewChoice, stream: Option<&'n FoundStream>) -> Option<&'
 }
 
 // The walk over the frames of a stream before its first packet, if they are viewed.
-#[tactic(auto, unfolding(crate::specs::StreamTables::new_framed, crate::specs::Entries::AreFrames))]
+#[tactic(auto, unfolding(crate::specs::StreamTables::new_framed, es_view::specs::Entries::AreFrames))]
 fn frames_of(alloc: Global, kind: Option<FrameKind>) -> Option<EntryFrames>
     ensures { (h : Held) → AreFrames result (spec.new_framed h kind) }
 {

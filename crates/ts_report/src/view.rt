@@ -12,12 +12,12 @@ ghost use Rattle.ts_report.specs.Views.{IsView, ViewState};
 
 use crate::seen::Seen;
 use crate::stream_table::StreamTable;
-use crate::system_events::{all_fit, push_systems};
-use crate::view_request::ViewRequest;
 use arrival::Arrival;
 use events::{Event, RefusalCause};
 use std::alloc::{AllocError, Global};
 use ts_packet::{Packet, PacketError, read_packet};
+use ts_watch::system_events::{all_fit, push_systems};
+use ts_watch::view_request::ViewRequest;
 
 /// A stream so far, without its packets.
 ///

@@ -26,6 +26,10 @@ pub mod VideoParts
 pub mod LeakSteps
 pub mod Rows
 pub mod Packets
+pub mod Rooms
+pub mod RoomRows
+pub mod WaitingRooms
+pub mod LastRoom
 pub mod VideoRows
 pub mod VideoBegins
 pub mod VideoIfAny

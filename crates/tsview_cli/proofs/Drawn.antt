@@ -3,7 +3,7 @@ use Rattle.std.proofs.Common.{◌≡◌, ◌∙◌, ℕ, ◌%◌, Bool, List, []
 use Rattle.std.specs.Prelude.{IfErr, IfOk, OnOk, if◌then◌else◌, string_bytes}
 use Rattle.capture.specs.Captures.{Part, capture_of}
 use Rattle.events.specs.declared.timed_event.TimedEvent.{TimedEvent}
-use Rattle.ts_report.specs.Choices.{RequestView}
+use Rattle.ts_watch.specs.Choices.{RequestView}
 use Rattle.analysis.specs.Analysis.{AnalysisState, start}
 use Rattle.view_page.specs.Pages.{IsPage, PageState, after_event, after_events}
 use Rattle.view_page.specs.declared.page.Page.{Page}

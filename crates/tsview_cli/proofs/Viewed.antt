@@ -7,7 +7,7 @@ use Rattle.capture.specs.Captures.{Part, capture_of}
 use Rattle.capture.specs.Reading.{capture_by, no_bytes}
 use Rattle.events.specs.EventLines.{lines_of, timed_line}
 use Rattle.events.specs.declared.timed_event.TimedEvent.{TimedEvent}
-use Rattle.ts_report.specs.Choices.{RequestView}
+use Rattle.ts_watch.specs.Choices.{RequestView}
 use Rattle.analysis.specs.Analysis.{is_crowded}
 use Rattle.analysis.specs.Analysis.{AnalysisState, start}
 use Rattle.counted_io.specs.Device.{Failed}

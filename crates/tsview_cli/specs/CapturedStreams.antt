@@ -14,7 +14,7 @@ use Rattle.events.specs.declared.input_event.FileForm.{FileForm}
 use Rattle.events.specs.declared.input_event.InputEvent.{InputEvent}
 use Rattle.events.specs.declared.input_event.InputEvent.TheVariants as inputs
 use Rattle.events.specs.declared.timed_event.TimedEvent.{TimedEvent}
-use Rattle.ts_report.specs.Choices.{RequestView}
+use Rattle.ts_watch.specs.Choices.{RequestView}
 use Rattle.analysis.specs.Analysis.{AnalysisState, IsAnalysed, after_packet, all_timed, conclusion, ended, events_at, is_faultless, is_good, start, timed, with_event, with_events}
 use Rattle.analysis.specs.Analysis as ending
 use Rattle.tsview_cli.specs.declared.captured.CapturedView.{CapturedView}
@@ -31,8 +31,8 @@ size_event other = events.Input (inputs.PacketSize (size_of other))
 -- the events that a part settles, and what is kept of the stream after it
 unfoldable pub part_events : AnalysisState → Part → List TimedEvent
 part_events s (IsPacket bytes) = events_at s bytes
-part_events s (IsSlip slip) = timed s.view (slip_event slip) ∷ []
-part_events s (IsSize other) = timed s.view (size_event other) ∷ []
+part_events s (IsSlip slip) = timed s (slip_event slip)
+part_events s (IsSize other) = timed s (size_event other)
 
 unfoldable pub after_part : AnalysisState → Part → AnalysisState
 after_part s (IsPacket bytes) = after_packet s bytes
@@ -64,11 +64,12 @@ clock_note None clock = None
 clock_note (Some given) clock =
     if is_other given clock.rate then Some (inputs.OtherRate (record { pid = clock.pid; given = given; references = clock.rate })) else None
 
--- the input is empty, or more than half of what would be its packets are refused
+-- the input is empty, or more than half of what would be its packets are refused, or bytes come after its last whole packet
 abbrev pub end_note : FileForm → ReportEnd → Option InputEvent
 end_note form end =
     if end.packets == 0 && end.left == 0 then Some inputs.Empty
-    else (if end.packets == 0 || nat_lt (end.packets / 2) end.refused then Some (inputs.NoStream form) else None)
+    else (if end.packets == 0 || nat_lt (end.packets / 2) end.refused then Some (inputs.NoStream form)
+    else (if end.left == 0 then None else Some (inputs.Rest (record { packet = end.packets; bytes = end.left }))))
 
 unfoldable pub note_of : Option ℕ → FileForm → Event → Option InputEvent
 note_of rate form (events.Clock clock) = clock_note rate clock

@@ -1,7 +1,7 @@
 -- A page of what is found in a stream, written at its end.
 use Rattle.std.specs.Prelude.{◌≡◌, ℕ, ◌++◌, Bool, if◌then◌else◌, List, [], Option, Result, Ok, Err, string_bytes}
 use Rattle.capture.specs.Captures.{Part, capture_of}
-use Rattle.ts_report.specs.Choices.{RequestView}
+use Rattle.ts_watch.specs.Choices.{RequestView}
 use Rattle.analysis.specs.Analysis.{AnalysisState, start}
 use Rattle.view_page.specs.declared.page.Page.{Page}
 use Rattle.view_page.specs.Pages.{IsPage, PageState, after_events, no_events}

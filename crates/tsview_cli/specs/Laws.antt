@@ -2,7 +2,7 @@
 use Rattle.std.specs.Prelude.{◌≡◌, ℕ, ◌%◌, List, length}
 use Rattle.packet_sync.specs.Laws.{IsInStep}
 use Rattle.ts_packet.specs.PidList.{cut_packets}
-use Rattle.ts_report.specs.Choices.{RequestView}
+use Rattle.ts_watch.specs.Choices.{RequestView}
 use Rattle.analysis.specs.Analysis.{after_all, events_all, start}
 use Rattle.tsview_cli.specs.CapturedStreams.{events_before, kept_of, left_in}
 

@@ -2,7 +2,7 @@
 use Rattle.std.specs.Prelude.{◌≡◌, ◌⊎◌, ◌<◌, ℕ, ◌%◌, ◌*◌, Bool, true, if◌then◌else◌, List, [], ◌++◌, codes, length, Option, Some, Result, Ok, Err}
 use Rattle.capture.specs.Captures.{Part, capture_of, with_parts}
 use Rattle.capture.specs.Reading.{ReaderView, capture_left}
-use Rattle.ts_report.specs.Choices.{RequestView}
+use Rattle.ts_watch.specs.Choices.{RequestView}
 use Rattle.analysis.specs.Analysis.{is_crowded}
 use Rattle.analysis.specs.declared.analyser.Analyser.{Analyser}
 use Rattle.analysis.specs.Analysis.{IsAnalysed, AnalysisState, start}

@@ -10,7 +10,8 @@ use analysis::Analyser;
 use arrival::Arrival;
 use capture::{CaptureEnd, CaptureReader, PartTaker, bytes_apart};
 use events::{
-    ClockTotals, Event, FileForm, InputEvent, OtherRate, ReportEnd, SlippedBytes, TimedEvent,
+    ClockTotals, Event, FileForm, InputEvent, OtherRate, ReportEnd, RestBytes, SlippedBytes,
+    TimedEvent,
 };
 use packet_sync::{OtherPackets, Slip};
 use std::alloc::{AllocError, Global};
@@ -118,8 +119,13 @@ fn end_note(form: FileForm, end: &ReportEnd) -> Option<InputEvent>
         Some(InputEvent::Empty)
     } else if end.packets == 0 || end.packets / 2 < end.refused {
         Some(InputEvent::NoStream(form))
-    } else {
+    } else if end.left == 0 {
         None
+    } else {
+        Some(InputEvent::Rest(RestBytes {
+            packet: end.packets,
+            bytes: end.left,
+        }))
     }
 }
 

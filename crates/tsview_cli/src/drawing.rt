@@ -2,7 +2,7 @@
 ghost use Rattle.std.specs.Prelude.{◌≡◌, ◌++◌, ℕ, List, [], if◌then◌else◌, IfErr, IfOk, OnOk};
 ghost use Rattle.devices.specs.Devices.{reads, writes};
 ghost use Rattle.devices.specs.Runs.{Performs};
-ghost use Rattle.ts_report.specs.Choices.{RequestView};
+ghost use Rattle.ts_watch.specs.Choices.{RequestView};
 ghost use Rattle.analysis.specs.Analysis.{AnalysisState, start};
 ghost use Rattle.view_page.specs.Pages.{PageState};
 ghost use Rattle.tsview_cli.specs.CapturedStreams.{rate_in};

@@ -6,7 +6,7 @@ ghost use Rattle.devices.specs.Devices.{Device, IsUntouched, reads, writes};
 ghost use Rattle.devices.specs.Files.{files_of};
 ghost use Rattle.devices.specs.Lines.{Reports};
 ghost use Rattle.devices.specs.Runs.{Performs};
-ghost use Rattle.ts_report.specs.Choices.{RequestView};
+ghost use Rattle.ts_watch.specs.Choices.{RequestView};
 ghost use Rattle.tsview_cli.specs.Answers.{Answers};
 ghost use Rattle.tsview_cli.specs.Arguments.{asked, asked_for};
 ghost use Rattle.tsview_cli.specs.Drawing.{DrawsPage};

@@ -5,7 +5,7 @@ ghost use Rattle.analysis.specs.Analysis.{AnalysisState, start};
 ghost use Rattle.devices.specs.Devices.{reads, writes};
 ghost use Rattle.devices.specs.Lines.{WritesLine};
 ghost use Rattle.devices.specs.WholeInput.{ReadsFront};
-ghost use Rattle.ts_report.specs.Choices.{RequestView};
+ghost use Rattle.ts_watch.specs.Choices.{RequestView};
 ghost use Rattle.analysis.specs.Analysis.{is_crowded};
 ghost use Rattle.tsview_cli.specs.CapturedStreams.{IsSoFar, rate_in};
 ghost use Rattle.tsview_cli.specs.Viewing.{Breaks, EndShows, Reaches, Sees, Shows, StopsNext, longest_piece};

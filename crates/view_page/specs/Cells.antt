@@ -9,7 +9,7 @@ use Rattle.page_charts.specs.PidLabels.{LabelsState, label_text}
 use Rattle.view_page.specs.declared.cells.CellUnit.{CellUnit}
 use Rattle.view_page.specs.declared.cells.CellUnit.TheVariants.{Same, Ticks}
 use Rattle.view_page.specs.declared.cells.CellWord.{CellWord}
-use Rattle.view_page.specs.declared.cells.CellWord.TheVariants.{Transport, Main, Multiplexing, Elementary, TransportExcess, MainExcess, MultiplexingExcess, ElementaryExcess, SystemExcess, SystemMainExcess, LateUnit, ElementaryLate, FarAhead, PcrRepetition, PcrDiscontinuity, PcrAccuracy, TableRepetition, Unclocked, SyncByte, RefusedHeader, TransportError, Continuity, CheckWord, Slip, PacketSize, EmptyInput, NoStream, OtherRate, Bytes, Packets, Millis, Nanos, BitRate, Unreferenced, Missing, PtsRepetition, SectionDistance, OtherTable, ScrambledTable, NoCat, NotEmpty, Delayed, NoClock, RateVaries, Nothing}
+use Rattle.view_page.specs.declared.cells.CellWord.TheVariants.{Transport, Main, Multiplexing, Elementary, TransportExcess, MainExcess, MultiplexingExcess, ElementaryExcess, SystemExcess, SystemMainExcess, LateUnit, ElementaryLate, LateByMultiplex, LateByFullBuffer, FarAhead, PcrRepetition, PcrDiscontinuity, PcrAccuracy, TableRepetition, Unclocked, SyncByte, RefusedHeader, TransportError, Continuity, CheckWord, Slip, Rest, PacketSize, EmptyInput, NoStream, OtherRate, Bytes, Packets, Millis, Nanos, BitRate, Unreferenced, Missing, PtsRepetition, SectionDistance, OtherTable, ScrambledTable, NoCat, NotEmpty, Delayed, NoClock, RateVaries, Nothing}
 use Rattle.view_page.specs.declared.cells.Cell.{Cell}
 use Rattle.view_page.specs.declared.cells.Cell.TheVariants.{Number, Checked, Bar, Word, CheckNumber, CheckName, Carried, Program, Source, Form}
 
@@ -26,6 +26,8 @@ word_text SystemExcess = codes "transport buffer of tables over its size"
 word_text SystemMainExcess = codes "system buffer of tables over its size"
 word_text LateUnit = codes "late unit"
 word_text ElementaryLate = codes "unit late in its elementary stream buffer (EB)"
+word_text LateByMultiplex = codes "unit late in its elementary stream buffer (EB): sent too late or too fast"
+word_text LateByFullBuffer = codes "unit late in its elementary stream buffer (EB): EB was full"
 word_text FarAhead = codes "unit too far ahead"
 word_text PcrRepetition = codes "clock reference too late"
 word_text PcrDiscontinuity = codes "clock reference that jumps"
@@ -38,6 +40,7 @@ word_text TransportError = codes "packet with a transport error"
 word_text Continuity = codes "continuity counter that does not follow"
 word_text CheckWord = codes "section with a wrong check word"
 word_text Slip = codes "bytes in no packet"
+word_text Rest = codes "bytes after the last whole packet"
 word_text PacketSize = codes "bytes from one packet to the next; 188 of them are viewed"
 word_text EmptyInput = codes "the input is empty"
 word_text NoStream = codes "the input is no transport stream"

@@ -2,6 +2,7 @@
 use Rattle.std.specs.Prelude.{ℕ, List, [], ◌∷◌}
 use Rattle.events.specs.declared.input_event.FileForm.{FileForm}
 use Rattle.events.specs.declared.input_event.OtherRate.{OtherRate}
+use Rattle.events.specs.declared.input_event.RestBytes.{RestBytes}
 use Rattle.events.specs.declared.input_event.SlippedBytes.{SlippedBytes}
 use Rattle.view_page.specs.declared.cells.Cell.{Cell}
 use Rattle.view_page.specs.declared.cells.Cell.TheVariants.{Number, Word, Form}
@@ -13,6 +14,11 @@ use Rattle.view_page.specs.Cells.{short}
 abbrev pub slip_cells : SlippedBytes → List Cell
 slip_cells e =
     Word words.Slip ∷ Word words.Nothing ∷ Number e.packet Same ∷ Number e.bytes Same ∷ Word words.Nothing ∷ Word words.Bytes ∷ []
+
+-- of bytes after the last whole packet
+abbrev pub rest_cells : RestBytes → List Cell
+rest_cells e =
+    Word words.Rest ∷ Word words.Nothing ∷ Number e.packet Same ∷ Number e.bytes Same ∷ Word words.Nothing ∷ Word words.Bytes ∷ []
 
 -- of packets that are not of 188 bytes
 abbrev pub packet_size_cells : ℕ → List Cell

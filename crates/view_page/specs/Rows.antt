@@ -15,7 +15,7 @@ use Rattle.view_page.specs.declared.cells.CellWord.TheVariants as words
 use Rattle.view_page.specs.declared.rows.TheConstants.{MOST_FAULTS}
 use Rattle.view_page.specs.Cells.{cell, row}
 use Rattle.view_page.specs.RowCells.{ahead_cells, check_cells, check_word_cells, clock_cells, clock_place_cells, clock_time_cells, continuity_cells, elementary_cells, elementary_late_cells, excess_cells, late_cells, main_cells, multiplexing_cells, pid_cells, program_excess_cells, reference_cells, refused_cells, stream_cells, system_cells, table_cells, table_fault_cells, transport_cells, unclocked_cells}
-use Rattle.view_page.specs.InputCells.{empty_cells, no_stream_cells, other_rate_cells, packet_size_cells, slip_cells}
+use Rattle.view_page.specs.InputCells.{empty_cells, no_stream_cells, other_rate_cells, packet_size_cells, rest_cells, slip_cells}
 use Rattle.page_charts.specs.PidLabels.{LabelsState}
 use Rattle.view_page.specs.MarkCells.{mark_cells}
 use Rattle.view_page.specs.SummaryCells.{fault_cells, sentence_text, totals_cells}
@@ -93,6 +93,7 @@ with_input labels r (inputs.PacketSize size) = record r { apart = r.apart ++ row
 with_input labels r inputs.Empty = with_fault labels r empty_cells
 with_input labels r (inputs.NoStream form) = with_fault labels r (no_stream_cells form)
 with_input labels r (inputs.OtherRate e) = with_fault labels r (other_rate_cells e)
+with_input labels r (inputs.Rest e) = with_fault labels r (rest_cells e)
 
 abbrev pub with_stream : LabelsState → RowTexts → StreamBegin → RowTexts
 with_stream labels r e = record r { streams = r.streams ++ record { pid = e.pid; cells = flat_map (cell labels) (stream_cells e) } ∷ [] }

@@ -67,6 +67,7 @@ kind_cells kinds.NotEmpty = time words.NotEmpty
 kind_cells kinds.Delayed = time words.Delayed
 kind_cells kinds.Unreferenced = plain words.Unreferenced
 kind_cells kinds.Missing = plain words.Missing
+kind_cells kinds.Rest = plain words.Rest
 
 -- a moment in ms, if it is known
 unfoldable pub moment_cell : Option ℕ → Cell

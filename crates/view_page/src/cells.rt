@@ -29,6 +29,8 @@ pub enum CellWord {
     SystemMainExcess,
     LateUnit,
     ElementaryLate,
+    LateByMultiplex,
+    LateByFullBuffer,
     FarAhead,
     PcrRepetition,
     PcrDiscontinuity,
@@ -41,6 +43,7 @@ pub enum CellWord {
     Continuity,
     CheckWord,
     Slip,
+    Rest,
     PacketSize,
     EmptyInput,
     NoStream,
@@ -114,6 +117,10 @@ fn word_text(word: CellWord) -> &'static str
         CellWord::SystemMainExcess => "system buffer of tables over its size",
         CellWord::LateUnit => "late unit",
         CellWord::ElementaryLate => "unit late in its elementary stream buffer (EB)",
+        CellWord::LateByMultiplex => {
+            "unit late in its elementary stream buffer (EB): sent too late or too fast"
+        }
+        CellWord::LateByFullBuffer => "unit late in its elementary stream buffer (EB): EB was full",
         CellWord::FarAhead => "unit too far ahead",
         CellWord::PcrRepetition => "clock reference too late",
         CellWord::PcrDiscontinuity => "clock reference that jumps",
@@ -126,6 +133,7 @@ fn word_text(word: CellWord) -> &'static str
         CellWord::Continuity => "continuity counter that does not follow",
         CellWord::CheckWord => "section with a wrong check word",
         CellWord::Slip => "bytes in no packet",
+        CellWord::Rest => "bytes after the last whole packet",
         CellWord::PacketSize => "bytes from one packet to the next; 188 of them are viewed",
         CellWord::EmptyInput => "the input is empty",
         CellWord::NoStream => "the input is no transport stream",

@@ -3,7 +3,7 @@ ghost use Rattle.std.specs.Prelude.{◌≡◌};
 ghost use Rattle.view_page.specs.InputCells as spec;
 
 use crate::cells::{Cell, CellUnit, CellWord, short};
-use events::{FileForm, OtherRate, SlippedBytes};
+use events::{FileForm, OtherRate, RestBytes, SlippedBytes};
 
 /// Returns the cells of bytes that are in no packet.
 pub(crate) fn slip_cells(e: &SlippedBytes) -> [Cell; 6]
@@ -11,6 +11,20 @@ pub(crate) fn slip_cells(e: &SlippedBytes) -> [Cell; 6]
 {
     [
         Cell::Word(CellWord::Slip),
+        Cell::Word(CellWord::Nothing),
+        Cell::Number(e.packet, CellUnit::Same),
+        Cell::Number(e.bytes, CellUnit::Same),
+        Cell::Word(CellWord::Nothing),
+        Cell::Word(CellWord::Bytes),
+    ]
+}
+
+/// Returns the cells of bytes after the last whole packet.
+pub(crate) fn rest_cells(e: &RestBytes) -> [Cell; 6]
+    ensures { result ≡ spec.rest_cells e.now }
+{
+    [
+        Cell::Word(CellWord::Rest),
         Cell::Word(CellWord::Nothing),
         Cell::Number(e.packet, CellUnit::Same),
         Cell::Number(e.bytes, CellUnit::Same),

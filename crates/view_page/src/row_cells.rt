@@ -5,9 +5,9 @@ ghost use Rattle.view_page.specs.RowCells as spec;
 use crate::cells::{Cell, CellUnit, CellWord, limit_if, short};
 use events::{
     BufferExcess, CheckTotals, CheckWordFault, ClockFault, ClockTotals, CounterFault,
-    ElementaryLate, ElementaryTotals, FarAhead, LateUnit, MainTotals, MultiplexingTotals,
-    PidTotals, ProgramExcess, RefusalCause, RefusedPacket, StreamBegin, SystemTotals, TableFault,
-    TableTotals, TransportTotals, UnclockedPackets, Untold,
+    ElementaryLate, ElementaryTotals, FarAhead, LateCause, LateUnit, MainTotals,
+    MultiplexingTotals, PidTotals, ProgramExcess, RefusalCause, RefusedPacket, StreamBegin,
+    SystemTotals, TableFault, TableTotals, TransportTotals, UnclockedPackets, Untold,
 };
 
 /// Returns the cells of a stream, after its PID and what that carries.
@@ -192,12 +192,23 @@ pub(crate) fn late_cells(e: &LateUnit) -> [Cell; 6]
     ]
 }
 
+// What makes a unit of video late.
+#[tactic(auto, unfolding(crate::specs::RowCells::late_word))]
+fn late_word(cause: LateCause) -> CellWord
+    ensures { result ≡ spec.late_word cause }
+{
+    match cause {
+        LateCause::Multiplex => CellWord::LateByMultiplex,
+        LateCause::FullBuffer => CellWord::LateByFullBuffer,
+    }
+}
+
 /// Returns the cells of a unit that is late in its elementary stream buffer.
 pub(crate) fn elementary_late_cells(e: &ElementaryLate) -> [Cell; 6]
     ensures { result ≡ spec.elementary_late_cells e.now }
 {
     [
-        Cell::Word(CellWord::ElementaryLate),
+        Cell::Word(late_word(e.cause)),
         Cell::Number(u64::from(e.pid), CellUnit::Same),
         Cell::Number(e.packet, CellUnit::Same),
         Cell::Number(short(e.by), CellUnit::Ticks),

@@ -4,7 +4,7 @@ ghost use Rattle.view_page.specs.Rows as spec;
 
 use crate::cells::{Cell, CellWord, write_cells, write_row};
 use crate::input_cells::{
-    empty_cells, no_stream_cells, other_rate_cells, packet_size_cells, slip_cells,
+    empty_cells, no_stream_cells, other_rate_cells, packet_size_cells, rest_cells, slip_cells,
 };
 use crate::mark_cells::mark_cells;
 use crate::row_cells::{
@@ -209,6 +209,7 @@ impl Rows {
             InputEvent::Empty => self.take_fault(labels, &empty_cells()),
             InputEvent::NoStream(form) => self.take_fault(labels, &no_stream_cells(*form)),
             InputEvent::OtherRate(e) => self.take_fault(labels, &other_rate_cells(e)),
+            InputEvent::Rest(e) => self.take_fault(labels, &rest_cells(e)),
         }
     }
 

@@ -106,6 +106,7 @@ fn kind_cells(kind: FaultKind) -> KindCells
         FaultKind::Delayed => time(CellWord::Delayed),
         FaultKind::Unreferenced => plain(CellWord::Unreferenced),
         FaultKind::Missing => plain(CellWord::Missing),
+        FaultKind::Rest => plain(CellWord::Rest),
     }
 }
 

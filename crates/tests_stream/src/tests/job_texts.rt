@@ -51,6 +51,7 @@ static STREAMS: [StreamPart<'static>; 2] = [
         interval: 2_160,
         size: 576,
         lead: 12_960,
+        pts_limit: None,
         rx: 2_000_000,
         main: 3_584,
         descriptors: &[0x0A, 0x04, 0x65, 0x6E, 0x67, 0x00],
@@ -74,6 +75,7 @@ static STREAMS: [StreamPart<'static>; 2] = [
         interval: 3_600,
         size: 200_000,
         lead: 45_000,
+        pts_limit: Some(900_000),
         rx: 24_000_000,
         main: 3_766_000,
         descriptors: &[],
@@ -145,6 +147,7 @@ mb = 16000
 pace = 3217300
 pid = 300
 program = 65535
+pts_limit = 900000
 rbx = 20000000
 rx = 24000000
 size = 200000

@@ -1,6 +1,6 @@
 use Rattle.std.proofs.Common.{◌≡◌, ◌||◌, arith}
 use Rattle.devices.specs.Devices.{Port}
-use Rattle.es_feed.proofs.PassedStreams.{joined_false, joined_true, tells_more, tells_none, tells_whole}
+use Rattle.es_feed.proofs.ToldLines.{joined_false, joined_true, tells_more, tells_none, tells_whole}
 use Rattle.es_feed.proofs.fed_records.tell_faults.Goals as goal
 use Rattle.es_feed.proofs.fed_records.tell_faults.Goals.{then-tell_one, else-tell_one}
 

@@ -1,4 +1,4 @@
-use Rattle.es_feed.proofs.PassedStreams.{TellsFront}
+use Rattle.es_feed.proofs.ToldLines.{TellsFront}
 use Rattle.es_feed.proofs.fed_records.tell_faults.Given as goal
 
 abbrev pub invariant-loop-one : goal.invariant-loop-one

@@ -1,4 +1,4 @@
-use Rattle.es_feed.proofs.PassedStreams.{told_none_of, told_one_of}
+use Rattle.es_feed.proofs.ToldLines.{told_none_of, told_one_of}
 use Rattle.devices.specs.Devices.{Port}
 use Rattle.es_feed.proofs.fed_records.tell_one.Goals as goal
 

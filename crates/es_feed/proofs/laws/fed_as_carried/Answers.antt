@@ -1,4 +1,4 @@
-use Rattle.es_feed.proofs.FedUnits.{as_carried}
+use Rattle.es_feed.proofs.OneStream.{as_carried}
 use Rattle.es_feed.proofs.laws.fed_as_carried.Goals as goal
 
 pub returns : goal.returns

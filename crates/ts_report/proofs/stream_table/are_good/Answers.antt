@@ -1,9 +1,10 @@
 use Rattle.std.proofs.Common.{rules, ◌≡◌, ◌∙◌, sym, ◌+◌, true, false, List, ◌∷◌, drop, ap, subst, arith}
 use Rattle.std.specs.List.{list_all}
 use Rattle.std.proofs.lemmas.List.{drop_more}
-use Rattle.ts_report.specs.declared.stream_entry.StreamEntry.{StreamEntry}
-use Rattle.ts_report.specs.Entries.{is_good}
-use Rattle.ts_report.proofs.Entries.{Unjudged, all_good, drop_past, one_bad, one_good}
+use Rattle.es_view.specs.declared.stream_entry.StreamEntry.{StreamEntry}
+use Rattle.es_view.specs.Entries.{is_good}
+use Rattle.ts_report.proofs.Entries.{Unjudged, all_good, one_bad, one_good}
+use Rattle.es_view.proofs.Joins.{drop_past}
 use Rattle.ts_report.proofs.stream_table.are_good.Goals as goal
 
 pub returns-then-not-is_good : goal.returns-then-not-is_good

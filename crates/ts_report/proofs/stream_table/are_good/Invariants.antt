@@ -1,6 +1,6 @@
 use Rattle.std.proofs.Common.{List, drop}
 use Rattle.std.specs.List.{list_all}
-use Rattle.ts_report.specs.Entries.{EntryState, is_good}
+use Rattle.es_view.specs.Entries.{EntryState, is_good}
 use Rattle.ts_report.specs.StreamTables.{AreEntries}
 use Rattle.ts_report.proofs.Entries.{Unjudged}
 use Rattle.ts_report.proofs.stream_table.are_good.Given as goal

@@ -1,7 +1,7 @@
 use Rattle.std.proofs.Common.{◌∙◌, ℕ, refl, subst, sym}
 use Rattle.tstd_rows.specs.HeldVideo.{HoldsVideoOf}
-use Rattle.ts_report.specs.VideoFigures.{sizes_if}
-use Rattle.ts_report.proofs.Framings.{new_held, new_tally}
+use Rattle.es_view.specs.VideoFigures.{sizes_if}
+use Rattle.ts_report.proofs.NewFramings.{new_held, new_tally}
 use Rattle.arrival.specs.Arrivals.{step_of}
 use Rattle.tstd_rows.specs.Held.{Held, IsHeld, empty}
 use Rattle.ts_report.proofs.stream_table.new_entry.Goals as goal

@@ -1,6 +1,6 @@
 use Rattle.std.proofs.Common.{◌++◌, List, drop}
 use Rattle.std.specs.Prelude.{flat_map}
-use Rattle.ts_report.specs.Entries.{EntryState, end_events}
+use Rattle.es_view.specs.Entries.{EntryState, end_events}
 use Rattle.ts_report.specs.StreamTables.{AreEntries}
 use Rattle.ts_report.proofs.Entries.{Ahead}
 use Rattle.ts_report.proofs.stream_table.push_all_ends.Given as goal

@@ -1,6 +1,6 @@
 use Rattle.std.proofs.Common.{◌++◌, List, drop}
 use Rattle.std.specs.Prelude.{flat_map}
-use Rattle.ts_report.specs.Entries.{EntryState, units_of}
+use Rattle.es_view.specs.Entries.{EntryState, units_of}
 use Rattle.ts_report.specs.StreamTables.{AreEntries}
 use Rattle.ts_report.proofs.Entries.{Ahead}
 use Rattle.ts_report.proofs.stream_table.push_all_units.Given as goal

@@ -1,7 +1,7 @@
 use Rattle.std.proofs.Common.{◌∙◌, ap}
 use Rattle.ts_packet.specs.Packets.{null_packet}
 use Rattle.ts_report.specs.Seen.{SeenState, with_sections}
-use Rattle.ts_report.specs.TableEvents.{TablesState}
+use Rattle.ts_watch.specs.TableEvents.{TablesState}
 use Rattle.ts_report.proofs.seen.Seen.pass_null.Goals as goal
 
 pub returns-clause-seen : goal.returns-clause-seen

@@ -1,6 +1,6 @@
 use Rattle.std.proofs.Common.{rules, length, ◌≡◌, ◌∙◌, sym, ℕ, List, [], ◌∷◌, ◌++◌, ap₂, subst, nat_eq}
 use Rattle.indexmap.specs.IndexMap.{insert_entry}
-use Rattle.ts_report.specs.declared.stream_entry.StreamEntry.{StreamEntry}
+use Rattle.es_view.specs.declared.stream_entry.StreamEntry.{StreamEntry}
 use Rattle.ts_report.specs.StreamTables.{AreEntries}
 use Rattle.ts_report.proofs.Entries.{one_more, same_length}
 use Rattle.ts_report.proofs.stream_table.StreamTable.add.Goals as goal

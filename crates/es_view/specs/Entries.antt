@@ -1,0 +1,305 @@
+-- A stream that the tables name: its PID, the PID of its program's clock references, the counter of its last packet with a payload,
+-- what its buffers hold by PES packets, and what is counted of it; of video the sizes of its two buffers, if they are viewed, and what is
+-- counted of them; of sound what its buffers hold by access units, if these are viewed; how long a byte may stay in them, and how many units
+-- had bytes that stayed longer; and what is counted of the marks of its units.
+use Rattle.std.specs.Prelude.{◌≡◌, ℕ, ◌+◌, ◌-◌, ◌/◌, ◌^◌, ◌==◌, ◌&&◌, min, not, is_some, nat_le, nat_lt, unwrap_or, Bool, true, false, if◌then◌else◌, length, List, [], ◌++◌, Option, Some, None}
+use Rattle.ts_packet.specs.Views.{PacketView}
+use Rattle.arrival.specs.Arrivals.{step_of}
+use Rattle.arrival.specs.Clock.{pcr_period}
+use Rattle.arrival.specs.declared.clock.PcrSample.{PcrSample}
+use Rattle.tstd_rows.specs.declared.unit_seen.DueTime.{DueTime}
+use Rattle.tstd_rows.specs.Held.{Held, IsHeld, main_most, transport_busy, transport_busy_under_way, transport_most, unit_before}
+use Rattle.tstd_rows.specs.Limits.{tb_size}
+use Rattle.tstd_rows.specs.Entering.{EnteredView, after, entered}
+use Rattle.tstd_rows.specs.declared.late_causes.VideoUnit.{VideoUnit}
+use Rattle.tstd_rows.specs.EnteringVideo.{video_of, video_unit_of}
+use Rattle.tstd_rows.specs.HeldVideo.{HoldsVideoOf, VideoEnteredView, VideoSizes}
+use Rattle.tstd_rows.specs.declared.arriving.Arriving.{Arriving}
+use Rattle.events.specs.declared.event.Event.{Event}
+use Rattle.es_view.specs.declared.view_options.ViewOptions.{ViewOptions}
+use Rattle.es_view.specs.declared.clocks.Beginning.{Beginning}
+use Rattle.es_view.specs.declared.clocks.Beginning.TheVariants.{Nothing, Unread, Stamped}
+use Rattle.es_view.specs.declared.stream_entry.StreamEntry.{StreamEntry}
+use Rattle.es_view.specs.declared.tally.Tally.{Tally}
+use Rattle.es_view.specs.Clocks.{ahead_of, beginning_of, due_at, longest_stay}
+use Rattle.es_view.specs.EntryEvents.{ahead_events, closing_events, ended_events}
+use Rattle.es_view.specs.HeldEvents.{tally_events}
+use Rattle.es_view.specs.MarkTallies.{mark_events, with_beginning}
+use Rattle.es_view.specs.declared.mark_tally.MarkTally.{MarkTally}
+use Rattle.es_view.specs.Tallies.{more, tally_after, with_unit_if}
+use Rattle.es_view.specs.EntryStays.{busy_closing, delayed_events, is_idle, overstay_if, payload_byte}
+use Rattle.es_view.specs.EntryFrames.{Counted, FramedPayload, busy_seen, frame_bytes, frames_among, frames_held, front_held, is_leak_idle, leak_busy_of, leak_under_way, payload_after, payload_events, place_of, stays_ended, unit_tick, walk_in, whole_events}
+use Rattle.es_view.specs.declared.entry_frames.EntryFrames.{EntryFrames}
+use Rattle.stream_coding.specs.FrameWalks.{WalkView, walk_after}
+use Rattle.events.specs.declared.rule_event.BufferKind.{BufferKind}
+use Rattle.events.specs.declared.rule_event.BufferKind.TheVariants.{Elementary, Main, Multiplexing, Transport}
+use Rattle.tstd_rows.specs.declared.busy_watch.Stay.{Stay}
+use Rattle.es_view.specs.declared.entry_events.Place.{Place}
+use Rattle.es_view.specs.declared.video_tally.VideoTally.{VideoTally}
+use Rattle.es_view.specs.VideoEvents.{video_closing_events, video_ended_events}
+use Rattle.es_view.specs.VideoFigures.{figures_of, is_video_good, limits_of}
+use Rattle.es_view.specs.VideoTallies.{with_video}
+
+-- a stream of sound by access units: where the walk over its frames is, when its unit is due, what its buffers hold, and what is counted
+pub record Framed : Type 0 where
+  pub walk : WalkView
+  pub tick : ℕ
+  pub held : Held
+  pub tally : Tally
+
+pub record EntryState : Type 0 where
+  pub pid : ℕ
+  pub clock_pid : ℕ
+  pub counter : Option ℕ
+  pub held : Held
+  pub tally : Tally
+  pub video : Option VideoSizes
+  pub video_tally : VideoTally
+  pub mark_tally : MarkTally
+  pub framed : Option Framed
+  pub limit : ℕ
+  pub delayed : ℕ
+
+-- what is viewed of it: by access units, if it is sound that is viewed so, and else by PES packets
+unfoldable pub held_in : Option Framed → Held → Held
+held_in None h = h
+held_in (Some f) h = f.held
+
+unfoldable pub tally_in : Option Framed → Tally → Tally
+tally_in None t = t
+tally_in (Some f) t = f.tally
+
+abbrev pub seen_held : EntryState → Held
+seen_held e = held_in e.framed e.held
+
+abbrev pub seen_tally : EntryState → Tally
+seen_tally e = tally_in e.framed e.tally
+
+-- the walk over frames of a stream that is viewed so
+unfoldable pub AreFrames : Option EntryFrames → Option Framed → Type 0
+AreFrames None None = Unit {0}
+AreFrames None (Some f) = ⊥
+AreFrames (Some frames) None = ⊥
+AreFrames (Some frames) (Some f) = (frames.walk ≡ f.walk) × (frames.tick ≡ f.tick)
+
+pub record IsEntry (entry : StreamEntry) (e : EntryState) : Type 0 where
+  pub pid : entry.pid ≡ e.pid
+  pub clock_pid : entry.clock_pid ≡ e.clock_pid
+  pub counter : entry.counter ≡ e.counter
+  pub held : IsHeld entry.seen.buffers (seen_held e)
+  pub tally : entry.seen.tally ≡ seen_tally e
+  pub video : HoldsVideoOf entry.seen.buffers e.video (seen_held e)
+  pub video_tally : entry.video_tally ≡ e.video_tally
+  pub mark_tally : entry.mark_tally ≡ e.mark_tally
+  pub frames : AreFrames entry.frames e.framed
+  pub limit : entry.limit ≡ e.limit
+  pub delayed : entry.seen.delayed ≡ e.delayed
+
+-- 1. What a packet is to its buffers
+
+-- a packet with the counter of the one before it repeats that (ISO/IEC 13818-1, 2.4.3.3)
+unfoldable pub same_counter : Option ℕ → ℕ → Bool
+same_counter None counter = false
+same_counter (Some before) counter = before == counter
+
+abbrev pub is_repeated : Option ℕ → PacketView → Bool
+is_repeated counter packet = is_some packet.payload && same_counter counter packet.header.continuity_counter
+
+abbrev pub counter_after : Option ℕ → PacketView → Option ℕ
+counter_after counter packet = if is_some packet.payload then Some packet.header.continuity_counter else counter
+
+-- what begins with it: nothing where it repeats another one
+abbrev pub beginning_in : Option ℕ → PacketView → Beginning
+beginning_in counter packet = if is_repeated counter packet then Nothing else beginning_of packet
+
+-- when a unit is due that begins with it: before the first clock reference none has begun
+unfoldable pub due_by : ViewOptions → ℕ → Option PcrSample → Beginning → Option DueTime
+due_by options rx None beginning = None
+due_by options rx (Some clock) Nothing = None
+due_by options rx (Some clock) Unread = None
+due_by options rx (Some clock) (Stamped dts) = Some (due_at (step_of options.arrival) rx clock dts)
+
+-- how long it would stay, where that is longer than any unit may
+unfoldable pub ahead_by : Option PcrSample → Beginning → Option ℕ
+ahead_by None beginning = None
+ahead_by (Some clock) Nothing = None
+ahead_by (Some clock) Unread = None
+ahead_by (Some clock) (Stamped dts) =
+    if nat_lt longest_stay (ahead_of clock dts) && nat_lt (ahead_of clock dts) (pcr_period / 2) then Some (ahead_of clock dts) else None
+
+unfoldable pub is_unread : Beginning → Bool
+is_unread Nothing = false
+is_unread Unread = true
+is_unread (Stamped dts) = false
+
+abbrev pub arriving : ViewOptions → ℕ → ℕ → Option ℕ → Option PcrSample → PacketView → Arriving
+arriving options index rx counter clock packet = record {
+  index = index;
+  size = length (unwrap_or packet.payload []);
+  begins = due_by options rx clock (beginning_in counter packet);
+  enters = not (is_repeated counter packet);
+}
+
+-- 2. After a packet
+
+abbrev pub arriving_at : ViewOptions → ℕ → Option PcrSample → EntryState → PacketView → Arriving
+arriving_at options index clock e packet = arriving options index e.held.rx e.counter clock packet
+
+abbrev pub entered_at : ViewOptions → ℕ → Option PcrSample → EntryState → PacketView → EnteredView
+entered_at options index clock e packet = entered e.held options.arrival (arriving_at options index clock e packet)
+
+-- and what it has ended in the two buffers of video
+abbrev pub video_at : ViewOptions → ℕ → Option PcrSample → EntryState → PacketView → VideoEnteredView
+video_at options index clock e packet = video_of e.video e.held options.arrival (arriving_at options index clock e packet)
+
+abbrev pub video_unit_at : ViewOptions → ℕ → Option PcrSample → EntryState → PacketView → Option VideoUnit
+video_unit_at options index clock e packet = video_unit_of e.video e.held options.arrival (arriving_at options index clock e packet)
+
+-- a packet of sound that is viewed by access units
+
+abbrev pub payload_of : ViewOptions → ℕ → ℕ → Option ℕ → Option PcrSample → PacketView → FramedPayload
+payload_of options index rx counter clock packet = record {
+  arriving = arriving options index rx counter clock packet;
+  base = payload_byte index (length (unwrap_or packet.payload []));
+  tick = unit_tick options clock (beginning_in counter packet);
+  beginning = beginning_in counter packet;
+  bytes = frame_bytes (is_repeated counter packet) packet;
+}
+
+abbrev pub payload_at : ViewOptions → ℕ → Option PcrSample → Option ℕ → PacketView → Framed → FramedPayload
+payload_at options index clock counter packet f = payload_of options index f.held.rx counter clock packet
+
+abbrev pub counted_at : ViewOptions → ℕ → ℕ → Option PcrSample → ℕ → Option ℕ → ℕ → PacketView → Framed → Counted
+counted_at options index window clock limit counter delayed packet f =
+    payload_after options window (is_unread (beginning_in counter packet)) limit (payload_at options index clock counter packet f) f.walk f.tick
+    (record { held = f.held; tally = f.tally; delayed = delayed })
+
+abbrev pub framed_with : ViewOptions → ℕ → ℕ → Option PcrSample → ℕ → Option ℕ → ℕ → PacketView → Framed → Framed
+framed_with options index window clock limit counter delayed packet f = record {
+  walk = walk_after (walk_in (payload_at options index clock counter packet f) f.walk) (frame_bytes (is_repeated counter packet) packet);
+  tick = unwrap_or (unit_tick options clock (beginning_in counter packet)) f.tick;
+  held = (counted_at options index window clock limit counter delayed packet f).held;
+  tally = (counted_at options index window clock limit counter delayed packet f).tally;
+}
+
+unfoldable pub framed_after : ViewOptions → ℕ → ℕ → Option PcrSample → ℕ → Option ℕ → ℕ → PacketView → Option Framed → Option Framed
+framed_after options index window clock limit counter delayed packet None = None
+framed_after options index window clock limit counter delayed packet (Some f) = Some (framed_with options index window clock limit counter delayed packet f)
+
+-- how many units have had bytes that stay too long: the first byte of a unit that begins stays longest, and of each frame its own first byte
+abbrev pub unit_stay : ViewOptions → ℕ → Option PcrSample → ℕ → Option ℕ → PacketView → Option Stay
+unit_stay options index clock limit counter packet =
+    overstay_if options limit (payload_byte index (length (unwrap_or packet.payload []))) (unit_tick options clock (beginning_in counter packet))
+
+unfoldable pub parts_delayed : ViewOptions → ℕ → ℕ → Option PcrSample → ℕ → Option ℕ → ℕ → PacketView → Option Framed → ℕ
+parts_delayed options index window clock limit counter delayed packet None = delayed
+parts_delayed options index window clock limit counter delayed packet (Some f) = (counted_at options index window clock limit counter delayed packet f).delayed
+
+abbrev pub delayed_after : ViewOptions → ℕ → ℕ → Option PcrSample → ℕ → Option ℕ → ℕ → PacketView → Option Framed → ℕ
+delayed_after options index window clock limit counter delayed packet framed =
+    more (parts_delayed options index window clock limit counter delayed packet framed) (if is_some (unit_stay options index clock limit counter packet) then 1 else 0)
+
+-- the two buffers of video are viewed of streams that are not viewed by access units
+unfoldable pub video_tally_after : ViewOptions → ℕ → Option PcrSample → Option Framed → EntryState → PacketView → VideoTally
+video_tally_after options index clock None e packet = with_video e.video_tally (video_at options index clock e packet) (video_unit_at options index clock e packet)
+video_tally_after options index clock (Some f) e packet = e.video_tally
+
+-- the packet has entered the buffers
+abbrev pub entry_entered : ViewOptions → ℕ → ℕ → Option PcrSample → EntryState → PacketView → EntryState
+entry_entered options index window clock e packet = record {
+  pid = e.pid;
+  clock_pid = e.clock_pid;
+  counter = e.counter;
+  held = after e.held options.arrival (arriving_at options index clock e packet);
+  tally = tally_after e.tally window (is_unread (beginning_in e.counter packet)) (entered_at options index clock e packet);
+  video = e.video;
+  video_tally = video_tally_after options index clock e.framed e packet;
+  mark_tally = e.mark_tally;
+  framed = framed_after options index window clock e.limit e.counter e.delayed packet e.framed;
+  limit = e.limit;
+  delayed = parts_delayed options index window clock e.limit e.counter e.delayed packet e.framed;
+}
+
+-- and is counted
+abbrev pub entry_after : ViewOptions → ℕ → ℕ → Option PcrSample → EntryState → PacketView → EntryState
+entry_after options index window clock e packet = record {
+  pid = e.pid;
+  clock_pid = e.clock_pid;
+  counter = counter_after e.counter packet;
+  held = after e.held options.arrival (arriving_at options index clock e packet);
+  tally = tally_after e.tally window (is_unread (beginning_in e.counter packet)) (entered_at options index clock e packet);
+  video = e.video;
+  video_tally = video_tally_after options index clock e.framed e packet;
+  mark_tally = with_beginning e.mark_tally (beginning_in e.counter packet) packet;
+  framed = framed_after options index window clock e.limit e.counter e.delayed packet e.framed;
+  limit = e.limit;
+  delayed = delayed_after options index window clock e.limit e.counter e.delayed packet e.framed;
+}
+
+-- 3. At the end: what is counted, with the unit under way as the last one
+
+abbrev pub closed : ℕ → EntryState → Tally
+closed window e = with_unit_if e.tally window (unit_before e.held)
+
+abbrev pub closed_seen : ℕ → EntryState → Tally
+closed_seen window e = with_unit_if (seen_tally e) window (unit_before (seen_held e))
+
+-- 4. What is found of it
+
+abbrev pub place_at : ℕ → EntryState → Place
+place_at packet e = record { pid = e.pid; packet = packet; rx = (seen_held e).rx; size = (seen_held e).main.size }
+
+-- those of a packet: what begins with it, and what ends
+unfoldable pub events_entered : ViewOptions → ℕ → Option PcrSample → Place → EntryState → PacketView → Option Framed → List Event
+events_entered options index clock place e packet None = whole_events options place (arriving_at options index clock e packet) e.video e.held
+events_entered options index clock place e packet (Some f) =
+    payload_events options place e.limit (payload_at options index clock e.counter packet f) f.walk f.tick f.held
+
+-- the buffer in which a byte stays that is decoded
+unfoldable pub last_buffer : Option VideoSizes → BufferKind
+last_buffer None = Main
+last_buffer (Some sizes) = Elementary
+
+-- what the buffers hold after a packet
+unfoldable pub held_after : ViewOptions → ℕ → Option PcrSample → EntryState → PacketView → Option Framed → Held
+held_after options index clock e packet None = after e.held options.arrival (arriving_at options index clock e packet)
+held_after options index clock e packet (Some f) =
+    frames_held options (place_of e.limit (payload_at options index clock e.counter packet f) f.tick) (front_held options (payload_at options index clock e.counter packet f) f.walk f.held)
+    (frames_among (payload_at options index clock e.counter packet f) f.walk)
+
+abbrev pub entry_events : ViewOptions → ℕ → Option PcrSample → EntryState → PacketView → List Event
+entry_events options index clock e packet =
+    ahead_events (place_at index e) (ahead_by clock (beginning_in e.counter packet))
+    ++ (delayed_events options (place_at index e) (last_buffer e.video) e.limit (unit_stay options index clock e.limit e.counter packet)
+    ++ (events_entered options index clock (place_at index e) e packet e.framed
+    ++ stays_ended options (place_at index e) (busy_seen e.video (seen_held e)) (busy_seen e.video (held_after options index clock e packet e.framed))))
+
+-- those of a window
+abbrev pub units_of : ViewOptions → ℕ → EntryState → List Event
+units_of options window e = tally_events options window (place_at 0 e) (seen_tally e)
+
+-- those at the end
+abbrev pub stays_closing : ViewOptions → Place → EntryState → List Event
+stays_closing options place e =
+    busy_closing options place Transport (transport_busy_under_way (seen_held e)) ++ busy_closing options place Multiplexing (leak_under_way e.video (seen_held e))
+
+abbrev pub end_events : ViewOptions → ℕ → ℕ → EntryState → List Event
+end_events options packets window e =
+    tally_events options window (place_at packets e) (closed_seen window e)
+    ++ (closing_events options (place_at packets e) (seen_held e) (closed_seen window e)
+    ++ (video_closing_events options (place_at packets e) (figures_of e.video (seen_held e)) (closed_seen window e).units e.video_tally
+    ++ (stays_closing options (place_at packets e) e ++ mark_events e.pid e.mark_tally)))
+
+-- no buffer held more than its size, and no unit was late: the same of the two buffers of video, if they are viewed
+abbrev pub is_sound : EntryState → Bool
+is_sound e = nat_le (transport_most (seen_held e)) tb_size && (nat_le (main_most (seen_held e)) (seen_held e).main.size && (closed_seen 0 e).late == 0)
+
+-- no byte stayed too long, and no buffer was not empty for more than a second
+abbrev pub is_timely : EntryState → Bool
+is_timely e =
+    e.delayed == 0
+    && (is_idle (transport_busy (seen_held e)) (transport_busy_under_way (seen_held e))
+    && is_leak_idle (leak_busy_of e.video (seen_held e)) (leak_under_way e.video (seen_held e)))
+
+abbrev pub is_good : EntryState → Bool
+is_good e = is_sound e && (is_video_good (figures_of e.video (seen_held e)) e.video_tally && is_timely e)

@@ -1,0 +1,12 @@
+pub mod Clocks
+pub mod Tallies
+pub mod MarkTallies
+pub mod EntryEvents
+pub mod VideoTallies
+pub mod VideoFigures
+pub mod VideoEvents
+pub mod HeldEvents
+pub mod EntryStays
+pub mod EntryFrames
+pub mod Entries
+pub mod Crowding

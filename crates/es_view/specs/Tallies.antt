@@ -1,0 +1,76 @@
+-- What is counted of a stream: excesses, units, and in a window what its buffers held and the units that ended.
+use Rattle.std.specs.Prelude.{ℕ, ◌+◌, ◌-◌, ◌^◌, ◌==◌, max, min, nat_lt, Bool, if◌then◌else◌, length, Option, Some, None}
+use Rattle.tstd_rows.specs.Entering.{EnteredView}
+use Rattle.tstd_rows.specs.Lows.{least_of_both}
+use Rattle.tstd_rows.specs.declared.unit_seen.UnitSeen.{UnitSeen}
+use Rattle.es_view.specs.declared.tally.Tally.{Tally}
+
+abbrev pub none_counted : Tally
+none_counted = record {
+  excesses = 0;
+  main_excesses = 0;
+  units = 0;
+  late = 0;
+  unread = 0;
+  window = 0;
+  window_transport = 0;
+  window_main = 0;
+  window_least = None;
+  window_units = 0;
+  window_late = 0;
+  slack = 2 ^ 128 - 1;
+}
+
+-- numbers stop at 2^64 - 1
+abbrev pub more : ℕ → ℕ → ℕ
+more n count = min (n + count) (2 ^ 64 - 1)
+
+-- another window than the last packet's has none yet
+abbrev pub in_window : Tally → ℕ → Tally
+in_window t window = if t.window == window then t else record t { window = window; window_transport = 0; window_main = 0; window_least = None; window_units = 0; window_late = 0; slack = 2 ^ 128 - 1 }
+
+-- what the buffers held when a packet of the window entered: the most in each, and the least that a byte of it found in the main buffer
+abbrev pub grown : Tally → EnteredView → Tally
+grown t e = record t {
+  window_transport = max t.window_transport e.transport_most;
+  window_main = max t.window_main e.main_most;
+  window_least = least_of_both t.window_least e.main_least;
+}
+
+abbrev pub with_packet : Tally → ℕ → EnteredView → Tally
+with_packet t window e = grown (in_window t window) e
+
+-- a unit is late whose last byte leaves the transport buffer after it is due
+abbrev pub is_late : UnitSeen → Bool
+is_late u = nat_lt 0 (u.left - u.due.deadline)
+
+abbrev pub counted : Tally → UnitSeen → Tally
+counted t u = record t {
+  units = more t.units 1;
+  late = more t.late (if is_late u then 1 else 0);
+  window_units = more t.window_units 1;
+  window_late = more t.window_late (if is_late u then 1 else 0);
+  slack = min t.slack (u.due.deadline - u.left);
+}
+
+abbrev pub with_unit : Tally → ℕ → UnitSeen → Tally
+with_unit t window u = counted (in_window t window) u
+
+unfoldable pub with_unit_if : Tally → ℕ → Option UnitSeen → Tally
+with_unit_if t window None = t
+with_unit_if t window (Some u) = with_unit t window u
+
+abbrev pub with_excesses : Tally → ℕ → ℕ → Bool → Tally
+with_excesses t transport main unread = record t {
+  excesses = more t.excesses transport;
+  main_excesses = more t.main_excesses main;
+  unread = more t.unread (if unread then 1 else 0);
+}
+
+-- how many excesses ended, of the transport buffer and of the main buffer
+abbrev pub excess_counts : EnteredView → ℕ × ℕ
+excess_counts e = (length e.transport, length e.main)
+
+-- what a packet, or a part of it, has ended, of which the header was read or not
+abbrev pub tally_after : Tally → ℕ → Bool → EnteredView → Tally
+tally_after t window unread e = with_unit_if (with_excesses (with_packet t window e) (length e.transport) (length e.main) unread) window e.unit

@@ -1,0 +1,235 @@
+//! The buffers of a stream, and what is counted of them.
+ghost use Rattle.std.specs.Prelude.{◌≡◌, ◌++◌, ◌<◌, ◌^◌, OnOk, Option, if◌then◌else◌, is_some};
+ghost use Rattle.tstd_rows.specs.Entering.{after, entered_view};
+ghost use Rattle.tstd_rows.specs.EnteringVideo.{video_of, video_unit_of};
+ghost use Rattle.tstd_rows.specs.Held.{Held, IsHeld};
+ghost use Rattle.es_view.specs.VideoTallies.{with_video};
+ghost use Rattle.tstd_rows.specs.HeldVideo.{HoldsVideoOf, VideoSizes};
+ghost use Rattle.es_view.specs.EntryFrames as spec;
+ghost use Rattle.es_view.specs.EntryFrames.{AreCounted, Counted};
+ghost use Rattle.es_view.specs.Tallies.{excess_counts, more, tally_after};
+
+use crate::clocks::LONGEST_STAY;
+use crate::entry_events::{Place, push_ended};
+use crate::entry_stays::{overstay_of, push_delayed_if};
+use crate::tally::Tally;
+use crate::video_events::push_video_ended;
+use crate::video_figures::video_limits;
+use crate::video_tally::VideoTally;
+use crate::view_options::ViewOptions;
+use events::{BufferKind, Event};
+use std::alloc::AllocError;
+use stream_coding::FramePart;
+use tstd_rows::{Arriving, BusyWatch, DueTime, Entered, Stay, StreamBuffers, UnitPart};
+
+// No time in ticks that counts is after this one.
+const LAST_TICK: u128 = (1 << 61) - 1;
+
+/// The buffers of a stream, what is counted of them, and how many of its units had bytes that stayed too long.
+#[derive(Drop)]
+pub struct CountedBuffers {
+    pub buffers: StreamBuffers,
+    pub tally: Tally,
+    pub delayed: u64,
+}
+
+/// How long the transport buffer, and of video the multiplexing buffer, is not empty.
+#[derive(Clone, Copy)]
+pub(crate) struct BusySeen {
+    pub transport: BusyWatch,
+    pub multiplexing: Option<BusyWatch>,
+}
+
+/// Where the frames of a payload are: how long in ticks a byte may stay, the first of its bytes of frames, and when the unit is due, in ticks
+/// from the stream's first byte.
+#[derive(Clone, Copy)]
+pub(crate) struct FramePlace {
+    pub limit: u64,
+    pub base: u64,
+    pub tick: u128,
+}
+
+// The number of excesses that ended.
+fn excess_counts(entered: &Entered) -> (u64, u64)
+    ensures { result ≡ excess_counts (entered_view entered.now) }
+{
+    let transport = u64::from(entered.lead.is_some())
+        + u64::from(entered.header.is_some())
+        + u64::from(entered.payload.is_some());
+    (transport, u64::from(entered.main.is_some()))
+}
+
+/// Counts what has ended with a packet, or with a part of it.
+#[inline(always)]
+pub(crate) fn add_entered(tally: &mut Tally, window: u64, unread: bool, entered: &Entered)
+    ensures { tally.new ≡ tally_after tally.old window unread (entered_view entered.now) }
+{
+    let (transport, main) = excess_counts(entered);
+    tally.add_packet(window, entered);
+    tally.add_excesses(transport, main, unread);
+    tally.add_unit_if(window, &entered.unit);
+}
+
+// When a frame is due, in ticks.
+fn frame_tick(tick: u128, part: &FramePart) -> u128
+    ensures value { result ≡ spec.frame_tick tick part.now }
+    ensures bound { result < 2 ^ 61 }
+{
+    let ahead = (u128::from(part.ahead) * 300).min(u128::from(LONGEST_STAY));
+    tick.saturating_add(ahead).min(LAST_TICK)
+}
+
+// A frame as the buffers see it.
+fn unit_part(options: &ViewOptions, rx: u32, at: &FramePlace, part: &FramePart) -> UnitPart
+    ensures { result ≡ spec.unit_part options.now rx at.now.base at.now.tick part.now }
+{
+    UnitPart {
+        byte: at.base.saturating_add(part.place as u64),
+        size: part.size as u64,
+        due: DueTime::on_tick(options.arrival.step(), rx, frame_tick(at.tick, part)),
+    }
+}
+
+impl CountedBuffers {
+    /// Counts a unit whose bytes stay too long, if they do.
+    pub(crate) fn add_delayed_if(&mut self, stay: &Option<Stay>)
+        ensures delayed { self.new.delayed ≡ more self.old.delayed (if is_some stay.now then 1 else 0) }
+        ensures buffers { self.new.buffers ≡ self.old.buffers }
+        ensures tally { self.new.tally ≡ self.old.tally }
+    {
+        self.delayed = self.delayed.saturating_add(u64::from(stay.is_some()));
+    }
+
+    /// Returns how long the buffers are not empty.
+    #[tactic(auto, unfolding(crate::specs::EntryFrames::leak_busy_of))]
+    pub(crate) fn busy(&self) -> BusySeen
+        ensures { (h : Held) (sizes : Option VideoSizes) → IsHeld self.now.buffers h → HoldsVideoOf self.now.buffers sizes h →
+            result ≡ spec.busy_seen sizes h }
+    {
+        let multiplexing = match &self.buffers.video {
+            None => None,
+            Some(video) => Some(video.busy),
+        };
+        BusySeen {
+            transport: self.buffers.busy(),
+            multiplexing,
+        }
+    }
+
+    /// Returns the time since when the multiplexing buffer of video is not empty, if it is longer than a second.
+    pub(crate) fn leak_under_way(&self) -> Option<Stay>
+        ensures { (h : Held) (sizes : Option VideoSizes) → HoldsVideoOf self.now.buffers sizes h →
+            result ≡ spec.leak_under_way sizes h }
+    {
+        match &self.buffers.video {
+            None => None,
+            Some(video) => video.busy_under_way(),
+        }
+    }
+
+    /// Takes a packet, and appends what has ended with it.
+    pub(crate) fn enter_whole(
+        &mut self,
+        options: &ViewOptions,
+        place: &Place,
+        window: u64,
+        unread: bool,
+        arriving: &Arriving,
+        video_tally: &mut VideoTally,
+        events: &mut Vec<Event>,
+    ) -> Result<(), AllocError>
+        ensures counted { (c : Counted) → AreCounted self.old c → OnOk result (AreCounted self.new (spec.whole_after options.now window unread arriving.now c)) }
+        ensures video { (c : Counted) (sizes : Option VideoSizes) → AreCounted self.old c → HoldsVideoOf self.old.buffers sizes c.held →
+            OnOk result (HoldsVideoOf self.new.buffers sizes (after c.held options.now.arrival arriving.now)) }
+        ensures tally { (c : Counted) (sizes : Option VideoSizes) → AreCounted self.old c → HoldsVideoOf self.old.buffers sizes c.held →
+            OnOk result (video_tally.new ≡ with_video video_tally.old (video_of sizes c.held options.now.arrival arriving.now)
+            (video_unit_of sizes c.held options.now.arrival arriving.now)) }
+        ensures found { (c : Counted) (sizes : Option VideoSizes) → AreCounted self.old c → HoldsVideoOf self.old.buffers sizes c.held →
+            OnOk result (events.new.items ≡ events.old.items ++ spec.whole_events options.now place.now arriving.now sizes c.held) }
+    {
+        let limits = video_limits(&self.buffers);
+        let mut entered = Entered::new();
+        self.buffers
+            .enter_into(&options.arrival, arriving, &mut entered)?;
+        push_ended(events, options, place, &entered)?;
+        push_video_ended(events, options, place, &limits, &entered.video)?;
+        add_entered(&mut self.tally, window, unread, &entered);
+        video_tally.add_packet(&entered.video);
+        Ok(())
+    }
+
+    // A packet with the first `count` bytes of its payload.
+    pub(crate) fn enter_front(
+        &mut self,
+        options: &ViewOptions,
+        place: &Place,
+        window: u64,
+        unread: bool,
+        arriving: &Arriving,
+        count: u64,
+        events: &mut Vec<Event>,
+    ) -> Result<(), AllocError>
+        ensures counted { (c : Counted) → AreCounted self.old c → OnOk result (AreCounted self.new (spec.front_after options.now window unread arriving.now count c)) }
+        ensures video { (c : Counted) (sizes : Option VideoSizes) → AreCounted self.old c → HoldsVideoOf self.old.buffers sizes c.held →
+            OnOk result (HoldsVideoOf self.new.buffers sizes (spec.front_after options.now window unread arriving.now count c).held) }
+        ensures found { (c : Counted) → AreCounted self.old c → OnOk result (events.new.items
+            ≡ events.old.items ++ spec.front_events options.now place.now arriving.now count c.held) }
+    {
+        let mut entered = Entered::new();
+        self.buffers
+            .enter_front(&options.arrival, arriving, count, &mut entered)?;
+        push_ended(events, options, place, &entered)?;
+        add_entered(&mut self.tally, window, unread, &entered);
+        Ok(())
+    }
+
+    // The bytes of a frame that begins within the payload.
+    fn enter_frame(
+        &mut self,
+        options: &ViewOptions,
+        place: &Place,
+        at: &FramePlace,
+        window: u64,
+        frame: &FramePart,
+        events: &mut Vec<Event>,
+    ) -> Result<(), AllocError>
+        ensures counted { (c : Counted) → AreCounted self.old c → OnOk result (AreCounted self.new (spec.frame_after options.now at.now window c frame.now)) }
+        ensures video { (c : Counted) (sizes : Option VideoSizes) → AreCounted self.old c → HoldsVideoOf self.old.buffers sizes c.held →
+            OnOk result (HoldsVideoOf self.new.buffers sizes (spec.frame_after options.now at.now window c frame.now).held) }
+        ensures found { (c : Counted) → AreCounted self.old c → OnOk result (events.new.items
+            ≡ events.old.items ++ spec.frame_events options.now place.now at.now c.held frame.now) }
+    {
+        let part = unit_part(options, self.buffers.rx, at, frame);
+        let mut entered = Entered::new();
+        self.buffers
+            .enter_part(&options.arrival, &part, &mut entered)?;
+        push_ended(events, options, place, &entered)?;
+        let stay = overstay_of(options, at.limit, part.byte, frame_tick(at.tick, frame));
+        push_delayed_if(events, options, place, BufferKind::Main, at.limit, &stay)?;
+        add_entered(&mut self.tally, window, false, &entered);
+        self.add_delayed_if(&stay);
+        Ok(())
+    }
+
+    /// Takes the bytes of the frames that begin within a payload, one after another, and appends their events.
+    pub(crate) fn enter_frames(
+        &mut self,
+        options: &ViewOptions,
+        place: &Place,
+        at: &FramePlace,
+        window: u64,
+        frames: &[FramePart],
+        events: &mut Vec<Event>,
+    ) -> Result<(), AllocError>
+        ensures counted { (c : Counted) → AreCounted self.old c → OnOk result (AreCounted self.new (spec.frames_after options.now at.now window c frames.now)) }
+        ensures video { (c : Counted) (sizes : Option VideoSizes) → AreCounted self.old c → HoldsVideoOf self.old.buffers sizes c.held →
+            OnOk result (HoldsVideoOf self.new.buffers sizes (spec.frames_after options.now at.now window c frames.now).held) }
+        ensures found { (c : Counted) → AreCounted self.old c → OnOk result (events.new.items
+            ≡ events.old.items ++ spec.frames_events options.now place.now at.now c.held frames.now) }
+    {
+        for frame in frames {
+            self.enter_frame(options, place, at, window, frame, events)?;
+        }
+        Ok(())
+    }
+}

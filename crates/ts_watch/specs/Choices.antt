@@ -1,0 +1,61 @@
+-- Which streams are viewed, and with which buffers.
+use Rattle.std.specs.Prelude.{ℕ, ◌==◌, ◌||◌, is_some, min, Bool, if◌then◌else◌, List, length, Option, Some, None}
+use Rattle.std.specs.List.{list_any}
+use Rattle.stream_coding.specs.declared.coding.Coding.{Coding}
+use Rattle.stream_coding.specs.declared.frame_headers.FrameKind.{FrameKind}
+use Rattle.stream_coding.specs.FrameHeaders.{frame_kind}
+use Rattle.stream_coding.specs.declared.buffers.Buffers.{Buffers}
+use Rattle.stream_coding.specs.declared.buffers.PidBuffers.{PidBuffers}
+use Rattle.stream_coding.specs.Buffers.{buffers_of, given_buffers, joined_buffers_of, multiplexing_of}
+use Rattle.unit_timing.specs.declared.multiplexing_buffer.MultiplexingBuffer.{MultiplexingBuffer}
+use Rattle.tstd_rows.specs.declared.video_buffers.VideoRates.{VideoRates}
+use Rattle.stream_programs.specs.Streams.{FoundStreamView}
+use Rattle.es_view.specs.declared.view_options.ViewOptions.{ViewOptions}
+use Rattle.ts_watch.specs.declared.view_request.ViewSpan.{ViewSpan}
+
+-- the numbers of programs, all where there is none, and buffers of PIDs
+pub record ChoiceView : Type 0 where
+  pub programs : List ℕ
+  pub buffers : List PidBuffers
+
+-- with how a stream is viewed, and which part of it
+pub record RequestView : Type 0 where
+  pub options : ViewOptions
+  pub choice : ChoiceView
+  pub span : ViewSpan
+
+unfoldable pub is_among : ℕ → List ℕ → Bool
+is_among number numbers = list_any (λ other. other == number) numbers
+
+-- the streams of a program are viewed
+abbrev pub takes : ChoiceView → ℕ → Bool
+takes choice program = length choice.programs == 0 || is_among program choice.programs
+
+-- a stream, where its program is one of these
+unfoldable pub chosen : ChoiceView → Option FoundStreamView → Option FoundStreamView
+chosen choice None = None
+chosen choice (Some stream) = if takes choice stream.program then Some stream else None
+
+-- its buffers: those that are given, or else those of its coding, of video the multiplexing buffer and the elementary stream buffer as
+-- one; no rate is beyond 200,000,000 bits a second
+unfoldable pub given_or : Option Buffers → Buffers → Buffers
+given_or None coded = coded
+given_or (Some given) coded = given
+
+abbrev pub up_to_limit : Buffers → Buffers
+up_to_limit buffers = record { rx = min buffers.rx 200000000; main = buffers.main }
+
+abbrev pub buffers_for : ChoiceView → ℕ → Coding → Buffers
+buffers_for choice pid coding = up_to_limit (given_or (given_buffers choice.buffers pid) (joined_buffers_of coding))
+
+-- the two buffers of video, as its coding says: none are viewed where the PID's buffers are given, or of another coding
+unfoldable pub rates_if : Option MultiplexingBuffer → ℕ → Option VideoRates
+rates_if None elementary = None
+rates_if (Some m) elementary = Some (record { rbx = m.rbx; multiplexing = m.size; elementary = elementary })
+
+abbrev pub rates_for : ChoiceView → ℕ → Coding → Option VideoRates
+rates_for choice pid coding = if is_some (given_buffers choice.buffers pid) then None else rates_if (multiplexing_of coding) (buffers_of coding).main
+
+-- which frames the sound of a stream has whose main buffer is viewed by access units: none is viewed so where the PID's buffers are given
+abbrev pub frames_for : ChoiceView → ℕ → ℕ → List ℕ → Option FrameKind
+frames_for choice pid stream_type descriptors = if is_some (given_buffers choice.buffers pid) then None else frame_kind stream_type descriptors

@@ -1,0 +1,13 @@
+//! The events of a transport stream beside those of its elementary streams: clock references, packets by PID, tables, the rules of TR 101 290, and
+//! the buffers of system data.
+#![tactic(auto)]
+
+pub mod clock_events;
+mod pid_labels;
+pub mod reference_events;
+pub mod rule_watch;
+pub mod system_events;
+pub mod table_watch;
+pub mod view_choice;
+pub mod view_request;
+pub mod window_events;
