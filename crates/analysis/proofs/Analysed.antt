@@ -15,7 +15,7 @@ pub record Going (analyser : Analyser) (left : List Event) (out : List TimedEven
   pub rest : out ++ all_timed now left ≡ whole
 
 pub event_taken : (old new : Analyser) (event : Event) (left : List Event) (out out' : List TimedEvent) (last : AnalysisState) (whole : List TimedEvent) →
-    ((s : AnalysisState) → IsAnalysed old s → IsAnalysed new (with_event s event)) → ((s : AnalysisState) → IsAnalysed old s → out' ≡ out ++ timed s.view event ∷ []) →
+    ((s : AnalysisState) → IsAnalysed old s → IsAnalysed new (with_event s event)) → ((s : AnalysisState) → IsAnalysed old s → out' ≡ out ++ timed s event) →
     Going old (event ∷ left) out last whole → Going new left out' last whole
 unfolding with_events all_timed
 event_taken old new event left out out' last whole takes writes g = record {
@@ -23,7 +23,7 @@ event_taken old new event left out out' last whole takes writes g = record {
   is = takes g.now g.is;
   kept = g.kept;
   rest = ap (λ (t : List TimedEvent). t ++ all_timed (with_event g.now event) left) (writes g.now g.is)
-      ∙ append_assoc out (timed g.now.view event ∷ []) (all_timed (with_event g.now event) left) ∙ g.rest;
+      ∙ append_assoc out (timed g.now event) (all_timed (with_event g.now event) left) ∙ g.rest;
 }
 
 pub events_kept : (analyser : Analyser) (out : List TimedEvent) (last : AnalysisState) (whole : List TimedEvent) → Going analyser [] out last whole → IsAnalysed analyser last

@@ -1,5 +1,5 @@
 //! A view of a stream, whose events get their times, and are counted by the checks that they fail.
-ghost use Rattle.std.specs.Prelude.{◌≡◌, ◌++◌, ◌∷◌, [], IfOk, OnOk, false};
+ghost use Rattle.std.specs.Prelude.{◌≡◌, ◌++◌, ◌∷◌, ◌&&◌, [], IfOk, OnOk, false};
 ghost use Rattle.ts_report.specs.ClockedViews.{ClockedState, IsClocked};
 ghost use Rattle.ts_report.specs.ClockedViews as views;
 ghost use Rattle.analysis.specs.Analysis as spec;
@@ -8,7 +8,7 @@ ghost use Rattle.analysis.specs.Analysis.{AnalysisState, IsAnalysed};
 use events::{Event, Fault, TimedEvent, fault_of};
 use fault_summary::Summary;
 use std::alloc::{AllocError, Global};
-use ts_report::{ClockedView, ViewRequest};
+use ts_report::{ClockedView, ViewRequest, ViewSpan};
 
 /// A stream so far, without its packets, and what its events come to.
 ///
@@ -18,6 +18,82 @@ pub struct Analyser {
     alloc: Global,
     pub view: ClockedView,
     pub summary: Summary,
+    /// The part of the stream whose faults and windows are asked for, and the length of a window in ms.
+    pub span: ViewSpan,
+    pub window: u32,
+}
+
+/// A millisecond in ticks of 27 MHz.
+const TICKS: u128 = 27_000;
+
+// Whether what ends then does so at the first moment that is asked for, or after it.
+#[tactic(auto, unfolding(crate::specs::Analysis::ends_after))]
+fn ends_after(from: Option<u64>, end: u128) -> bool
+    ensures { result ≡ spec.ends_after from end }
+{
+    match from {
+        None => true,
+        Some(ms) => TICKS * u128::from(ms) <= end,
+    }
+}
+
+// Whether what begins then does so at the last moment that is asked for, or before it.
+#[tactic(auto, unfolding(crate::specs::Analysis::begins_before))]
+fn begins_before(to: Option<u64>, begin: u128) -> bool
+    ensures { result ≡ spec.begins_before to begin }
+{
+    match to {
+        None => true,
+        Some(ms) => begin <= TICKS * u128::from(ms),
+    }
+}
+
+fn overlaps(span: ViewSpan, begin: u128, end: u128) -> bool
+    ensures { result ≡ spec.overlaps span begin end }
+{
+    ends_after(span.from, end) && begins_before(span.to, begin)
+}
+
+// Whether a fault reaches into the part that is asked for.
+#[tactic(auto, unfolding(crate::specs::Analysis::fault_in, crate::specs::Analysis::lasts_in))]
+fn fault_in(span: ViewSpan, fault: &Option<Fault>) -> bool
+    ensures { result ≡ spec.fault_in span fault.now }
+{
+    let Some(fault) = fault else {
+        return true;
+    };
+    match (fault.from, fault.to) {
+        (Some(begin), Some(end)) => overlaps(span, begin, end),
+        _ => true,
+    }
+}
+
+// The number of the window that an event is about.
+#[tactic(auto, unfolding(crate::specs::Analysis::window_of))]
+fn window_of(event: &Event) -> Option<u64>
+    ensures { result ≡ spec.window_of event.now }
+{
+    match event {
+        Event::Window(window) => Some(window.number),
+        Event::Held(held) => Some(held.number),
+        Event::Units(units) => Some(units.number),
+        _ => None,
+    }
+}
+
+// Whether a window reaches into the part that is asked for.
+#[tactic(auto, unfolding(crate::specs::Analysis::window_in))]
+fn window_in(span: ViewSpan, window: u32, number: Option<u64>) -> bool
+    ensures { result ≡ spec.window_in span window number }
+{
+    match number {
+        None => true,
+        Some(number) => {
+            let length = TICKS * u128::from(window);
+            let end = length * (u128::from(number) + 1);
+            overlaps(span, length * u128::from(number), end.saturating_sub(1))
+        }
+    }
 }
 
 // The moment of the packet of a fault.
@@ -37,14 +113,25 @@ impl Analyser {
         ensures analysed { IsAnalysed result (spec.start request) }
         ensures calm { spec.is_crowded result ≡ false }
     {
+        let span = request.span;
+        let window = request.options.window;
         Analyser {
             alloc,
             view: ClockedView::new(alloc, request),
             summary: Summary::new(alloc),
+            span,
+            window,
         }
     }
 
-    /// Takes an event, and appends it with the moment of its packet.
+    // Whether an event is about the part of the stream that is asked for; `fault`: what it says that is wrong.
+    fn is_kept(&self, event: &Event, fault: &Option<Fault>) -> bool
+        ensures { result ≡ (spec.window_in self.now.span self.now.window (spec.window_of event.now) && spec.fault_in self.now.span fault.now) }
+    {
+        window_in(self.span, self.window, window_of(event)) && fault_in(self.span, fault)
+    }
+
+    /// Takes an event of the part that is asked for, and appends it with the moment of its packet; leaves out any other.
     pub fn take_event(
         &mut self,
         event: Event,
@@ -53,10 +140,14 @@ impl Analyser {
         ensures analysed { (s : AnalysisState) → IsAnalysed self.old s →
             OnOk result (IsAnalysed self.new (spec.with_event s event)) }
         ensures found { (s : AnalysisState) → IsAnalysed self.old s →
-            OnOk result (events.new.items ≡ events.old.items ++ spec.timed s.view event ∷ []) }
+            OnOk result (events.new.items ≡ events.old.items ++ spec.timed s event) }
     {
         let at = at_of(&self.view, &fault_of(&event, None));
-        self.summary.take(&event, &fault_of(&event, at))?;
+        let fault = fault_of(&event, at);
+        if !self.is_kept(&event, &fault) {
+            return Ok(());
+        }
+        self.summary.take(&event, &fault)?;
         events.push(TimedEvent { event, at })?;
         Ok(())
     }

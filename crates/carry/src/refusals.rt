@@ -7,6 +7,9 @@ use pes_packet::{Unit, greatest_size};
 use std::alloc::Allocator;
 use unit_queue::{FeedError, own_cause, time_cause};
 
+// No key says how long after its DTS a unit's PTS may be.
+const PTS_LIMIT: u32 = 90_000;
+
 /// Returns the first cause for which a unit is refused where stream 0 has a PID for itself: its stream_id is `id`,
 /// and no DTS below `min_next_dts` is accepted.
 #[tactic(auto, unfolding(crate::specs::Refusals::refusal, unit_queue::specs::Causes::or_cause))]
@@ -21,7 +24,7 @@ pub(crate) fn refusal<A: Allocator>(
     if stream != 0 {
         return Some(FeedError::UnknownStream);
     }
-    match own_cause(greatest_size(id), min_next_dts, unit) {
+    match own_cause(greatest_size(id), PTS_LIMIT, min_next_dts, unit) {
         Some(cause) => Some(cause),
         None => time_cause(false, unit.dts),
     }

@@ -206,6 +206,7 @@ pub stream_is : (d : Data) → IsStream (described_stream d)
 stream_is d =
     let interval = integer_at-within (codes "interval") 1 90000 1 d (omega arith) (omega arith) in
     let lead = integer_at-within (codes "lead") 1 90000 1 d (omega arith) (omega arith) in
+    let pts_limit = integer_or-within (codes "pts_limit") 1 5400000 90000 1 d (omega arith) (omega arith) (omega arith) (omega arith) in
     let bounds = size_bounds (id_or_private d) (is_video_id (id_or_private d)) refl in
     let size = integer_at-within (codes "size") 1 (greatest_size d) 1 d (omega arith) bounds.some in
     let rx = rx_within d in
@@ -222,6 +223,8 @@ stream_is d =
       bounded_size = λ low. within_trans size.most (bounds.bounded low);
       some_lead = lead.least;
       most_lead = lead.most;
+      some_pts_limit = pts_limit.least;
+      most_pts_limit = pts_limit.most;
       least_rx = rx.least;
       most_rx = rx.most;
       some_main = main.least;

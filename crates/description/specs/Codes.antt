@@ -62,6 +62,7 @@ stream_code stream.Mb = 59
 stream_code stream.Frames = 84
 stream_code stream.Frame = 85
 stream_code stream.FrameSize = 86
+stream_code stream.PtsLimit = 87
 
 abbrev pub event_code : EventKey → ℕ
 event_code event.Program = 61

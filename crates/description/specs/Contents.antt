@@ -8,7 +8,7 @@ use Rattle.description.specs.Values.{elements, section_in}
 use Rattle.description.specs.TopKeys as top
 use Rattle.description.specs.NetworkKeys.{network_id, network_name, network_descriptors}
 use Rattle.description.specs.ProgramKeys.{program_number, program_pmt_pid, program_pcr_pid, program_pcr_limit, program_descriptors, program_service_type, program_provider, program_name}
-use Rattle.description.specs.StreamKeys.{owner_number, is_owned_by, stream_sharers, stream_pid, id_or_private, stream_type, stream_interval, stream_size, stream_lead, stream_rx, stream_main, stream_tag, stream_language, stream_descriptors, stream_allowance, stream_multiplexing, stream_framing}
+use Rattle.description.specs.StreamKeys.{owner_number, is_owned_by, stream_sharers, stream_pid, id_or_private, stream_type, stream_interval, stream_size, stream_lead, stream_pts_limit, stream_rx, stream_main, stream_tag, stream_language, stream_descriptors, stream_allowance, stream_multiplexing, stream_framing}
 use Rattle.description.specs.EventKeys.{event_id, event_start, event_duration, event_language, event_name, event_text}
 use Rattle.description.specs.TableKeys.{private_pid, private_limit, is_listed, entry_type, entry_descriptors}
 use Rattle.description.specs.Refusals.{network_of, programs_of, streams_of, events_of, tables_of}
@@ -62,6 +62,7 @@ described_stream stream = record {
   interval = unwrap_or (stream_interval stream) 1;
   size = unwrap_or (stream_size stream) 1;
   lead = unwrap_or (stream_lead stream) 1;
+  pts_limit = unwrap_or (stream_pts_limit stream) 1;
   rx = unwrap_or (stream_rx stream) 64000;
   main = unwrap_or (stream_main stream) 1;
   tag = unwrap_or (stream_tag stream) None;

@@ -105,6 +105,8 @@ pub record IsStream (s : DescribedStream) : Type 0 where
   pub bounded_size : s.stream_id < 224 → s.size ≤ 65522
   pub some_lead : 1 ≤ s.lead
   pub most_lead : s.lead ≤ 90000
+  pub some_pts_limit : 1 ≤ s.pts_limit
+  pub most_pts_limit : s.pts_limit ≤ 5400000
   pub least_rx : 64000 ≤ s.rx
   pub most_rx : s.rx ≤ 200000000
   pub some_main : 1 ≤ s.main

@@ -39,7 +39,7 @@ program_keys = program.Number ∷ program.PmtPid ∷ program.PcrPid ∷ program.
 abbrev pub stream_keys : List StreamKey
 stream_keys = stream.Program ∷ stream.Pid ∷ stream.StreamId ∷ stream.StreamType ∷ stream.Interval ∷ stream.Size ∷ stream.Lead ∷ stream.Rx ∷ stream.Main
     ∷ stream.Tag ∷ stream.Language ∷ stream.Descriptors ∷ stream.Group ∷ stream.GroupPackets ∷ stream.BurstPackets ∷ stream.Pace
-    ∷ stream.SharedWith ∷ stream.Rbx ∷ stream.Mb ∷ stream.Frames ∷ stream.Frame ∷ stream.FrameSize ∷ []
+    ∷ stream.SharedWith ∷ stream.Rbx ∷ stream.Mb ∷ stream.Frames ∷ stream.Frame ∷ stream.FrameSize ∷ stream.PtsLimit ∷ []
 
 abbrev pub event_keys : List EventKey
 event_keys = event.Program ∷ event.Id ∷ event.Start ∷ event.Duration ∷ event.Language ∷ event.Name ∷ event.Text ∷ []

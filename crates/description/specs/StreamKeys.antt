@@ -9,7 +9,7 @@ use Rattle.unit_timing.specs.declared.multiplexing_buffer.MultiplexingBuffer.{Mu
 use Rattle.description.specs.Values.{at_key, integer_in, integer_at, integer_or, optional_integer, optional_language, descriptors_or_none, elements, array_in, is_distinct}
 use Rattle.description.specs.ProgramKeys.{program_number}
 use Rattle.description.specs.declared.stream_keys.StreamKey.{StreamKey}
-use Rattle.description.specs.declared.stream_keys.StreamKey.TheVariants.{Program, Pid, StreamId, StreamType, Interval, Size, Lead, Rx, Main, Tag, Language, Descriptors, Group, GroupPackets, BurstPackets, Pace, SharedWith, Rbx, Mb, Frames, Frame, FrameSize}
+use Rattle.description.specs.declared.stream_keys.StreamKey.TheVariants.{Program, Pid, StreamId, StreamType, Interval, Size, Lead, Rx, Main, Tag, Language, Descriptors, Group, GroupPackets, BurstPackets, Pace, SharedWith, Rbx, Mb, Frames, Frame, FrameSize, PtsLimit}
 
 -- the number of the program that a stream or an event belongs to
 abbrev pub owner_number : Data → Option ℕ
@@ -67,6 +67,11 @@ stream_size stream = integer_at (codes "size") (pos 1) (pos (greatest_size strea
 -- the greatest time from the arrival of a unit to its decoding, in units of 90 kHz
 abbrev pub stream_lead : Data → Option ℕ
 stream_lead = integer_at (codes "lead") (pos 1) (pos 90000)
+
+-- the greatest time from the decoding of a unit to its presentation, in units of 90 kHz: a second where the key is absent. The longest
+-- stay of data in the decoder model is a second, of AVC and HEVC 10, of still pictures 60 (ISO/IEC 13818-1, 2.4.2.6 and 2.14.3.1)
+abbrev pub stream_pts_limit : Data → Option ℕ
+stream_pts_limit = integer_or 90000 (codes "pts_limit") (pos 1) (pos 5400000)
 
 -- the rate of the transport buffer in bits a second, and the main buffer in bytes (ISO/IEC 13818-1, 2.4.2): both are
 -- there, or neither, which only audio may leave out: it then has 2,000,000 bits a second and 3,584 bytes
@@ -233,7 +238,7 @@ abbrev pub stream_key_names : List (List ℕ)
 stream_key_names = codes "program" ∷ codes "pid" ∷ codes "id" ∷ codes "type" ∷ codes "interval" ∷ codes "size" ∷ codes "lead"
     ∷ codes "rx" ∷ codes "main" ∷ codes "tag" ∷ codes "language" ∷ codes "descriptors" ∷ codes "group" ∷ codes "group_packets"
     ∷ codes "burst_packets" ∷ codes "pace" ∷ codes "shared_with" ∷ codes "rbx" ∷ codes "mb"
-    ∷ codes "frames" ∷ codes "frame" ∷ codes "frame_size" ∷ []
+    ∷ codes "frames" ∷ codes "frame" ∷ codes "frame_size" ∷ codes "pts_limit" ∷ []
 
 -- what each key refuses
 abbrev pub refuses_stream : StreamKey → Data → Data → Bool
@@ -259,3 +264,4 @@ refuses_stream Mb document stream = refuses_mb stream
 refuses_stream Frames document stream = refuses_frames stream
 refuses_stream Frame document stream = refuses_frame stream
 refuses_stream FrameSize document stream = refuses_frame_size stream
+refuses_stream PtsLimit document stream = is_none (stream_pts_limit stream)

@@ -111,6 +111,7 @@ fn stream_of(stream: &Value) -> StreamDescription
         interval: stream_keys::interval(stream).unwrap_or(1),
         size: stream_keys::size(stream).unwrap_or(1),
         lead: stream_keys::lead(stream).unwrap_or(1),
+        pts_limit: stream_keys::pts_limit(stream).unwrap_or(1),
         rx: stream_keys::rx(stream).unwrap_or(64_000),
         main: stream_keys::main_buffer(stream).unwrap_or(1),
         tag: stream_keys::tag(stream).unwrap_or(None),

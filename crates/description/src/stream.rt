@@ -23,6 +23,8 @@ pub struct StreamDescription {
     pub lead: u32,
     /// The rate at which its transport buffer is emptied, in bits a second.
     pub rx: u32,
+    /// The longest time from the decoding of a unit to its presentation, in units of 90 kHz.
+    pub pts_limit: u32,
     /// Its main buffer, in bytes; its elementary stream buffer EB where it has a multiplexing buffer (2.4.2.3).
     pub main: u32,
     pub tag: Option<u8>,

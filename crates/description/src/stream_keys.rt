@@ -4,7 +4,7 @@ ghost use Rattle.std.specs.Prelude.{◌≡◌, ◌≤◌, IfSome};
 ghost use Rattle.toml.specs.View.{view};
 ghost use Rattle.description.specs.StreamKeys.{stream_pid, is_stream_id, stream_id, is_audio_id, is_video_id};
 ghost use Rattle.description.specs.StreamKeys.{id_or_private, stream_type, stream_interval, greatest_size, stream_size};
-ghost use Rattle.description.specs.StreamKeys.{stream_lead, leaves_out_buffers, stream_rx, stream_main, stream_tag};
+ghost use Rattle.description.specs.StreamKeys.{stream_lead, stream_pts_limit, leaves_out_buffers, stream_rx, stream_main, stream_tag};
 ghost use Rattle.description.specs.StreamKeys.{stream_language, stream_descriptors, stream_group, unit_packets};
 ghost use Rattle.description.specs.StreamKeys.{greatest_group_packets, stream_group_packets, is_paced};
 ghost use Rattle.description.specs.StreamKeys.{stream_burst_packets, stream_pace, stream_allowance};
@@ -47,6 +47,7 @@ pub enum StreamKey {
     Frames,
     Frame,
     FrameSize,
+    PtsLimit,
 }
 
 pub fn pid(stream: &Value) -> Option<u16>
@@ -123,6 +124,13 @@ pub fn lead(stream: &Value) -> Option<u32>
     ensures { result ≡ stream_lead (view stream.now) }
 {
     Some(integer_at(stream, "lead", 1, 90_000)? as u32)
+}
+
+/// Returns the longest time from the decoding of a unit to its presentation: a second if the key is absent.
+pub fn pts_limit(stream: &Value) -> Option<u32>
+    ensures { result ≡ stream_pts_limit (view stream.now) }
+{
+    Some(integer_or(90_000, stream, "pts_limit", 1, 5_400_000)? as u32)
 }
 
 // Whether both numbers of the buffers may be absent, going by `main`.
@@ -283,7 +291,7 @@ impl StreamKey {
     ghost use Rattle.description.specs.Codes.{stream_code};
 
     /// All of them, in the order of their numbers.
-    pub const ALL: [StreamKey; 22] = [
+    pub const ALL: [StreamKey; 23] = [
         StreamKey::Program,
         StreamKey::Pid,
         StreamKey::StreamId,
@@ -306,6 +314,7 @@ impl StreamKey {
         StreamKey::Frames,
         StreamKey::Frame,
         StreamKey::FrameSize,
+        StreamKey::PtsLimit,
     ];
 
     /// Returns the number of its refusal.
@@ -335,6 +344,7 @@ impl StreamKey {
             StreamKey::Frames => 84,
             StreamKey::Frame => 85,
             StreamKey::FrameSize => 86,
+            StreamKey::PtsLimit => 87,
         }
     }
 }
@@ -372,6 +382,7 @@ impl Key for StreamKey {
                 "frames",
                 "frame",
                 "frame_size",
+                "pts_limit",
             ],
         )
     }
@@ -400,6 +411,7 @@ impl Key for StreamKey {
             StreamKey::Frames => refuses_frames(part),
             StreamKey::Frame => refuses_frame(part),
             StreamKey::FrameSize => refuses_frame_size(part),
+            StreamKey::PtsLimit => pts_limit(part).is_none(),
         }
     }
 }

@@ -60,6 +60,7 @@ stream_words stream.Mb = (codes "mb", codes "1 to 10000000 bytes, beside rbx")
 stream_words stream.Frames = (codes "frames", codes "1 to 64 access units, beside frame and frame_size")
 stream_words stream.Frame = (codes "frame", codes "1 to interval / (frames - 1) units of 90 kHz, beside frames and frame_size")
 stream_words stream.FrameSize = (codes "frame_size", codes "1 to size bytes, beside frames and frame")
+stream_words stream.PtsLimit = (codes "pts_limit", codes "1 to 5400000 units of 90 kHz")
 
 unfoldable pub event_words : EventKey → List ℕ × List ℕ
 event_words event.Program = (codes "program", codes "the number of a [[program]] of this description")

@@ -108,6 +108,7 @@ pub fn stream_words(key: StreamKey) -> KeyWords
             "1 to interval / (frames - 1) units of 90 kHz, beside frames and frame_size",
         ),
         StreamKey::FrameSize => ("frame_size", "1 to size bytes, beside frames and frame"),
+        StreamKey::PtsLimit => ("pts_limit", "1 to 5400000 units of 90 kHz"),
     }
 }
 

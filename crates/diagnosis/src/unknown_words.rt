@@ -82,6 +82,7 @@ fn names_of(head: Head) -> &'static [&'static str]
             "frames",
             "frame",
             "frame_size",
+            "pts_limit",
         ],
         Head::Event => &[
             "program", "id", "start", "duration", "language", "name", "text",

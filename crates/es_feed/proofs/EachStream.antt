@@ -18,13 +18,15 @@ use Rattle.es_feed.specs.EachStream.{AreFirst, BeginsAt, EachRises, FedByOneCons
 use Rattle.es_feed.specs.Feeding.{Fed, FedStreamView, FeedView, after_all, after_one, fed_all, fed_one, fed_to_end, feed_first}
 use Rattle.es_feed.specs.StreamFeeding.{after_cut, fed_of, is_packet}
 use Rattle.es_feed.specs.Ticks.{after_packets, after_pcr, fed_packets, fed_pcr}
-use Rattle.es_feed.specs.declared.fed_map.FedMap.{FedMap}
+use Rattle.es_feed.specs.Maps.{MapView}
 use Rattle.es_feed.specs.declared.found_pcr.FoundPcr.{FoundPcr}
 use Rattle.es_feed.proofs.FedEach.{Event, Finds, Shows, after_event, fed_event, fed_events, finds, found_by}
 use Rattle.es_feed.proofs.FedFirst.{AreUnfed, AreWaiting, MovedByFirst, first_moved}
+use Rattle.es_feed.proofs.FedPackets.{marked_both, packet_marking, packets_marking}
 use Rattle.es_feed.proofs.FedRises.{rise_on}
 use Rattle.es_feed.proofs.ListedStreams.{AreKeys, Key, key, keys}
 use Rattle.es_feed.proofs.OwnUnits.{AreAlone, alone_first, come_carried, to_come}
+use Rattle.given_marks.specs.Marking.{MarkingView, all_marked}
 
 -- 1. Packets as findings and clock references
 
@@ -32,9 +34,9 @@ shows : Option FoundPcr → List Event
 shows None = []
 shows (Some pcr) = Shows pcr ∷ []
 
-events : StreamState → List (List ℕ) → List Event
-events s [] = []
-events s (p ∷ ps) = map Finds (found_in s p) ++ (shows (pcr_at s.packets p) ++ events (taken s p) ps)
+events : MarkingView → StreamState → List (List ℕ) → List Event
+events m s [] = []
+events m s (p ∷ ps) = map Finds (all_marked m (found_in s p)) ++ (shows (pcr_at s.packets p) ++ events m (taken s p) ps)
 
 finding_events : (feed : FeedView) (fs : List FindingView) (es : List Event) → fed_events feed (map Finds fs ++ es) ≡ fed_all feed fs ++ fed_events (after_all feed fs) es
 unfolding fed_events fed_event after_event fed_all after_all
@@ -49,19 +51,21 @@ clock_events feed None es = refl
 clock_events feed (Some pcr) es = refl
 
 packet_events : (s : StreamState) (feed : FeedView) (ps : List (List ℕ)) (es : List Event) →
-    fed_events feed (events s ps ++ es) ≡ fed_packets s feed ps ++ fed_events (after_packets s feed ps) es
+    fed_events feed (events feed.marking s ps ++ es) ≡ fed_packets s feed ps ++ fed_events (after_packets s feed ps) es
 unfolding events fed_packets after_packets
 packet_events s feed [] es = refl
 packet_events s feed (p ∷ ps) es =
-    let found = found_in s p in
+    let found = all_marked feed.marking (found_in s p) in
     let pcr = pcr_at s.packets p in
-    let later = events (taken s p) ps in
+    let later = events feed.marking (taken s p) ps in
     let next = after_all feed found in
     let on = after_pcr next pcr in
+    let same : on.marking ≡ feed.marking = packet_marking feed (found_in s p) pcr in
     let rest = fed_events (after_packets (taken s p) on ps) es in
     ap (λ (l : List Event). fed_events feed l) (append_assoc (map Finds found) (shows pcr ++ later) es ∙ ap (λ (l : List Event). map Finds found ++ l) (append_assoc (shows pcr) later es))
     ∙ finding_events feed found (shows pcr ++ (later ++ es))
-    ∙ ap (λ (xs : List Fed). fed_all feed found ++ xs) (clock_events next pcr (later ++ es) ∙ ap (λ (xs : List Fed). fed_pcr next pcr ++ xs) (packet_events (taken s p) on ps es))
+    ∙ ap (λ (xs : List Fed). fed_all feed found ++ xs) (clock_events next pcr (later ++ es)
+    ∙ ap (λ (xs : List Fed). fed_pcr next pcr ++ xs) (ap (λ (k : MarkingView). fed_events on (events k (taken s p) ps ++ es)) (sym same) ∙ packet_events (taken s p) on ps es))
     ∙ sym (append_assoc (fed_all feed found) (fed_pcr next pcr) (fed_packets (taken s p) on ps ++ rest))
     ∙ sym (append_assoc (fed_all feed found ++ fed_pcr next pcr) (fed_packets (taken s p) on ps) rest)
 
@@ -80,16 +84,17 @@ unfolding finds found_by shows
 finds_shown None = refl
 finds_shown (Some pcr) = refl
 
-finds_in : (s : StreamState) (ps : List (List ℕ)) → finds (events s ps) ≡ found_in_all s ps
+finds_in : (m : MarkingView) (s : StreamState) (ps : List (List ℕ)) → finds (events m s ps) ≡ all_marked m (found_in_all s ps)
 unfolding events found_in_all finds
-finds_in s [] = refl
-finds_in s (p ∷ ps) =
-    let found = found_in s p in
+finds_in m s [] = refl
+finds_in m s (p ∷ ps) =
+    let found = all_marked m (found_in s p) in
     let pcr = pcr_at s.packets p in
-    let later = events (taken s p) ps in
+    let later = events m (taken s p) ps in
     finds_more (map Finds found) (shows pcr ++ later)
     ∙ ap (λ (l : List FindingView). l ++ finds (shows pcr ++ later)) (finds_found found)
-    ∙ ap (λ (l : List FindingView). found ++ l) (finds_more (shows pcr) later ∙ ap (λ (l : List FindingView). l ++ finds later) (finds_shown pcr) ∙ finds_in (taken s p) ps)
+    ∙ ap (λ (l : List FindingView). found ++ l) (finds_more (shows pcr) later ∙ ap (λ (l : List FindingView). l ++ finds later) (finds_shown pcr) ∙ finds_in m (taken s p) ps)
+    ∙ sym (marked_both m (found_in s p) (found_in_all (taken s p) ps))
 
 -- 2. Bytes as packets
 
@@ -123,32 +128,36 @@ cut_sizes bytes = let fits : 188 * (length bytes / 188) ≤ length bytes = omega
 abbrev rest_found : List ℕ → List FindingView
 rest_found bytes = (finished (pushed (taken_all start (cut_packets bytes)) (after_cut bytes))).found
 
-abbrev all_events : List ℕ → List Event
-all_events bytes = events start (cut_packets bytes) ++ map Finds (rest_found bytes)
+abbrev all_events : MarkingView → List ℕ → List Event
+all_events m bytes = events m start (cut_packets bytes) ++ map Finds (all_marked m (rest_found bytes))
 
-all_finds : (bytes : List ℕ) → finds (all_events bytes) ≡ (finished (pushed start bytes)).found
-all_finds bytes =
+all_finds : (m : MarkingView) (bytes : List ℕ) → finds (all_events m bytes) ≡ all_marked m (finished (pushed start bytes)).found
+all_finds m bytes =
     let ps = cut_packets bytes in
     let rest = after_cut bytes in
     let s = taken_all start ps in
     let found = found_in_all start ps in
     let h : FoundSoFar (concat ps) s found = packets_add [] ps start [] nothing_at_first refl (cut_sizes bytes) in
-    finds_more (events start ps) (map Finds (rest_found bytes))
-    ∙ ap (λ (l : List FindingView). l ++ finds (map Finds (rest_found bytes))) (finds_in start ps)
-    ∙ ap (λ (l : List FindingView). found ++ l) (finds_found (rest_found bytes))
-    ∙ sym (all_are_found (concat ps) rest s found h).2
-    ∙ ap (λ (xs : List ℕ). (finished (pushed start xs)).found) (cut_back bytes)
+    let last = all_marked m (rest_found bytes) in
+    finds_more (events m start ps) (map Finds last)
+    ∙ ap (λ (l : List FindingView). l ++ finds (map Finds last)) (finds_in m start ps)
+    ∙ ap (λ (l : List FindingView). all_marked m found ++ l) (finds_found last)
+    ∙ sym (marked_both m found (rest_found bytes))
+    ∙ ap (λ (l : List FindingView). all_marked m l) (sym (all_are_found (concat ps) rest s found h).2)
+    ∙ ap (λ (xs : List ℕ). all_marked m (finished (pushed start xs)).found) (cut_back bytes)
 
 last_events : (feed : FeedView) (fs : List FindingView) → fed_events feed (map Finds fs) ≡ fed_to_end feed fs
 unfolding fed_events
 last_events feed fs =
     ap (λ (l : List Event). fed_events feed l) (sym (append-nil (map Finds fs))) ∙ finding_events feed fs []
 
-all_fed : (first : FeedView) (bytes : List ℕ) → fed_of first bytes ≡ fed_events first (all_events (carried bytes))
+all_fed : (first : FeedView) (bytes : List ℕ) → fed_of first bytes ≡ fed_events first (all_events first.marking (carried bytes))
 all_fed first bytes =
     let ps = cut_packets (carried bytes) in
-    let fs = rest_found (carried bytes) in
-    sym (packet_events start first ps (map Finds fs) ∙ ap (λ (xs : List Fed). fed_packets start first ps ++ xs) (last_events (after_packets start first ps) fs))
+    let fs = all_marked first.marking (rest_found (carried bytes)) in
+    let same : (after_packets start first ps).marking ≡ first.marking = packets_marking start first ps in
+    ap (λ (k : MarkingView). fed_packets start first ps ++ fed_to_end (after_packets start first ps) (all_marked k (rest_found (carried bytes)))) same
+    ∙ sym (packet_events start first ps (map Finds fs) ∙ ap (λ (xs : List Fed). fed_packets start first ps ++ xs) (last_events (after_packets start first ps) fs))
 
 -- 3. Streams before their first unit
 
@@ -173,9 +182,9 @@ first_keys streams a = record {
       a.own j k s.0 t.0 s.1 t.1 (ap (λ (z : Key). z.pid) s.2 ∙ same ∙ sym (ap (λ (z : Key). z.pid) t.2));
 }
 
-first_waits : (earliest : ℕ) (maps : List FedMap) (streams : List FedStreamView) → earliest < 2 ^ 33 → AreFirst streams → AreWaiting earliest (keys streams) (feed_first earliest maps streams)
+first_waits : (earliest : ℕ) (marking : MarkingView) (maps : List MapView) (streams : List FedStreamView) → earliest < 2 ^ 33 → AreFirst streams → AreWaiting earliest (keys streams) (feed_first earliest marking maps streams)
 unfolding AreUnfed
-first_waits earliest maps streams early a = record {
+first_waits earliest marking maps streams early a = record {
   are = first_keys streams a;
   is = refl;
   few = subst (λ (n : ℕ). n ≤ 255) (sym (length-map streams key)) a.few;
@@ -188,13 +197,13 @@ first_waits earliest maps streams early a = record {
 -- 4. The laws
 
 pub by_one_constant : FedByOneConstant
-by_one_constant earliest maps streams bytes early a none =
-    let first = feed_first earliest maps streams in
-    let es = all_events (carried bytes) in
+by_one_constant earliest marking maps streams bytes early a none =
+    let first = feed_first earliest marking maps streams in
+    let es = all_events marking (carried bytes) in
     let all = all_fed first bytes in
-    let fs = found_of_all bytes in
+    let fs = all_marked marking (found_of_all bytes) in
     let m : MovedByFirst earliest (length (keys streams)) first es =
-    first_moved earliest (keys streams) first es (first_waits earliest maps streams early a) (ap have_fault (sym all) ∙ none) in
+    first_moved earliest (keys streams) first es (first_waits earliest marking maps streams early a) (ap have_fault (sym all) ∙ none) in
     record {
       base = m.base;
       range = m.range;
@@ -203,7 +212,7 @@ by_one_constant earliest maps streams bytes early a none =
       moved_by = λ k s at alone.
           let pid = s.units.pid in
           let is : s ≡ fed_stream k pid = a.each k s at in
-          let found : finds es ≡ fs = all_finds (carried bytes) in
+          let found : finds es ≡ fs = all_finds marking (carried bytes) in
           let units : s.units ≡ none_so_far pid true = ap (λ (t : FedStreamView). t.units) is in
           let before : s.before ≡ None = ap (λ (t : FedStreamView). t.before) is in
           ap (λ (xs : List Fed). units_fed k xs) all
@@ -215,9 +224,9 @@ by_one_constant earliest maps streams bytes early a none =
     }
 
 pub each_rises : EachRises
-each_rises earliest k maps streams bytes a below =
-    let first = feed_first earliest maps streams in
-    let es = all_events (carried bytes) in
+each_rises earliest k marking maps streams bytes a below =
+    let first = feed_first earliest marking maps streams in
+    let es = all_events marking (carried bytes) in
     let s = first_stream streams k below in
     let before : s.0.before ≡ None = ap (λ (t : FedStreamView). t.before) (a.each k s.0 s.1) in
     let fits : k < 255 = let few = a.few in omega (arith, below, few) in

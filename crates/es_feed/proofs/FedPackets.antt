@@ -2,7 +2,8 @@
 use Rattle.std.proofs.Common.{◌≡◌, ◌∙◌, ◌<◌, ◌≤◌, ℕ, ◌+◌, ◌*◌, ◌++◌, ◌/◌, false, Option, Some, None, List, [], ◌∷◌, All, length, take, drop, slice_get, refl, sym, ap, arith, take-add, length-append, drop_at}
 use Rattle.std.specs.List.{concat}
 use Rattle.std.specs.Simd.{first_chunks}
-use Rattle.std.proofs.lemmas.List.{append_assoc, append-nil}
+use Rattle.std.proofs.lemmas.List.{append_assoc, append-nil, map-append}
+use Rattle.std.specs.Prelude.{Bool, true, if◌then◌else◌}
 use Rattle.std.proofs.lemmas.List.Folds.{concat-append}
 use Rattle.std.proofs.lemmas.List.Elements.{All-cons, All-head, All-nil, All-tail}
 use Rattle.ts_packet.specs.PidList.{cut_packets}
@@ -11,14 +12,15 @@ use Rattle.demux.specs.Stream.{StreamState, found_in, taken}
 use Rattle.demux.specs.FoundSoFar.{found_in_all, taken_all}
 use Rattle.demux.specs.Views.{FindingView}
 use Rattle.es_feed.specs.Clocks.{is_on, pcr_at}
-use Rattle.es_feed.specs.declared.fed_map.FedMap.{FedMap}
+use Rattle.es_feed.specs.Maps.{MapView}
 use Rattle.es_feed.specs.declared.found_pcr.FoundPcr.{FoundPcr}
-use Rattle.es_feed.specs.Feeding.{Fed, FedStreamView, FeedView, after_at, after_all, after_one, after_place, fed_all, place_from, watched}
+use Rattle.es_feed.specs.Feeding.{Fed, FedStreamView, FeedView, after_at, after_all, after_one, after_place, fed_all, greatest_of, place_from, watched}
 use Rattle.es_feed.specs.Laws.{FedWithoutClock}
 use Rattle.es_feed.specs.Maps.{clock_pid, map_from, set_place}
 use Rattle.es_feed.specs.StreamFeeding.{PacketFeedView, TakesPackets, is_packet}
-use Rattle.es_feed.specs.Ticks.{after_packet, after_packets, after_pcr, fed_packet, fed_packets, fed_pcr}
+use Rattle.es_feed.specs.Ticks.{after_end_at, after_late, after_own, after_packet, after_packets, after_passed, after_pcr, after_shown, after_tick, fed_packet, fed_packets, fed_pcr, is_tick, late_in, passed_from, with_shown, with_tick}
 use Rattle.es_feed.proofs.FedUnits.{in_turn}
+use Rattle.given_marks.specs.Marking.{MarkingView, all_marked, marked}
 
 -- 1. Packets after others
 
@@ -146,7 +148,7 @@ unfolding after_all
 findings_more feed [] more = refl
 findings_more feed (f ∷ fs) more = findings_more (after_one feed f) fs more
 
-no_map_found : (f : FindingView) (maps : List FedMap) → maps ≡ [] → set_place f (map_from f 0 maps) maps ≡ []
+no_map_found : (f : FindingView) (maps : List MapView) → maps ≡ [] → set_place f (map_from f 0 maps) maps ≡ []
 unfolding set_place map_from
 no_map_found f maps none = rw none refl
 
@@ -168,7 +170,7 @@ unfolding after_all
 all_no_maps feed [] none = none
 all_no_maps feed (f ∷ fs) none = all_no_maps (after_one feed f) fs (one_no_maps feed f none)
 
-no_clock : (maps : List FedMap) (pid : ℕ) → maps ≡ [] → is_on pid (clock_pid maps) ≡ false
+no_clock : (maps : List MapView) (pid : ℕ) → maps ≡ [] → is_on pid (clock_pid maps) ≡ false
 unfolding clock_pid is_on
 no_clock maps pid none = rw none refl
 
@@ -182,19 +184,96 @@ unfolding fed_pcr
 not_fed feed None none = refl
 not_fed feed (Some pcr) none = rw (no_clock feed.maps pcr.pid none) refl
 
+-- 5. The marks that are asked for stay
+
+if_marking : (b : Bool) (x y : FeedView) → x.marking ≡ y.marking → (if b then x else y).marking ≡ y.marking
+if_marking true x y same = same
+if_marking false x y same = refl
+
+at_marking : (feed : FeedView) (f : FindingView) (k : ℕ) (s : Option FedStreamView) → (after_at feed f k s).marking ≡ feed.marking
+unfolding after_at
+at_marking feed f k None = refl
+at_marking feed f k (Some s) = refl
+
+place_marking : (feed : FeedView) (f : FindingView) (place : Option ℕ) → (after_place feed f place).marking ≡ feed.marking
+unfolding after_place
+place_marking feed f None = refl
+place_marking feed f (Some k) = at_marking feed f k (slice_get feed.streams k)
+
+one_marking : (feed : FeedView) (f : FindingView) → (after_one feed f).marking ≡ feed.marking
+one_marking feed f = place_marking (watched feed f) f (place_from f.pid 0 feed.streams)
+
+pub all_marking : (feed : FeedView) (fs : List FindingView) → (after_all feed fs).marking ≡ feed.marking
+unfolding after_all
+all_marking feed [] = refl
+all_marking feed (f ∷ fs) = all_marking (after_one feed f) fs ∙ one_marking feed f
+
+end_marking : (feed : FeedView) (k : ℕ) (s : Option FedStreamView) → (after_end_at feed k s).marking ≡ feed.marking
+unfolding after_end_at
+end_marking feed k None = refl
+end_marking feed k (Some s) = refl
+
+tick_marking : (feed : FeedView) (late : ℕ) → (after_tick feed late).marking ≡ feed.marking
+tick_marking feed late = if_marking (is_tick (greatest_of feed) late) (with_tick feed late) feed refl
+
+passed_marking : (feed : FeedView) (late : ℕ) (place : Option ℕ) → (after_passed feed late place).marking ≡ feed.marking
+unfolding after_passed
+passed_marking feed late None = tick_marking feed late
+passed_marking feed late (Some k) = end_marking feed k (slice_get feed.streams k)
+
+late_marking : (feed : FeedView) (late : Option ℕ) → (after_late feed late).marking ≡ feed.marking
+unfolding after_late
+late_marking feed None = refl
+late_marking feed (Some late) = passed_marking feed late (passed_from feed.origin late 0 feed.streams)
+
+shown_marking : (feed : FeedView) (pcr : FoundPcr) → (after_shown feed pcr).marking ≡ feed.marking
+shown_marking feed pcr = late_marking (with_shown feed pcr) (late_in (with_shown feed pcr) pcr.base)
+
+own_marking : (feed : FeedView) (pcr : FoundPcr) → (after_own feed pcr).marking ≡ feed.marking
+own_marking feed pcr = if_marking (is_on pcr.pid (clock_pid feed.maps)) (after_shown feed pcr) feed (shown_marking feed pcr)
+
+pcr_marking : (feed : FeedView) (pcr : Option FoundPcr) → (after_pcr feed pcr).marking ≡ feed.marking
+unfolding after_pcr
+pcr_marking feed None = refl
+pcr_marking feed (Some pcr) = own_marking feed pcr
+
+pub packet_marking : (feed : FeedView) (found : List FindingView) (pcr : Option FoundPcr) → (after_packet feed found pcr).marking ≡ feed.marking
+packet_marking feed found pcr =
+    let marks = all_marked feed.marking found in
+    pcr_marking (after_all feed marks) pcr ∙ all_marking feed marks
+
+pub packets_marking : (s : StreamState) (feed : FeedView) (ps : List (List ℕ)) → (after_packets s feed ps).marking ≡ feed.marking
+unfolding after_packets
+packets_marking s feed [] = refl
+packets_marking s feed (p ∷ ps) =
+    let found = found_in s p in
+    let pcr = pcr_at s.packets p in
+    packets_marking (taken s p) (after_packet feed found pcr) ps ∙ packet_marking feed found pcr
+
+pub marked_both : (m : MarkingView) (fs more : List FindingView) → all_marked m (fs ++ more) ≡ all_marked m fs ++ all_marked m more
+marked_both m fs more = map-append (marked m) fs more
+
+-- 6. What is fed without a clock
+
 pub without_clock : FedWithoutClock
 unfolding after_packets fed_packets found_in_all after_all fed_all
 without_clock s feed [] none = (refl, refl)
 without_clock s feed (p ∷ ps) none =
-    let found = found_in s p in
+    let m = feed.marking in
+    let found = all_marked m (found_in s p) in
     let pcr = pcr_at s.packets p in
     let next = after_all feed found in
     let left = all_no_maps feed found none in
-    let later = without_clock (taken s p) next ps left in (
-      ap (λ (t : FeedView). after_packets (taken s p) t ps) (not_after next pcr left) ∙ later.0 ∙ sym (findings_more feed found (found_in_all (taken s p) ps)),
-      ap (λ (xs : List Fed). (fed_all feed found ++ xs) ++ fed_packets (taken s p) (after_packet feed found pcr) ps) (not_fed next pcr left)
-          ∙ ap (λ (xs : List Fed). xs ++ fed_packets (taken s p) (after_packet feed found pcr) ps) (append-nil (fed_all feed found))
+    let later = without_clock (taken s p) next ps left in
+    let same : next.marking ≡ m = all_marking feed found in
+    let more = all_marked m (found_in_all (taken s p) ps) in
+    let both : found ++ more ≡ all_marked m (found_in s p ++ found_in_all (taken s p) ps) = sym (marked_both m (found_in s p) (found_in_all (taken s p) ps)) in (
+      ap (λ (t : FeedView). after_packets (taken s p) t ps) (not_after next pcr left) ∙ later.0
+          ∙ ap (λ (k : MarkingView). after_all next (all_marked k (found_in_all (taken s p) ps))) same
+          ∙ sym (findings_more feed found more) ∙ ap (λ (l : List FindingView). after_all feed l) both,
+      ap (λ (xs : List Fed). (fed_all feed found ++ xs) ++ fed_packets (taken s p) (after_packet feed (found_in s p) pcr) ps) (not_fed next pcr left)
+          ∙ ap (λ (xs : List Fed). xs ++ fed_packets (taken s p) (after_packet feed (found_in s p) pcr) ps) (append-nil (fed_all feed found))
           ∙ ap (λ (t : FeedView). fed_all feed found ++ fed_packets (taken s p) t ps) (not_after next pcr left)
-          ∙ ap (λ (xs : List Fed). fed_all feed found ++ xs) later.1
-          ∙ sym (in_turn feed found (found_in_all (taken s p) ps)),
+          ∙ ap (λ (xs : List Fed). fed_all feed found ++ xs) (later.1 ∙ ap (λ (k : MarkingView). fed_all next (all_marked k (found_in_all (taken s p) ps))) same)
+          ∙ sym (in_turn feed found more) ∙ ap (λ (l : List FindingView). fed_all feed l) both,
     )

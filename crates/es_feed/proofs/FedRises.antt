@@ -1,10 +1,10 @@
 -- The DTS of each stream rise, whatever is told.
-use Rattle.std.proofs.Common.{◌≡◌, ◌≢◌, ◌∙◌, ◌⊎◌, ◌<◌, ℕ, zero, suc, ◌+◌, ◌++◌, ◌==◌, eqb, ◌^◌, ◌||◌, Bool, true, false, if◌then◌else◌, IfSome, Option, Some, None, List, [], ◌∷◌, slice_get, slice_set, refl, sym, ap, ap₂, subst, inl, inr, arith}
+use Rattle.std.proofs.Common.{◌≡◌, ◌≢◌, ◌∙◌, ◌⊎◌, ◌<◌, ℕ, zero, suc, ◌+◌, ◌++◌, ◌==◌, eqb, ◌^◌, ◌||◌, Bool, true, false, if◌then◌else◌, IfSome, Option, Some, None, Err, List, [], ◌∷◌, slice_get, slice_set, refl, sym, ap, ap₂, subst, inl, inr, arith}
 use Rattle.std.specs.Option.{option_to_list}
 use Rattle.std.specs.Prelude.{nat_le}
 use Rattle.std.proofs.lemmas.Bool.Decides.{eqb_tells, nat_tests}
 use Rattle.std.proofs.lemmas.Grind.{flat_map-append}
-use Rattle.std.proofs.lemmas.List.{append-nil}
+use Rattle.std.proofs.lemmas.List.{append_assoc, append-nil}
 use Rattle.pes_packet.specs.AccessUnits.{AccessUnit}
 use Rattle.demux.specs.Views.{FindingView}
 use Rattle.es_units.specs.CarriedUnits.{CarriedUnit}
@@ -15,17 +15,22 @@ use Rattle.es_units.specs.declared.stamps.StampFault.TheVariants.{DtsNotIncreasi
 use Rattle.es_units.proofs.StampFaults.{or_none}
 use Rattle.es_feed.specs.Clocks.{is_on, jump_of}
 use Rattle.es_feed.specs.EachStream.{RiseFrom, fed_if, units_fed}
-use Rattle.es_feed.specs.Feeding.{Fed, FedStreamView, FeedView, after_at, after_found, after_one, after_place, ahead_of, at_moment, base_of, before_with, due_of, fed_at, fed_by, fed_ends, fed_last, fed_one, fed_place, fed_with, greatest_of, last_dts, map_fed, origin_after, place_from, stream_with, told_by, told_fed, told_of, unless_ahead, unless_fault, whole_by}
-use Rattle.es_feed.specs.Maps.{clock_pid, new_map}
-use Rattle.es_feed.specs.Ticks.{after_end, after_end_at, after_late, after_passed, after_shown, after_tick, fed_end, fed_end_at, fed_late, fed_passed, fed_shown, fed_tick, is_tick, jump_fed, late_in, passed_from, tick, with_shown, without_unit}
+use Rattle.es_feed.specs.Feeding.{Fed, FedStreamView, FeedView, after_at, after_found, after_one, after_place, ahead_of, at_moment, base_of, before_with, due_of, fed_at, fed_by, fed_ends, fed_last, fed_one, fed_place, fed_with, greatest_of, last_dts, after_unit, fed_unit, map_fed, origin_after, other_fed, packet_fault, packet_fed, place_from, restart_fed, restart_in, seen_in, seen_place, stream_with, told_by, told_fed, told_first, told_of, unless_ahead, unless_fault, watched, whole_by, greatest_pts_limit}
+use Rattle.es_feed.specs.Maps.{clock_pid, new_map, other_stream}
+use Rattle.es_feed.specs.Ticks.{after_end, after_end_at, after_late, after_passed, after_shown, after_tick, fed_end, fed_end_at, fed_late, fed_passed, fed_shown, fed_tick, is_silence, is_tick, jump_fed, last_unit, late_in, passed_from, silence, tick, with_shown, without_unit}
 use Rattle.es_feed.specs.declared.due.Due.{Due}
 use Rattle.es_feed.specs.declared.feed_fault.ClockJump.{ClockJump}
 use Rattle.es_feed.specs.declared.feed_fault.FeedFault.{FeedFault}
+use Rattle.es_feed.specs.declared.feed_fault.FeedFault.TheVariants.{Silent}
 use Rattle.es_feed.specs.declared.feed_fault.NewMap.{NewMap}
+use Rattle.es_feed.specs.declared.feed_fault.OtherStream.{OtherStream}
+use Rattle.es_feed.specs.declared.feed_fault.PacketFault.{PacketFault}
 use Rattle.es_feed.specs.declared.found_pcr.FoundPcr.{FoundPcr}
 use Rattle.es_feed.specs.declared.origin.Origin.{Origin}
 use Rattle.es_feed.proofs.FedEach.{Event, Finds, Shows, after_event, fed_event, fed_events}
 use Rattle.es_feed.proofs.FedSteps.{given_others, own_unit}
+use Rattle.es_feed.proofs.Restarts.{told_restart}
+use Rattle.es_feed.specs.Restarts.{restart_of}
 use Rattle.es_feed.proofs.ListedStreams.{AreKeys, Key, get_set_other, get_set_same, key, key_at, keys, passed, placed, set_keys}
 
 -- 1. The unit that is given
@@ -62,11 +67,11 @@ over_before base b stamp is =
     let some = some_distance d (no_less (d == 0) (nat_le (2 ^ 32) d) (DtsNotIncreasing (distance stamp (b + base))) is) in
     omega (arith, some)
 
-above : (base : ℕ) (before : Option ℕ) (u : AccessUnit) → unit_fault base before u ≡ None → IfSome before (λ dts. dts < (unit_at base before u).dts)
+above : (base : ℕ) (before : Option ℕ) (u : AccessUnit) → unit_fault greatest_pts_limit base before u ≡ None → IfSome before (λ dts. dts < (unit_at base before u).dts)
 unfolding unit_at dts_at
 above base None u none = tt
 above base (Some b) u none =
-    over_before base b u.dts (or_none (dts_not_increasing base (Some b) u.dts) (or_fault (pts_out_of_range base (dts_at base (Some b) u.dts) u.pts) (dts_too_far (dts_at base (Some b) u.dts))) none).0
+    over_before base b u.dts (or_none (dts_not_increasing base (Some b) u.dts) (or_fault (pts_out_of_range greatest_pts_limit base (dts_at base (Some b) u.dts) u.pts) (dts_too_far (dts_at base (Some b) u.dts))) none).0
 
 ahead_rises : (n : ℕ) (before ahead : Option ℕ) (u : AccessUnit) → IfSome before (λ dts. dts < u.dts) → Rises before (last_dts before (unless_ahead ahead u)) (fed_if n (n, unless_ahead ahead u))
 unfolding RiseFrom last_of unless_ahead last_dts fed_if
@@ -85,7 +90,7 @@ given_rises d o n before None = nothing_rises before
 given_rises d o n before (Some u) =
     let base = base_of d o u in
     subst (λ (us : List AccessUnit). Rises before (last_dts before (at_moment d.greatest base before u.unit)) us) (sym (append-nil (fed_if n (n, at_moment d.greatest base before u.unit))))
-    (unless_rises n before d.greatest (unit_fault base before u.unit) (unit_at base before u.unit) (λ none. above base before u.unit none))
+    (unless_rises n before d.greatest (unit_fault greatest_pts_limit base before u.unit) (unit_at base before u.unit) (λ none. above base before u.unit none))
 
 -- 2. A step, of each stream
 
@@ -155,10 +160,17 @@ gives_one feed next fed j s t w are g =
 
 -- 3. A finding
 
-told_map : (change : Option NewMap) → Unitless (option_to_list (map_fed change))
-unfolding map_fed fed_if
-told_map None n few = refl
-told_map (Some change) n few = refl
+told_before : (other : Option OtherStream) (change : Option NewMap) (fault : Option PacketFault) →
+    Unitless (option_to_list (other_fed other) ++ (option_to_list (map_fed change) ++ option_to_list (packet_fed fault)))
+unfolding other_fed map_fed packet_fed fed_if
+told_before None None None n few = refl
+told_before None None (Some fault) n few = refl
+told_before None (Some change) None n few = refl
+told_before None (Some change) (Some fault) n few = refl
+told_before (Some other) None None n few = refl
+told_before (Some other) None (Some fault) n few = refl
+told_before (Some other) (Some change) None n few = refl
+told_before (Some other) (Some change) (Some fault) n few = refl
 
 told_fault : (number : ℕ) (fault : Option FeedFault) → Unitless (option_to_list (told_of number fault))
 unfolding told_of fed_if
@@ -174,20 +186,25 @@ between n before unit after one two =
     ∙ append-nil (units_fed n unit)
 
 finding_steps : (feed : FeedView) (f : FindingView) (place : Option ℕ) → AreKeys (keys feed.streams) → place_from f.pid 0 feed.streams ≡ place → Steps feed (after_one feed f) (fed_one feed f)
-unfolding fed_place fed_at after_place after_at
+unfolding fed_place fed_at after_place after_at seen_place restart_of restart_fed
 finding_steps feed f None are at =
-    let told = option_to_list (map_fed (new_map f feed.maps)) in
+    let told = told_first feed f in
     let parts : fed_one feed f ≡ told ++ [] = rw at refl in
     let goes : (after_one feed f).streams ≡ feed.streams = rw at refl in
-    stays feed (after_one feed f) (fed_one feed f) goes (λ n few. ap (λ (xs : List Fed). units_fed n xs) (parts ∙ append-nil told) ∙ told_map (new_map f feed.maps) n few)
+    stays feed (after_one feed f) (fed_one feed f) goes (λ n few. ap (λ (xs : List Fed). units_fed n xs) (parts ∙ append-nil told) ∙ told_before (other_stream f feed.maps) (new_map f feed.maps) (packet_fault f) n few)
 finding_steps feed f (Some j) are at =
     let p = placed f.pid j feed.streams at in
     let s = p.stream in
     let w = whole_by s f in
-    let told = option_to_list (map_fed (new_map f feed.maps)) in
+    let told = told_first feed f in
     let tells = option_to_list (told_fed s f) in
     let one = option_to_list (fed_with (due_of feed) feed.origin s.number s.before w) in
-    let parts : fed_one feed f ≡ told ++ (one ++ tells) = rw (at, p.at) refl in
+    let again = restart_in (after_unit (watched feed f) f) (seen_in (watched feed f) f) in
+    let tail = option_to_list (restart_fed again) in
+    let here : fed_unit (watched feed f) f ≡ one ++ tells = rw (at, p.at) refl in
+    let parts : fed_one feed f ≡ told ++ (one ++ (tells ++ tail)) = ap (λ (xs : List Fed). told ++ (xs ++ tail)) here ∙ ap (λ (xs : List Fed). told ++ xs) (append_assoc one tells tail) in
+    let ends : (n : ℕ) → n < 255 → units_fed n (tells ++ tail) ≡ [] = λ n few.
+    flat_map-append (fed_if n) tells tail ∙ ap (λ (us : List AccessUnit). us ++ units_fed n tail) (told_fault s.number (told_by s f) n few) ∙ told_restart again n in
     gives_one feed (after_one feed f) (fed_one feed f) j s (after_found s f) w are (record {
       due = due_of feed;
       origin = feed.origin;
@@ -198,7 +215,7 @@ finding_steps feed f (Some j) are at =
       streams = rw (at, p.at) refl;
       units = λ n few.
           ap (λ (xs : List Fed). units_fed n xs) parts
-          ∙ between n told one tells (told_map (new_map f feed.maps) n few) (told_fault s.number (told_by s f) n few);
+          ∙ between n told one (tells ++ tail) (told_before (other_stream f feed.maps) (new_map f feed.maps) (packet_fault f) n few) (ends n few);
     })
 
 -- 4. A clock reference
@@ -215,10 +232,20 @@ tick_none : (t n : ℕ) → n < 255 → units_fed n (tick t ∷ []) ≡ []
 unfolding fed_if
 tick_none t n few = rw (no_stream n few) refl
 
+silence_none : (g : FeedView) (late : ℕ) → Unitless (silence g late)
+unfolding fed_if
+silence_none g late n few = by (is_silence g late)
+  where
+    by : (t : Bool) → units_fed n (if t then (255, Err (Silent (last_unit g))) ∷ [] else []) ≡ []
+    by true = refl
+    by false = refl
+
 tick_steps : (g : FeedView) (late : ℕ) (is : Bool) → is_tick (greatest_of g) late ≡ is → Steps g (after_tick g late) (fed_tick g late)
 tick_steps g late true is =
-    let fed : fed_tick g late ≡ tick late ∷ [] = rw is refl in
-    stays g (after_tick g late) (fed_tick g late) (rw is refl) (λ n few. ap (λ (xs : List Fed). units_fed n xs) fed ∙ tick_none late n few)
+    let fed : fed_tick g late ≡ silence g late ++ tick late ∷ [] = rw is refl in
+    stays g (after_tick g late) (fed_tick g late) (rw is refl) (λ n few. ap (λ (xs : List Fed). units_fed n xs) fed
+    ∙ flat_map-append (fed_if n) (silence g late) (tick late ∷ []) ∙ ap (λ (us : List AccessUnit). us ++ units_fed n (tick late ∷ [])) (silence_none g late n few)
+    ∙ tick_none late n few)
 tick_steps g late false is =
     let fed : fed_tick g late ≡ [] = rw is refl in
     stays g (after_tick g late) (fed_tick g late) (rw is refl) (λ n few. ap (λ (xs : List Fed). units_fed n xs) fed)

@@ -3,6 +3,7 @@ use Rattle.std.proofs.Common.{◌≡◌, ◌≢◌, ◌∙◌, ◌⊎◌, ◌<�
 use Rattle.std.specs.Option.{option_to_list}
 use Rattle.std.specs.Prelude.{nat_lt}
 use Rattle.std.proofs.lemmas.Bool.Decides.{eqb_tells, nat_tests}
+use Rattle.std.proofs.lemmas.Grind.{flat_map-append}
 use Rattle.std.proofs.lemmas.List.{append-nil}
 use Rattle.pes_packet.specs.AccessUnits.{AccessUnit}
 use Rattle.demux.specs.Views.{FindingView}
@@ -12,30 +13,27 @@ use Rattle.es_units.specs.UnitSteps.{ended_unit}
 use Rattle.es_units.specs.declared.stamps.StampFault.{StampFault}
 use Rattle.es_feed.specs.Clocks.{is_on, jump_of, jumps}
 use Rattle.es_feed.specs.EachStream.{fed_if, has_fault, have_fault, units_fed}
-use Rattle.es_feed.specs.Feeding.{Fed, FedStreamView, FeedView, after_at, after_found, after_one, after_place, ahead_of, at_moment, base_by, base_of, before_with, due_of, fed_at, fed_by, fed_one, fed_place, fed_with, feed_with, greatest_of, last_dts, map_fed, origin_after, place_from, stream_with, told_by, told_fed, told_of, unless_ahead, unless_fault, watched, whole_by}
-use Rattle.es_feed.specs.Maps.{clock_pid, new_map}
+use Rattle.es_feed.specs.Feeding.{Fed, FedStreamView, FeedView, after_at, after_found, after_one, after_place, ahead_of, at_moment, base_by, after_unit, base_of, before_with, due_of, fed_at, fed_by, fed_one, fed_place, fed_unit, fed_with, feed_with, greatest_of, last_dts, map_fed, origin_after, other_fed, packet_fault, packet_fed, place_from, restart_fed, restart_in, seen_in, seen_place, stream_with, told_by, told_fed, told_first, told_of, unless_ahead, unless_fault, watched, whole_by, greatest_pts_limit}
+use Rattle.es_feed.specs.Maps.{clock_pid, new_map, other_stream}
 use Rattle.es_feed.specs.Origins.{no_origin, origin_with}
-use Rattle.es_feed.specs.Ticks.{after_end, after_end_at, after_late, after_own, after_passed, after_shown, after_tick, fed_end, fed_end_at, fed_late, fed_own, fed_passed, fed_shown, fed_tick, is_tick, jump_fed, late_in, late_of, passed_from, with_shown, without_unit}
+use Rattle.es_feed.specs.Restarts.{fallen_after, origin_by, restart_of}
+use Rattle.es_feed.specs.declared.feed_fault.OtherStream.{OtherStream}
+use Rattle.es_feed.specs.declared.feed_fault.PacketFault.{PacketFault}
+use Rattle.es_feed.specs.declared.feed_fault.Restart.{Restart}
+use Rattle.es_feed.specs.Ticks.{after_end, after_end_at, after_late, after_own, after_passed, after_shown, after_tick, fed_end, fed_end_at, fed_late, fed_own, fed_passed, fed_shown, fed_tick, is_silence, is_tick, jump_fed, last_unit, late_in, late_of, passed_from, silence, tick, with_shown, without_unit}
 use Rattle.es_feed.specs.declared.due.Due.{Due}
 use Rattle.es_feed.specs.declared.feed_fault.ClockJump.{ClockJump}
 use Rattle.es_feed.specs.declared.feed_fault.FeedFault.{FeedFault}
+use Rattle.es_feed.specs.declared.feed_fault.FeedFault.TheVariants.{Silent}
 use Rattle.es_feed.specs.declared.feed_fault.NewMap.{NewMap}
 use Rattle.es_feed.specs.declared.found_pcr.FoundPcr.{FoundPcr}
 use Rattle.es_feed.specs.declared.origin.Origin.{Origin}
 use Rattle.es_feed.proofs.FedUnits.{base_first, base_fixed, fixed, origin_fixed, origin_first}
 use Rattle.es_feed.proofs.ListedStreams.{passed}
+pub use Rattle.es_feed.proofs.Restarts.{fault_split}
+use Rattle.es_feed.proofs.Restarts.{not_restarted}
 
--- 1. Nothing is told
-
-fault_head : (x : Bool) (all xs ys : Bool) → (x || all) ≡ false → (all ≡ false → (xs ≡ false) × (ys ≡ false)) → ((x || xs) ≡ false) × (ys ≡ false)
-fault_head true all xs ys none rest = absurd cc
-fault_head false all xs ys none rest = rest none
-
-pub fault_split : (xs ys : List Fed) → have_fault (xs ++ ys) ≡ false → (have_fault xs ≡ false) × (have_fault ys ≡ false)
-fault_split [] ys none = (refl, none)
-fault_split (x ∷ xs) ys none = fault_head (has_fault x) (have_fault (xs ++ ys)) (have_fault xs) (have_fault ys) none (λ e. fault_split xs ys e)
-
--- 2. What a step does: nothing to a stream, or it gives a unit of one of them
+-- 1. What a step does: nothing to a stream, or it gives a unit of one of them
 
 pub record Rests (feed next : FeedView) (fed : List Fed) : Type 0 where
   pub streams : next.streams ≡ feed.streams
@@ -57,39 +55,58 @@ pub record Gives (feed next : FeedView) (fed : List Fed) (j : ℕ) (s t : FedStr
   pub earliest : next.earliest ≡ feed.earliest
   pub fed_is : fed ≡ option_to_list (fed_with due feed.origin s.number s.before w)
 
--- 3. A finding
+-- 2. A finding
 
-not_told_map : (change : Option NewMap) (more : List Fed) → have_fault (option_to_list (map_fed change) ++ more) ≡ false → option_to_list (map_fed change) ≡ []
-unfolding map_fed has_fault
-not_told_map None more none = refl
-not_told_map (Some change) more none = absurd cc
+not_told_first : (other : Option OtherStream) (change : Option NewMap) (fault : Option PacketFault) (more : List Fed) →
+    have_fault ((option_to_list (other_fed other) ++ (option_to_list (map_fed change) ++ option_to_list (packet_fed fault))) ++ more) ≡ false →
+    option_to_list (other_fed other) ++ (option_to_list (map_fed change) ++ option_to_list (packet_fed fault)) ≡ []
+unfolding other_fed map_fed packet_fed has_fault
+not_told_first None None None more none = refl
+not_told_first None None (Some fault) more none = absurd cc
+not_told_first None (Some change) fault more none = absurd cc
+not_told_first (Some other) change fault more none = absurd cc
 
 not_told : (number : ℕ) (fault : Option FeedFault) → have_fault (option_to_list (told_of number fault)) ≡ false → option_to_list (told_of number fault) ≡ []
 unfolding told_of has_fault
 not_told number None none = refl
 not_told number (Some fault) none = absurd cc
 
+-- the restart that it shows
+abbrev shows : FeedView → FindingView → Option Restart
+shows feed f = restart_in (after_unit (watched feed f) f) (seen_in (watched feed f) f)
+
 fed_here : (feed : FeedView) (f : FindingView) (j : ℕ) (s : FedStreamView) → place_from f.pid 0 feed.streams ≡ Some j → slice_get feed.streams j ≡ Some s →
-    fed_one feed f ≡ option_to_list (map_fed (new_map f feed.maps)) ++ (option_to_list (fed_by (due_of feed) feed.origin s (whole_by s f)) ++ option_to_list (told_fed s f))
+    fed_unit (watched feed f) f ≡ option_to_list (fed_by (due_of feed) feed.origin s (whole_by s f)) ++ option_to_list (told_fed s f)
 unfolding fed_place fed_at
 fed_here feed f j s at is = rw (at, is) refl
 
 after_here : (feed : FeedView) (f : FindingView) (j : ℕ) (s : FedStreamView) → place_from f.pid 0 feed.streams ≡ Some j → slice_get feed.streams j ≡ Some s →
-    after_one feed f ≡ feed_with (watched feed f) j (after_found s f) (whole_by s f)
+    after_unit (watched feed f) f ≡ feed_with (watched feed f) j (after_found s f) (whole_by s f)
 unfolding after_place after_at
 after_here feed f j s at is = rw (at, is) refl
+
+nothing_again : option_to_list (restart_fed None) ≡ []
+unfolding restart_fed
+nothing_again = refl
+
+same_origin : (o : Origin) (r : Option Restart) → r ≡ None → origin_by o r ≡ o
+unfolding origin_by
+same_origin o r none = rw none refl
 
 pub finding_gives : (feed : FeedView) (f : FindingView) (j : ℕ) (s : FedStreamView) → place_from f.pid 0 feed.streams ≡ Some j → slice_get feed.streams j ≡ Some s →
     have_fault (fed_one feed f) ≡ false → Gives feed (after_one feed f) (fed_one feed f) j s (after_found s f) (whole_by s f)
 finding_gives feed f j s at is none =
-    let change = option_to_list (map_fed (new_map f feed.maps)) in
+    let change = told_first feed f in
     let unit = option_to_list (fed_by (due_of feed) feed.origin s (whole_by s f)) in
     let told = option_to_list (told_fed s f) in
-    let parts = fed_here feed f j s at is in
-    let clear : have_fault (change ++ (unit ++ told)) ≡ false = ap have_fault (sym parts) ∙ none in
-    let no_map : change ≡ [] = not_told_map (new_map f feed.maps) (unit ++ told) clear in
-    let kept = (fault_split unit told (fault_split change (unit ++ told) clear).1).1 in
-    let no_told : told ≡ [] = not_told s.number (told_by s f) kept in
+    let again = option_to_list (restart_fed (shows feed f)) in
+    let parts : fed_one feed f ≡ change ++ ((unit ++ told) ++ again) = ap (λ (xs : List Fed). change ++ (xs ++ again)) (fed_here feed f j s at is) in
+    let clear : have_fault (change ++ ((unit ++ told) ++ again)) ≡ false = ap have_fault (sym parts) ∙ none in
+    let no_map : change ≡ [] = not_told_first (other_stream f feed.maps) (new_map f feed.maps) (packet_fault f) ((unit ++ told) ++ again) clear in
+    let two = fault_split (unit ++ told) again (fault_split change ((unit ++ told) ++ again) clear).1 in
+    let no_told : told ≡ [] = not_told s.number (told_by s f) (fault_split unit told two.0).1 in
+    let no_restart : shows feed f ≡ None = not_restarted (shows feed f) two.1 in
+    let no_again : again ≡ [] = ap (λ (r : Option Restart). option_to_list (restart_fed r)) no_restart ∙ nothing_again in
     let goes = after_here feed f j s at is in
     record {
       due = due_of feed;
@@ -99,24 +116,25 @@ finding_gives feed f j s at is none =
       before = refl;
       pid = refl;
       streams = ap (λ (n : FeedView). n.streams) goes;
-      origin = ap (λ (n : FeedView). n.origin) goes;
+      origin = same_origin (after_unit (watched feed f) f).origin (shows feed f) no_restart ∙ ap (λ (n : FeedView). n.origin) goes;
       earliest = ap (λ (n : FeedView). n.earliest) goes;
-      fed_is = parts ∙ ap (λ (xs : List Fed). xs ++ (unit ++ told)) no_map ∙ ap (λ (xs : List Fed). unit ++ xs) no_told ∙ append-nil unit;
+      fed_is = parts ∙ ap (λ (xs : List Fed). xs ++ ((unit ++ told) ++ again)) no_map ∙ ap (λ (xs : List Fed). (unit ++ told) ++ xs) no_again
+          ∙ append-nil (unit ++ told) ∙ ap (λ (xs : List Fed). unit ++ xs) no_told ∙ append-nil unit;
     }
 
-fed_nowhere : (feed : FeedView) (f : FindingView) → place_from f.pid 0 feed.streams ≡ None → fed_one feed f ≡ option_to_list (map_fed (new_map f feed.maps)) ++ []
-unfolding fed_place
+fed_nowhere : (feed : FeedView) (f : FindingView) → place_from f.pid 0 feed.streams ≡ None → fed_one feed f ≡ told_first feed f ++ []
+unfolding fed_place seen_place restart_of restart_fed
 fed_nowhere feed f none = rw none refl
 
 after_nowhere : (feed : FeedView) (f : FindingView) → place_from f.pid 0 feed.streams ≡ None → after_one feed f ≡ watched feed f
-unfolding after_place
+unfolding after_place seen_place restart_of origin_by fallen_after
 after_nowhere feed f none = rw none refl
 
 pub finding_rests : (feed : FeedView) (f : FindingView) → place_from f.pid 0 feed.streams ≡ None → have_fault (fed_one feed f) ≡ false → Rests feed (after_one feed f) (fed_one feed f)
 finding_rests feed f nowhere none =
-    let told = option_to_list (map_fed (new_map f feed.maps)) in
+    let told = told_first feed f in
     let parts = fed_nowhere feed f nowhere in
-    let empty : fed_one feed f ≡ [] = parts ∙ append-nil told ∙ not_told_map (new_map f feed.maps) [] (ap have_fault (sym parts) ∙ none) in
+    let empty : fed_one feed f ≡ [] = parts ∙ append-nil told ∙ not_told_first (other_stream f feed.maps) (new_map f feed.maps) (packet_fault f) [] (ap have_fault (sym parts) ∙ none) in
     let goes = after_nowhere feed f nowhere in
     record {
       streams = ap (λ (n : FeedView). n.streams) goes;
@@ -126,7 +144,7 @@ finding_rests feed f nowhere none =
       silent = λ e. empty;
     }
 
--- 4. A clock reference
+-- 3. A clock reference
 
 -- a step that leaves the streams, or ends a unit under way
 unfoldable pub Out : FeedView → FeedView → List Fed → Type 0
@@ -135,13 +153,27 @@ Out feed next fed = Rests feed next fed ⊎ ((j : ℕ) × (s : FedStreamView) ×
 no_stream : (n : ℕ) → n < 255 → (255 == n) ≡ false
 no_stream n below = grind (arith, nat_tests)
 
+silence_none : (g : FeedView) (late n : ℕ) → units_fed n (silence g late) ≡ []
+unfolding fed_if
+silence_none g late n = by (is_silence g late)
+  where
+    by : (t : Bool) → units_fed n (if t then (255, Err (Silent (last_unit g))) ∷ [] else []) ≡ []
+    by true = refl
+    by false = refl
+
+tick_none : (g : FeedView) (late n : ℕ) → n < 255 → units_fed n (silence g late ++ tick late ∷ []) ≡ []
+unfolding fed_if
+tick_none g late n below =
+    flat_map-append (fed_if n) (silence g late) (tick late ∷ []) ∙ ap (λ (us : List AccessUnit). us ++ units_fed n (tick late ∷ [])) (silence_none g late n)
+    ∙ (rw (no_stream n below) refl)
+
 tick_rests : (g : FeedView) (late : ℕ) (is : Bool) → (g.origin ≡ no_origin → ⊥) → is_tick (greatest_of g) late ≡ is → Rests g (after_tick g late) (fed_tick g late)
 unfolding fed_if
 tick_rests g late true known is = record {
   streams = rw is refl;
   origin = rw is refl;
   earliest = rw is refl;
-  none = λ n below. rw is (rw (no_stream n below) refl);
+  none = λ n below. rw is (tick_none g late n below);
   silent = λ e. absurd (known e);
 }
 tick_rests g late false known is = record {
@@ -251,7 +283,7 @@ own_out feed pcr false none = inl (record { streams = refl; origin = refl; earli
 pub clock_out : (feed : FeedView) (pcr : FoundPcr) → have_fault (fed_own feed pcr) ≡ false → Out feed (after_own feed pcr) (fed_own feed pcr)
 clock_out feed pcr none = own_out feed pcr (is_on pcr.pid (clock_pid feed.maps)) none
 
--- 5. The unit that is given, at its moment
+-- 4. The unit that is given, at its moment
 
 ok_ahead : (n : ℕ) (ahead : Option ℕ) (u : AccessUnit) → has_fault (n, unless_ahead ahead u) ≡ false → unless_ahead ahead u ≡ Ok u
 unfolding unless_ahead has_fault
@@ -265,7 +297,7 @@ ok_unless n greatest (Some fault) u none = absurd cc
 
 ok_moment : (n : ℕ) (greatest : Option ℕ) (base : ℕ) (before : Option ℕ) (u : AccessUnit) → has_fault (n, at_moment greatest base before u) ≡ false →
     at_moment greatest base before u ≡ Ok (unit_at base before u)
-ok_moment n greatest base before u none = ok_unless n greatest (unit_fault base before u) (unit_at base before u) none
+ok_moment n greatest base before u none = ok_unless n greatest (unit_fault greatest_pts_limit base before u) (unit_at base before u) none
 
 -- the constant of a unit, if there is one; and that it is fixed after it
 abbrev pub HasBase : Due → Origin → Option CarriedUnit → ℕ → Type 0

@@ -1,4 +1,5 @@
 pub mod UncutUnits
+pub mod Restarts
 pub mod FedUnits
 pub mod ListedStreams
 pub mod OwnUnits
@@ -12,6 +13,7 @@ pub mod FedMaps
 pub mod FedPackets
 pub mod PlainPackets
 pub mod FedStreams
+pub mod WatchedStreams
 pub mod FedTicks
 pub mod PendingOutput
 pub mod PassedStreams

@@ -10,6 +10,7 @@ use Rattle.es_feed.specs.Feeding.{Fed, FedStreamView, feed_first}
 use Rattle.es_feed.specs.MovedApart.{AreApart, AreWhole, BeginNear, FedApart, after_time}
 use Rattle.es_feed.specs.StreamFeeding.{fed_of}
 use Rattle.es_feed.proofs.EachStream.{by_one_constant, first_stream}
+use Rattle.given_marks.specs.Marking.{all_marked}
 use Rattle.es_feed.proofs.FedSteps.{own_unit}
 
 -- 1. One list of units by two constants
@@ -138,8 +139,8 @@ apart_by base fed_by early streams findings ((n, Ok u) ∷ fed) small begins sil
     }
 
 pub fed_apart : FedApart
-fed_apart earliest base maps streams bytes small a silent w =
+fed_apart earliest base marking maps streams bytes small a silent w =
     let early : earliest < 2 ^ 33 = omega (arith, small) in
-    let m = by_one_constant earliest maps streams bytes early a silent in
-    apart_by base m.base earliest streams (found_of_all bytes) (fed_of (feed_first earliest maps streams) bytes) small m.begins silent w
+    let m = by_one_constant earliest marking maps streams bytes early a silent in
+    apart_by base m.base earliest streams (all_marked marking (found_of_all bytes)) (fed_of (feed_first earliest marking maps streams) bytes) small m.begins silent w
     (λ k s at. m.moved_by k s at (w.alone k s at))

@@ -10,8 +10,9 @@ use Rattle.es_units.specs.CarriedUnits.{RoleView, Ignored, Start, Continuation, 
 use Rattle.es_units.specs.Stamps.{moved}
 use Rattle.es_units.specs.UnitSteps.{none_so_far}
 use Rattle.es_feed.specs.Feeding.{Fed, FedStreamView, feed_first}
+use Rattle.given_marks.specs.Marking.{MarkingView, all_marked}
 use Rattle.es_feed.specs.StreamFeeding.{fed_of}
-use Rattle.es_feed.specs.declared.fed_map.FedMap.{FedMap}
+use Rattle.es_feed.specs.Maps.{MapView}
 
 -- 1. Among what is fed
 
@@ -77,7 +78,7 @@ BeginsAt moment count [] = ⊤
 BeginsAt moment count ((n, Ok u) ∷ fed) = (n < count) × (u.dts ≡ moment)
 BeginsAt moment count ((n, Err fault) ∷ fed) = ⊤
 
--- the units of each stream are those that its PID carries, moved by one constant
+-- the units of each stream are those that its PID carries among these findings, moved by one constant
 pub record AreMovedByOne (earliest : ℕ) (streams : List FedStreamView) (findings : List FindingView) (fed : List Fed) : Type 0 where
   -- it is one of all streams: with it the first unit of all is due at `earliest`
   pub base : ℕ
@@ -86,12 +87,12 @@ pub record AreMovedByOne (earliest : ℕ) (streams : List FedStreamView) (findin
   pub moved_by : (k : ℕ) (s : FedStreamView) → slice_get streams k ≡ Some s → one_by_one s.units.pid findings ≡ true →
       units_fed k fed ≡ moved base None (wire_units s.units.pid findings)
 
--- so it is where nothing is told: no packet of the streams is lost, nothing cuts their units, no map changes, the clock does not jump, and each
+-- so it is, with the marks that are asked for, where nothing is told: no packet of the streams is lost, nothing cuts their units, no map changes, the clock does not jump, and each
 -- unit has a moment
 abbrev pub FedByOneConstant : Type 0
-FedByOneConstant = (earliest : ℕ) (maps : List FedMap) (streams : List FedStreamView) (bytes : List ℕ) → earliest < 2 ^ 33 → AreFirst streams →
-    have_fault (fed_of (feed_first earliest maps streams) bytes) ≡ false →
-    AreMovedByOne earliest streams (found_of_all bytes) (fed_of (feed_first earliest maps streams) bytes)
+FedByOneConstant = (earliest : ℕ) (marking : MarkingView) (maps : List MapView) (streams : List FedStreamView) (bytes : List ℕ) → earliest < 2 ^ 33 → AreFirst streams →
+    have_fault (fed_of (feed_first earliest marking maps streams) bytes) ≡ false →
+    AreMovedByOne earliest streams (all_marked marking (found_of_all bytes)) (fed_of (feed_first earliest marking maps streams) bytes)
 
 -- 4. In order of DTS
 
@@ -102,8 +103,8 @@ RiseFrom before (u ∷ us) = IfSome before (λ dts. dts < u.dts) × RiseFrom (So
 
 -- so it is of the units of each stream, whatever comes: also where packets are lost, a clock jumps or a stamp is damaged
 abbrev pub EachRises : Type 0
-EachRises = (earliest k : ℕ) (maps : List FedMap) (streams : List FedStreamView) (bytes : List ℕ) → AreFirst streams → k < length streams →
-    RiseFrom None (units_fed k (fed_of (feed_first earliest maps streams) bytes))
+EachRises = (earliest k : ℕ) (marking : MarkingView) (maps : List MapView) (streams : List FedStreamView) (bytes : List ℕ) → AreFirst streams → k < length streams →
+    RiseFrom None (units_fed k (fed_of (feed_first earliest marking maps streams) bytes))
 
 -- then none may be sent before the one before it, with whatever lead
 abbrev pub ReleasesRise : Type 0

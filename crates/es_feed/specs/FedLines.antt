@@ -1,7 +1,7 @@
 -- What goes out of what a stream feeds: the records of its units and of ticks, and a line for each unit that has no moment, each loss of
--- packets, whatever else cuts units, each new map and each jump of the clock.
-use Rattle.std.specs.Prelude.{ℕ, List, [], ◌∷◌, Ok, Err, codes, slice_get, unwrap_or}
-use Rattle.std.specs.List.{flat_map}
+-- packets, whatever else cuts units, each packet that is not read, each new map, each jump of the clock, each restart without one and each silence.
+use Rattle.std.specs.Prelude.{ℕ, Bool, true, false, List, [], ◌∷◌, Ok, Err, codes, slice_get, unwrap_or}
+use Rattle.std.specs.List.{flat_map, list_any}
 use Rattle.unit_records.specs.Records.{record_bytes}
 use Rattle.es_units.specs.declared.stamps.StampFault.{StampFault}
 use Rattle.es_units.specs.declared.stamps.StampFault.TheVariants.{DtsNotIncreasing, PtsOutOfRange, DtsTooFar}
@@ -9,12 +9,17 @@ pub use Rattle.es_feed.specs.EachStream.{has_fault, have_fault}
 use Rattle.es_feed.specs.Feeding.{Fed}
 use Rattle.es_feed.specs.declared.feed_fault.FeedFault.{FeedFault}
 use Rattle.es_feed.specs.declared.feed_fault.ClockJump.{ClockJump}
-use Rattle.es_feed.specs.declared.feed_fault.FeedFault.TheVariants.{Stamp, Ahead, Lost, Cut, Map, Clock}
+use Rattle.es_feed.specs.declared.feed_fault.FeedFault.TheVariants.{Stamp, Ahead, Lost, Cut, Map, Clock, Other, Packet, Restarted, Silent, Slipped}
 use Rattle.es_feed.specs.declared.feed_fault.CutCause.{CutCause}
 use Rattle.es_feed.specs.declared.feed_fault.CutCause.TheVariants.{Scrambled, Truncated, Section, BadPes, NoPts}
 use Rattle.es_feed.specs.declared.feed_fault.CutUnits.{CutUnits}
 use Rattle.es_feed.specs.declared.feed_fault.Loss.{Loss}
 use Rattle.es_feed.specs.declared.feed_fault.NewMap.{NewMap}
+use Rattle.es_feed.specs.declared.feed_fault.OtherStream.{OtherStream}
+use Rattle.es_feed.specs.declared.feed_fault.PacketFault.{PacketFault}
+use Rattle.es_feed.specs.declared.feed_fault.PacketFault.TheVariants.{Bad, Errored, Rest}
+use Rattle.es_feed.specs.declared.feed_fault.Restart.{Restart}
+use Rattle.es_feed.specs.declared.feed_fault.SlippedBytes.{SlippedBytes}
 use Rattle.devices.specs.Lines.{line_text}
 
 -- the record of a unit with the number of its stream
@@ -28,7 +33,7 @@ fed_records fed = flat_map fed_record fed
 -- why a unit of a PID has no moment, and by how much, in units of 90 kHz
 unfoldable pub stamp_line : ℕ → StampFault → List ℕ
 stamp_line pid (DtsNotIncreasing by) = line_text (codes "dts-falls") (pid ∷ by ∷ [])
-stamp_line pid (PtsOutOfRange by) = line_text (codes "pts-range") (pid ∷ by ∷ [])
+stamp_line pid (PtsOutOfRange after limit) = line_text (codes "pts-range") (pid ∷ after ∷ [])
 stamp_line pid DtsTooFar = line_text (codes "dts-far") (pid ∷ [])
 
 -- packets of a PID are lost before a packet, whose counter is another than the one that was to come
@@ -58,6 +63,28 @@ ahead_line pid by = line_text (codes "dts-ahead") (pid ∷ by ∷ [])
 abbrev pub clock_line : ClockJump → List ℕ
 clock_line jump = line_text (codes "clock") (jump.pid ∷ jump.packet ∷ jump.before ∷ jump.after ∷ [])
 
+-- the first map of a program, which is whole at a packet, does not name a stream that the description has
+abbrev pub other_line : OtherStream → List ℕ
+other_line other = line_text (codes "other") (other.program ∷ other.packet ∷ other.pid ∷ other.stream_type ∷ [])
+
+-- a packet that is none, one in error, or bytes that are left at the end
+unfoldable pub packet_line : PacketFault → List ℕ
+packet_line (Bad packet) = line_text (codes "bad-packet") (packet ∷ [])
+packet_line (Errored packet) = line_text (codes "errored") (packet ∷ [])
+packet_line (Rest size) = line_text (codes "rest") (size ∷ [])
+
+-- bytes that are in no packet, after so many packets
+abbrev pub slip_line : SlippedBytes → List ℕ
+slip_line bytes = line_text (codes "slip") (bytes.packet ∷ bytes.size ∷ [])
+
+-- without a clock, stamps fall to one that a unit has which begins in a packet: that is taken to come at a moment
+abbrev pub restart_line : Restart → List ℕ
+restart_line restart = line_text (codes "restart") (restart.packet ∷ restart.stamp ∷ restart.moment ∷ [])
+
+-- no stream has a unit that is due within 10 s after this DTS, by the clock
+abbrev pub silence_line : ℕ → List ℕ
+silence_line dts = line_text (codes "silent") (dts ∷ [])
+
 unfoldable pub fault_line : ℕ → FeedFault → List ℕ
 fault_line pid (Stamp fault) = stamp_line pid fault
 fault_line pid (Ahead by) = ahead_line pid by
@@ -65,10 +92,29 @@ fault_line pid (Lost loss) = loss_line pid loss
 fault_line pid (Cut cut) = cut_line pid cut
 fault_line pid (Map map) = map_line map
 fault_line pid (Clock jump) = clock_line jump
+fault_line pid (Other other) = other_line other
+fault_line pid (Packet fault) = packet_line fault
+fault_line pid (Restarted restart) = restart_line restart
+fault_line pid (Silent dts) = silence_line dts
+fault_line pid (Slipped bytes) = slip_line bytes
 
 -- the PID of the stream of a number
 abbrev pub pid_at : List ℕ → ℕ → ℕ
 pid_at pids n = unwrap_or (slice_get pids n) 0
+
+-- it says that the description is of another stream
+unfoldable pub is_other : FeedFault → Bool
+is_other (Stamp fault) = false
+is_other (Ahead by) = false
+is_other (Lost loss) = false
+is_other (Cut cut) = false
+is_other (Map map) = false
+is_other (Clock jump) = false
+is_other (Other other) = true
+is_other (Packet fault) = false
+is_other (Restarted restart) = false
+is_other (Silent dts) = false
+is_other (Slipped bytes) = false
 
 -- a line where it is no unit at its moment
 unfoldable pub lines_of : List ℕ → Fed → List (List ℕ)
@@ -77,3 +123,11 @@ lines_of pids (n, Err fault) = fault_line (pid_at pids n) fault ∷ []
 
 abbrev pub fed_lines : List ℕ → List Fed → List (List ℕ)
 fed_lines pids fed = flat_map (lines_of pids) fed
+
+-- the description is of another stream: then nothing more is read
+unfoldable pub is_refusal : Fed → Bool
+is_refusal (n, Ok u) = false
+is_refusal (n, Err fault) = is_other fault
+
+abbrev pub have_refusal : List Fed → Bool
+have_refusal fed = list_any is_refusal fed

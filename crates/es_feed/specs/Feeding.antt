@@ -1,26 +1,33 @@
 -- The units of a description's streams from what is found of a stream, finding by finding, each at its moment as soon as it is
 -- whole.
-use Rattle.std.specs.Prelude.{ℕ, ◌+◌, ◌-◌, ◌++◌, ◌==◌, ◌&&◌, ◌||◌, not, max, nat_lt, Bool, false, if◌then◌else◌, Option, Some, None, is_some, Result, Ok, Err, List, [], ◌∷◌, slice_get, slice_set}
+use Rattle.std.specs.Prelude.{ℕ, ◌+◌, ◌-◌, ◌++◌, ◌==◌, ◌&&◌, ◌||◌, not, max, nat_lt, Bool, false, if◌then◌else◌, Option, Some, None, is_none, is_some, Result, Ok, Err, List, [], ◌∷◌, length, slice_get, slice_set}
 use Rattle.std.specs.Option.{option_to_list}
 use Rattle.pes_packet.specs.AccessUnits.{AccessUnit}
 use Rattle.demux.specs.Views.{FindingView, WhatView, IsDuplicate, BreaksCounter, IsScrambled, IsTruncated, IsSection, IsBadSection, IsPes, IsBadPes, IsBadPacket, IsErrored}
 use Rattle.demux.specs.Laws.{has_pid}
 use Rattle.es_units.specs.CarriedUnits.{CarriedUnit, first_packet, role_of}
 use Rattle.es_units.specs.Stamps.{distance, unit_at, unit_fault}
-use Rattle.es_units.specs.UnitSteps.{UnitsSoFar, after_finding, ended_unit, made_whole}
+use Rattle.es_units.specs.UnitSteps.{UnitsSoFar, after_finding, ended_unit, made_whole, start_of}
 use Rattle.es_units.specs.declared.stamps.StampFault.{StampFault}
 use Rattle.es_feed.specs.declared.feed_fault.FeedFault.{FeedFault}
 use Rattle.es_feed.specs.declared.due.Due.{Due}
-use Rattle.es_feed.specs.declared.feed_fault.FeedFault.TheVariants.{Stamp, Ahead, Lost, Cut, Map}
+use Rattle.es_feed.specs.declared.feed_fault.FeedFault.TheVariants.{Stamp, Ahead, Lost, Cut, Map, Other, Packet, Restarted}
 use Rattle.es_feed.specs.declared.feed_fault.CutCause.{CutCause}
 use Rattle.es_feed.specs.declared.feed_fault.CutCause.TheVariants as causes
 use Rattle.es_feed.specs.declared.feed_fault.CutUnits.{CutUnits}
 use Rattle.es_feed.specs.declared.feed_fault.Loss.{Loss}
 use Rattle.es_feed.specs.declared.feed_fault.NewMap.{NewMap}
-use Rattle.es_feed.specs.declared.fed_map.FedMap.{FedMap}
+use Rattle.es_feed.specs.declared.feed_fault.OtherStream.{OtherStream}
+use Rattle.es_feed.specs.declared.feed_fault.PacketFault.{PacketFault}
+use Rattle.es_feed.specs.declared.feed_fault.PacketFault.TheVariants.{Bad, Errored, Rest}
+use Rattle.es_feed.specs.declared.feed_fault.Restart.{Restart}
 use Rattle.es_feed.specs.declared.origin.Origin.{Origin}
+use Rattle.es_feed.specs.declared.restart.Seen.{Seen}
+use Rattle.es_feed.specs.declared.restart.Seen.TheVariants.{NoUnit, Good, Falls}
 use Rattle.es_feed.specs.Origins.{base_for, no_origin, origin_with}
-use Rattle.es_feed.specs.Maps.{maps_after, new_map}
+use Rattle.es_feed.specs.Maps.{MapView, maps_after, new_map, other_stream}
+use Rattle.es_feed.specs.Restarts.{fallen_after, is_fall, origin_by, restart_of}
+use Rattle.given_marks.specs.Marking.{MarkingView}
 
 -- 1. A stream
 
@@ -50,10 +57,14 @@ unfoldable pub unless_fault : Option ℕ → Option StampFault → AccessUnit �
 unless_fault greatest None u = unless_ahead (ahead_of greatest u.dts) u
 unless_fault greatest (Some fault) u = Err (Stamp fault)
 
+-- no description lets a unit be presented longer after its DTS than a minute; a queue asks for the limit of its stream
+abbrev pub greatest_pts_limit : ℕ
+greatest_pts_limit = 5_400_000
+
 -- a unit at its moment after a DTS or after none, where the clock shows `base` at moment 0, and after the greatest DTS so far, where one
 -- counts
 abbrev pub at_moment : Option ℕ → ℕ → Option ℕ → AccessUnit → Result AccessUnit FeedFault
-at_moment greatest base before u = unless_fault greatest (unit_fault base before u) (unit_at base before u)
+at_moment greatest base before u = unless_fault greatest (unit_fault greatest_pts_limit base before u) (unit_at base before u)
 
 -- the last DTS after it: a unit that has no moment is left out, and moves nothing
 unfoldable pub last_dts : Option ℕ → Result AccessUnit FeedFault → Option ℕ
@@ -148,18 +159,20 @@ abbrev pub after_found : FedStreamView → FindingView → FedStreamView
 after_found s f = record s { units = after_finding s.units f; follow = follow_after s f }
 
 -- all streams, with the moment at which the first unit is due, the constants, what the clock showed last, in units of 90 kHz, once it has
--- come, the last tick, 0 before the first, and the programs' maps
+-- come, the last tick, 0 before the first, the marks that are asked for, the programs' maps, and the stamp of the last unit, if it fell where no clock is known
 pub record FeedView : Type 0 where
   pub earliest : ℕ
   pub origin : Origin
   pub shown : Option ℕ
   pub ticked : ℕ
-  pub maps : List FedMap
+  pub marking : MarkingView
+  pub maps : List MapView
   pub streams : List FedStreamView
+  pub fallen : Option ℕ
 
 -- before the first packet of a stream
-abbrev pub feed_first : ℕ → List FedMap → List FedStreamView → FeedView
-feed_first earliest maps streams = record { earliest = earliest; origin = no_origin; shown = None; ticked = 0; maps = maps; streams = streams }
+abbrev pub feed_first : ℕ → MarkingView → List MapView → List FedStreamView → FeedView
+feed_first earliest marking maps streams = record { earliest = earliest; origin = no_origin; shown = None; ticked = 0; marking = marking; maps = maps; streams = streams; fallen = None }
 
 -- the greatest DTS of units that were fed and of ticks; 0 before the first
 unfoldable pub dts_or_0 : Option ℕ → ℕ
@@ -182,7 +195,7 @@ abbrev pub due_of : FeedView → Due
 due_of feed = record { earliest = feed.earliest; greatest = greatest_if feed.shown (greatest_of feed) }
 
 abbrev pub with_streams : FeedView → Origin → List FedStreamView → FeedView
-with_streams feed o streams = record { earliest = feed.earliest; origin = o; shown = feed.shown; ticked = feed.ticked; maps = feed.maps; streams = streams }
+with_streams feed o streams = record { earliest = feed.earliest; origin = o; shown = feed.shown; ticked = feed.ticked; marking = feed.marking; maps = feed.maps; streams = streams; fallen = feed.fallen }
 
 -- the first stream of this PID; the first of these has number k
 unfoldable pub place_from : Option ℕ → ℕ → List FedStreamView → Option ℕ
@@ -222,16 +235,93 @@ map_fed None = None
 map_fed (Some change) = Some (255, Err (Map change))
 
 abbrev pub watched : FeedView → FindingView → FeedView
-watched feed f = record { earliest = feed.earliest; origin = feed.origin; shown = feed.shown; ticked = feed.ticked; maps = maps_after f feed.maps; streams = feed.streams }
+watched feed f = record { earliest = feed.earliest; origin = feed.origin; shown = feed.shown; ticked = feed.ticked; marking = feed.marking; maps = maps_after f feed.maps; streams = feed.streams; fallen = feed.fallen }
+
+-- 4. A restart
+
+-- a unit of which the fault is a fall is fed
+unfoldable pub falls : Fed → Bool
+falls (n, Ok u) = false
+falls (n, Err fault) = is_fall fault
+
+unfoldable pub is_fallen : Option Fed → Bool
+is_fallen None = false
+is_fallen (Some fed) = falls fed
+
+-- what a unit that is whole is, by the packet in which it begins and its DTS on the wire: where a clock is known none falls
+unfoldable pub seen_of : Option ℕ → Option (ℕ × ℕ) → Option Fed → Seen
+seen_of shown None fed = NoUnit
+seen_of shown (Some (packet, stamp)) fed = if is_none shown && is_fallen fed then Falls packet stamp else Good
+
+unfoldable pub seen_by : FeedView → FindingView → Option FedStreamView → Seen
+seen_by feed f None = NoUnit
+seen_by feed f (Some s) = seen_of feed.shown (start_of (whole_by s f)) (fed_by (due_of feed) feed.origin s (whole_by s f))
+
+unfoldable pub seen_place : FeedView → FindingView → Option ℕ → Seen
+seen_place feed f None = NoUnit
+seen_place feed f (Some k) = seen_by feed f (slice_get feed.streams k)
+
+-- the unit that a finding makes whole of the stream with its PID
+abbrev pub seen_in : FeedView → FindingView → Seen
+seen_in feed f = seen_place feed f (place_from f.pid 0 feed.streams)
+
+abbrev pub restart_in : FeedView → Seen → Option Restart
+restart_in feed seen = restart_of (greatest_of feed) feed.fallen seen
+
+abbrev pub restarted : FeedView → Seen → FeedView
+restarted feed seen = record {
+  earliest = feed.earliest;
+  origin = origin_by feed.origin (restart_in feed seen);
+  shown = feed.shown;
+  ticked = feed.ticked;
+  marking = feed.marking;
+  maps = feed.maps;
+  streams = feed.streams;
+  fallen = fallen_after feed.fallen seen;
+}
+
+-- a restart is told after the unit that shows it; it is of all streams, so a number stands there that says nothing
+unfoldable pub restart_fed : Option Restart → Option Fed
+restart_fed None = None
+restart_fed (Some restart) = Some (255, Err (Restarted restart))
 
 -- after a finding, and what it feeds
+abbrev pub after_found_in : FeedView → FindingView → FeedView
+after_found_in feed f = restarted (after_unit feed f) (seen_in feed f)
+
 abbrev pub after_one : FeedView → FindingView → FeedView
-after_one feed f = after_unit (watched feed f) f
+after_one feed f = after_found_in (watched feed f) f
+
+abbrev pub fed_found : FeedView → FindingView → List Fed
+fed_found feed f = fed_unit feed f ++ option_to_list (restart_fed (restart_in (after_unit feed f) (seen_in feed f)))
+
+-- what is found on no PID: a packet that is none, one with transport_error_indicator, or bytes at the end of a stream
+unfoldable pub packet_fault_of : ℕ → WhatView → Option PacketFault
+packet_fault_of packet (IsBadPacket error) = Some (Bad packet)
+packet_fault_of packet IsErrored = Some (Errored packet)
+packet_fault_of packet (IsTruncated bytes) = Some (Rest (length bytes))
+packet_fault_of packet _ = None
+
+unfoldable pub packet_fault : FindingView → Option PacketFault
+packet_fault f = if is_some f.pid then None else packet_fault_of f.packet f.what
+
+unfoldable pub packet_fed : Option PacketFault → Option Fed
+packet_fed None = None
+packet_fed (Some fault) = Some (255, Err (Packet fault))
+
+-- the description is of another stream
+unfoldable pub other_fed : Option OtherStream → Option Fed
+other_fed None = None
+other_fed (Some other) = Some (255, Err (Other other))
+
+abbrev pub told_first : FeedView → FindingView → List Fed
+told_first feed f =
+    option_to_list (other_fed (other_stream f feed.maps)) ++ (option_to_list (map_fed (new_map f feed.maps)) ++ option_to_list (packet_fed (packet_fault f)))
 
 abbrev pub fed_one : FeedView → FindingView → List Fed
-fed_one feed f = option_to_list (map_fed (new_map f feed.maps)) ++ fed_unit (watched feed f) f
+fed_one feed f = told_first feed f ++ fed_found (watched feed f) f
 
--- 4. Findings one after another
+-- 5. Findings one after another
 
 unfoldable pub after_all : FeedView → List FindingView → FeedView
 after_all feed [] = feed
@@ -241,7 +331,7 @@ unfoldable pub fed_all : FeedView → List FindingView → List Fed
 fed_all feed [] = []
 fed_all feed (f ∷ fs) = fed_one feed f ++ fed_all (after_one feed f) fs
 
--- 5. The end of the findings: the last unit of each stream, in the order of the streams
+-- 6. The end of the findings: the last unit of each stream, in the order of the streams
 
 unfoldable pub fed_last : Due → Origin → List FedStreamView → List Fed
 fed_last due o [] = []

@@ -1,5 +1,5 @@
 -- What the laws of this crate say.
-use Rattle.std.specs.Prelude.{◌≡◌, ℕ, ◌++◌, ◌&&◌, Bool, true, false, Option, None, Some, Ok, List, [], ◌∷◌, map}
+use Rattle.std.specs.Prelude.{◌≡◌, ℕ, ◌++◌, ◌&&◌, Bool, true, false, Option, None, Some, is_some, Ok, List, [], ◌∷◌, map}
 use Rattle.std.specs.List.{list_any}
 use Rattle.pes_packet.specs.AccessUnits.{AccessUnit}
 use Rattle.demux.specs.Laws.{has_pid}
@@ -9,9 +9,10 @@ use Rattle.es_units.specs.Stamps.{distance, first_fault, moved}
 use Rattle.es_units.specs.UnitSteps.{has_cut, none_so_far}
 use Rattle.demux.specs.FoundSoFar.{found_in_all}
 use Rattle.demux.specs.Stream.{StreamState}
-use Rattle.es_feed.specs.Feeding.{FeedView, after_all, fed_all, fed_to_end, feed_first, lost_by}
+use Rattle.es_feed.specs.Feeding.{FeedView, after_all, fed_all, fed_to_end, feed_first, lost_by, packet_fault, greatest_pts_limit}
 use Rattle.es_feed.specs.Ticks.{after_packets, fed_packets}
 use Rattle.es_feed.specs.declared.feed_fault.Loss.{Loss}
+use Rattle.given_marks.specs.Marking.{all_marked, no_marking}
 
 -- what later findings feed comes after what the earlier ones have fed
 abbrev pub FedInTurn : Type 0
@@ -19,7 +20,7 @@ FedInTurn = (feed : FeedView) (fs more : List FindingView) → fed_all feed (fs 
 
 -- one stream of a PID and no map, before its first unit
 abbrev pub one_stream : ℕ → ℕ → ℕ → FeedView
-one_stream earliest number pid = feed_first earliest [] (record { number = number; before = None; units = none_so_far pid true; follow = false } ∷ [])
+one_stream earliest number pid = feed_first earliest no_marking [] (record { number = number; before = None; units = none_so_far pid true; follow = false } ∷ [])
 
 -- packets of a PID are lost before one of the findings
 unfoldable pub is_loss : Option Loss → Bool
@@ -29,14 +30,20 @@ is_loss (Some loss) = true
 abbrev pub has_loss : ℕ → List FindingView → Bool
 has_loss pid fs = list_any (λ f. has_pid pid f.pid && is_loss (lost_by f.packet f.what)) fs
 
--- where no packet is lost, nothing cuts a unit and each unit can have a moment, what is fed of a stream are the units that its PID carries,
+-- one of the findings is a packet that is not read, or is of the bytes after the last one
+abbrev pub has_packet_fault : List FindingView → Bool
+has_packet_fault fs = list_any (λ f. is_some (packet_fault f)) fs
+
+-- where no packet is lost or not read, nothing cuts a unit and each unit can have a moment, what is fed of a stream are the units that its PID carries,
 -- moved by the constant with which the first of them is due at `earliest`
 abbrev pub FedAsCarried : Type 0
 FedAsCarried = (earliest number pid : ℕ) (fs : List FindingView) (u : AccessUnit) (us : List AccessUnit) → has_cut pid fs ≡ false → has_loss pid fs ≡ false →
-    map (λ w. w.unit) (carried_units pid fs) ≡ u ∷ us → first_fault (distance earliest u.dts) None 0 (u ∷ us) ≡ None →
+    has_packet_fault fs ≡ false → map (λ w. w.unit) (carried_units pid fs) ≡ u ∷ us → first_fault greatest_pts_limit (distance earliest u.dts) None 0 (u ∷ us) ≡ None →
     fed_to_end (one_stream earliest number pid) fs ≡ map (λ x. (number, Ok x)) (moved (distance earliest u.dts) None (u ∷ us))
 
--- where no program is known, and so no clock, what is fed of packets is what is fed of all that is found in them
+-- where no program is known, and so no clock, what is fed of packets is what is fed of all that is found in them, with the marks that are
+-- asked for
 abbrev pub FedWithoutClock : Type 0
 FedWithoutClock = (s : StreamState) (feed : FeedView) (packets : List (List ℕ)) → feed.maps ≡ [] →
-    (after_packets s feed packets ≡ after_all feed (found_in_all s packets)) × (fed_packets s feed packets ≡ fed_all feed (found_in_all s packets))
+    (after_packets s feed packets ≡ after_all feed (all_marked feed.marking (found_in_all s packets)))
+    × (fed_packets s feed packets ≡ fed_all feed (all_marked feed.marking (found_in_all s packets)))

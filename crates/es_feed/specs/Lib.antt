@@ -5,7 +5,9 @@ pub mod Laws
 pub mod Maps
 pub mod MovedApart
 pub mod Origins
+pub mod Restarts
 pub mod StreamFeeding
+pub mod Watching
 pub mod Ticks
 pub mod Records
 pub mod FedLines

@@ -7,7 +7,8 @@ use Rattle.es_units.specs.Stamps.{distance, moved}
 use Rattle.es_feed.specs.EachStream.{AreFirst, found_of_all, have_fault, one_by_one, units_fed}
 use Rattle.es_feed.specs.Feeding.{Fed, FedStreamView, feed_first}
 use Rattle.es_feed.specs.StreamFeeding.{fed_of}
-use Rattle.es_feed.specs.declared.fed_map.FedMap.{FedMap}
+use Rattle.es_feed.specs.Maps.{MapView}
+use Rattle.given_marks.specs.Marking.{MarkingView, all_marked}
 
 -- a unit that is due so much later
 abbrev pub after_time : ℕ → AccessUnit → AccessUnit
@@ -33,6 +34,6 @@ pub record AreApart (base : ℕ) (streams : List FedStreamView) (findings : List
 
 -- so it is where nothing is told, and the streams begin no further apart than the first unit of all is due after moment 0
 abbrev pub FedApart : Type 0
-FedApart = (earliest base : ℕ) (maps : List FedMap) (streams : List FedStreamView) (bytes : List ℕ) → earliest < 2 ^ 32 → AreFirst streams →
-    have_fault (fed_of (feed_first earliest maps streams) bytes) ≡ false → AreWhole base earliest streams (found_of_all bytes) →
-    AreApart base streams (found_of_all bytes) (fed_of (feed_first earliest maps streams) bytes)
+FedApart = (earliest base : ℕ) (marking : MarkingView) (maps : List MapView) (streams : List FedStreamView) (bytes : List ℕ) → earliest < 2 ^ 32 → AreFirst streams →
+    have_fault (fed_of (feed_first earliest marking maps streams) bytes) ≡ false → AreWhole base earliest streams (all_marked marking (found_of_all bytes)) →
+    AreApart base streams (all_marked marking (found_of_all bytes)) (fed_of (feed_first earliest marking maps streams) bytes)

@@ -1,5 +1,5 @@
 -- A stream, read as it comes, and what goes out of it: the records of its units and of ticks before the next read, and a line for each
--- unit that has no moment, each loss of packets, whatever else cuts units, each new map and each jump of the clock.
+-- unit that has no moment, each loss of packets, whatever else cuts units, each new map, each jump of the clock, and bytes in no packet.
 use Rattle.std.specs.Prelude.{◌≡◌, ◌⊎◌, ◌<◌, ◌≤◌, ◌-◌, ◌^◌, ℕ, Bool, true, false, if◌then◌else◌, List, [], ◌++◌, length, take, Result, Ok, Err}
 use Rattle.std.specs.Io.KnownBytes.{Consumes, IsAtEnd, Keeps}
 use Rattle.counted_io.specs.Device.{CountsOne}
@@ -9,17 +9,17 @@ use Rattle.devices.specs.Outcomes.{halt_line}
 use Rattle.devices.specs.declared.halt.Halt.{Halt}
 use Rattle.devices.specs.declared.halt.Halt.TheVariants.{Read, Write, Memory}
 use Rattle.es_feed.specs.Feeding.{Fed, FeedView}
-use Rattle.es_feed.specs.StreamFeeding.{IsFedBy, StreamFeedView, fed_of}
-use Rattle.es_feed.specs.FedLines.{fed_lines, fed_records, have_fault}
+use Rattle.es_feed.specs.Watching.{IsWatchedBy, IsWatchedOf, WatchedView}
+use Rattle.es_feed.specs.FedLines.{fed_lines, fed_records, have_fault, have_refusal}
 
 -- 1. What a stream has fed while it comes
 
--- of these bytes all but the last 1,127 at most are taken, and what is found in them is fed; it is a beginning of what the
--- whole stream feeds, however it goes on (the law `fed_so_far`)
+-- of these bytes all but the last 1,127 at most are taken, and what is found in them is fed, and their slips; without these it is a
+-- beginning of what the whole stream feeds, however it goes on (the law `fed_so_far`)
 pub record IsFedSoFar (first : FeedView) (came : List ℕ) (fed : List Fed) : Type 0 where
-  pub state : StreamFeedView
-  pub by : IsFedBy first came false state fed
-  pub held : length state.held < 1128
+  pub state : WatchedView
+  pub by : IsWatchedBy first came false state fed
+  pub held : length state.stream.held < 1128
 
 -- 2. What went out of it
 
@@ -30,13 +30,16 @@ pub record Passes (pids : List ℕ) (came : List ℕ) (fed : List Fed) (input ou
   pub clean : IsClean output
   pub tells : Tells faults.before faults.after (fed_lines pids fed)
 
--- the input came to its end, and all that it feeds went out
+-- the input came to its end, and all that it feeds went out; or the description is of another stream, and the stream is taken to end with
+-- the read that shows it
 pub record PassesAll (first : FeedView) (pids : List ℕ) (input output faults : Device) (faulty : Bool) : Type 0 where
   pub came : List ℕ
-  pub passes : Passes pids came (fed_of first came) input output faults
-  pub ends : IsAtEnd input.after.bytes
+  pub fed : List Fed
+  pub fed_is : IsWatchedOf first came fed
+  pub passes : Passes pids came fed input output faults
+  pub ends : IsAtEnd input.after.bytes ⊎ (have_refusal fed ≡ true)
   pub unfailed : IsClean input
-  pub faulty_is : faulty ≡ have_fault (fed_of first came)
+  pub faulty_is : faulty ≡ have_fault fed
 
 -- no more is taken: a call of the reader failed, or the stream is longer than any; or there is no memory for these bytes that
 -- were read
@@ -60,7 +63,7 @@ pub record FailsToPass (first : FeedView) (pids : List ℕ) (input output faults
   pub came : List ℕ
   pub before : List Fed
   pub last : List Fed
-  pub fed_is : IsFedSoFar first came (before ++ last) ⊎ (before ++ last ≡ fed_of first came)
+  pub fed_is : IsFedSoFar first came (before ++ last) ⊎ IsWatchedOf first came (before ++ last)
   pub read : Consumes input.before.bytes input.after.bytes came
   pub taken : ℕ
   pub written : Takes output (fed_records before ++ take taken (fed_records last))
@@ -80,17 +83,17 @@ abbrev pub longest_piece : ℕ
 longest_piece = 2 ^ 16
 
 -- a read gave bytes of the input, and all that they make whole is fed
-pub record FeedsSome (old : StreamFeedView) (input : Device) (new : StreamFeedView) (fed : List Fed) : Type 0 where
+pub record FeedsSome (old : WatchedView) (input : Device) (new : WatchedView) (fed : List Fed) : Type 0 where
   pub piece : List ℕ
   pub some : 0 < length piece
   pub most : length piece ≤ longest_piece
   pub read : Consumes input.before.bytes input.after.bytes piece
   pub clean : IsClean input
-  pub taken : (first : FeedView) (came : List ℕ) (before : List Fed) → IsFedBy first came false old before → IsFedBy first (came ++ piece) false new (before ++ fed)
-  pub held : length new.held < 1128
+  pub taken : (first : FeedView) (came : List ℕ) (before : List Fed) → IsWatchedBy first came false old before → IsWatchedBy first (came ++ piece) false new (before ++ fed)
+  pub held : length new.stream.held < 1128
 
 -- or the input ended; a call of the reader failed; or there is no memory for the bytes that were read
-abbrev pub FeedsPiece : StreamFeedView → Device → StreamFeedView → List Fed → Result Bool Halt → Type 0
+abbrev pub FeedsPiece : WatchedView → Device → WatchedView → List Fed → Result Bool Halt → Type 0
 FeedsPiece old input new fed (Ok true) = FeedsSome old input new fed
 FeedsPiece old input new fed (Ok false) = Consumes input.before.bytes input.after.bytes [] × IsClean input × IsAtEnd input.after.bytes × (new ≡ old)
 FeedsPiece old input new fed (Err Read) = Keeps input.before.bytes input.after.bytes × CountsOne input.before.failed input.after.failed
@@ -106,17 +109,18 @@ GoesOut pids fed output faults (Err Write) = Stopped (fed_records fed) output ×
 GoesOut pids fed output faults (Err Memory) = ⊥
 
 -- the stream has come as far as this, and the reader has not failed
-pub record Midway (first : FeedView) (pids : List ℕ) (input output faults : Device) (faulty : Bool) (state : StreamFeedView) : Type 0 where
+pub record Midway (first : FeedView) (pids : List ℕ) (input output faults : Device) (faulty : Bool) (state : WatchedView) : Type 0 where
   pub came : List ℕ
   pub fed : List Fed
-  pub by : IsFedBy first came false state fed
-  pub held : length state.held < 1128
+  pub by : IsWatchedBy first came false state fed
+  pub held : length state.stream.held < 1128
   pub passes : Passes pids came fed input output faults
   pub unfailed : IsClean input
   pub faulty_is : faulty ≡ have_fault fed
 
-abbrev pub PassesPieces : FeedView → List ℕ → Device → Device → Device → Result Bool Halt → StreamFeedView → Type 0
-PassesPieces first pids input output faults (Ok faulty) state = Midway first pids input output faults faulty state × IsAtEnd input.after.bytes
+abbrev pub PassesPieces : FeedView → List ℕ → Device → Device → Device → Result Bool Halt → WatchedView → Type 0
+PassesPieces first pids input output faults (Ok faulty) state =
+    (m : Midway first pids input output faults faulty state) × (IsAtEnd input.after.bytes ⊎ (have_refusal m.fed ≡ true))
 PassesPieces first pids input output faults (Err Read) state = PassesFront first pids Read input output faults
 PassesPieces first pids input output faults (Err Write) state = FailsToPass first pids input output faults
 PassesPieces first pids input output faults (Err Memory) state = PassesFront first pids Memory input output faults
@@ -124,10 +128,10 @@ PassesPieces first pids input output faults (Err Memory) state = PassesFront fir
 -- what its end feeds goes out; or there is no memory for that
 abbrev pub PassesLast : FeedView → List ℕ → List ℕ → List Fed → Device → Device → Result Bool Halt → Type 0
 PassesLast first pids came before output faults (Ok found) =
-    (last : List Fed) × (before ++ last ≡ fed_of first came) × GoesOut pids last output faults (Ok found)
+    (last : List Fed) × IsWatchedOf first came (before ++ last) × GoesOut pids last output faults (Ok found)
 PassesLast first pids came before output faults (Err Read) = ⊥
 PassesLast first pids came before output faults (Err Write) =
-    (last : List Fed) × (before ++ last ≡ fed_of first came) × GoesOut pids last output faults (Err Write)
+    (last : List Fed) × IsWatchedOf first came (before ++ last) × GoesOut pids last output faults (Err Write)
 PassesLast first pids came before output faults (Err Memory) = IsUntouched output × IsUntouched faults
 
 -- 4. How the run over a stream ends

@@ -6,6 +6,7 @@ use Rattle.demux.specs.Stream.{StreamState, start, pushed, finished, found_in, t
 use Rattle.demux.specs.FoundSoFar.{taken_all}
 use Rattle.packet_sync.specs.Slips.{carried}
 use Rattle.es_feed.specs.Feeding.{Fed, FeedView, fed_to_end}
+use Rattle.given_marks.specs.Marking.{all_marked}
 use Rattle.es_feed.specs.Clocks.{pcr_at}
 use Rattle.es_feed.specs.Ticks.{after_packet, after_packets, fed_packet, fed_packets}
 
@@ -19,7 +20,7 @@ pub record PacketFeedView : Type 0 where
 abbrev pub is_packet : List ℕ → Type 0
 is_packet packet = length packet ≡ 188
 
--- a packet was taken: it is demultiplexed, and what is found in it is fed, and then its clock reference
+-- a packet was taken: it is demultiplexed, and what is found in it is fed with the marks that are asked for, and then its clock reference
 abbrev pub TakesPacket : PacketFeedView → PacketFeedView → List ℕ → List Fed → List Fed → Type 0
 TakesPacket old new bytes before after = (new.demux ≡ taken old.demux bytes)
     × (new.feed ≡ after_packet old.feed (found_in old.demux bytes) (pcr_at old.demux.packets bytes))
@@ -38,7 +39,7 @@ pub record TakesPackets (old new : PacketFeedView) (bytes : List ℕ) (n : ℕ) 
 
 -- what is fed where no more packets come, with these bytes of the next one
 abbrev pub fed_rest : StreamState → FeedView → List ℕ → List Fed
-fed_rest demux feed rest = fed_to_end feed (finished (pushed demux rest)).found
+fed_rest demux feed rest = fed_to_end feed (all_marked feed.marking (finished (pushed demux rest)).found)
 
 -- 2. Bytes in pieces
 

@@ -11,12 +11,13 @@ use Rattle.es_units.specs.Stamps.{distance, dts_at}
 use Rattle.es_units.specs.UnitSteps.{ended_unit}
 use Rattle.pes_packet.specs.Marks.{no_marks}
 use Rattle.es_feed.specs.declared.feed_fault.ClockJump.{ClockJump}
-use Rattle.es_feed.specs.declared.feed_fault.FeedFault.TheVariants.{Clock}
+use Rattle.es_feed.specs.declared.feed_fault.FeedFault.TheVariants.{Clock, Silent}
 use Rattle.es_feed.specs.declared.found_pcr.FoundPcr.{FoundPcr}
 use Rattle.es_feed.specs.declared.origin.Origin.{Origin}
 use Rattle.es_feed.specs.Clocks.{is_on, jump_of, jumps, pcr_at}
-use Rattle.es_feed.specs.Feeding.{Fed, FedStreamView, FeedView, after_all, due_of, fed_all, fed_by, feed_with, greatest_of}
+use Rattle.es_feed.specs.Feeding.{Fed, FedStreamView, FeedView, after_all, due_of, fed_all, fed_by, feed_with, greatest_from, greatest_of}
 use Rattle.es_feed.specs.Maps.{clock_pid}
+use Rattle.given_marks.specs.Marking.{all_marked}
 use Rattle.es_feed.specs.Origins.{base_for, origin_jumped}
 
 -- 1. A second behind the clock
@@ -83,7 +84,7 @@ abbrev pub is_tick : ℕ → ℕ → Bool
 is_tick greatest late = nat_lt greatest late && nat_le late (2 ^ 52)
 
 abbrev pub with_tick : FeedView → ℕ → FeedView
-with_tick feed t = record { earliest = feed.earliest; origin = feed.origin; shown = feed.shown; ticked = t; maps = feed.maps; streams = feed.streams }
+with_tick feed t = record { earliest = feed.earliest; origin = feed.origin; shown = feed.shown; ticked = t; marking = feed.marking; maps = feed.maps; streams = feed.streams; fallen = feed.fallen }
 
 abbrev pub tick : ℕ → Fed
 tick t = (255, Ok (record { dts = t; pts = t; marks = no_marks; bytes = [] }))
@@ -91,8 +92,20 @@ tick t = (255, Ok (record { dts = t; pts = t; marks = no_marks; bytes = [] }))
 abbrev pub after_tick : FeedView → ℕ → FeedView
 after_tick feed late = if is_tick (greatest_of feed) late then with_tick feed late else feed
 
+-- the greatest DTS of units that were fed; 0 before the first
+abbrev pub last_unit : FeedView → ℕ
+last_unit feed = greatest_from 0 feed.streams
+
+-- the first tick that is over 10 s after all units: so long all streams are silent
+abbrev pub is_silence : FeedView → ℕ → Bool
+is_silence feed late = nat_le feed.ticked (last_unit feed + 900_000) && nat_lt (last_unit feed + 900_000) late
+
+-- it is told before that tick; it is of no stream, so a number stands there that says nothing
+abbrev pub silence : FeedView → ℕ → List Fed
+silence feed late = if is_silence feed late then (255, Err (Silent (last_unit feed))) ∷ [] else []
+
 abbrev pub fed_tick : FeedView → ℕ → List Fed
-fed_tick feed late = if is_tick (greatest_of feed) late then tick late ∷ [] else []
+fed_tick feed late = if is_tick (greatest_of feed) late then silence feed late ++ tick late ∷ [] else []
 
 unfoldable pub after_passed : FeedView → ℕ → Option ℕ → FeedView
 after_passed feed late None = after_tick feed late
@@ -126,7 +139,7 @@ abbrev pub origin_by : FeedView → FoundPcr → Origin
 origin_by feed pcr = if jumps feed.shown pcr.base then origin_jumped feed.origin pcr.packet (greatest_of feed) pcr.base else feed.origin
 
 abbrev pub with_shown : FeedView → FoundPcr → FeedView
-with_shown feed pcr = record { earliest = feed.earliest; origin = origin_by feed pcr; shown = Some pcr.base; ticked = feed.ticked; maps = feed.maps; streams = feed.streams }
+with_shown feed pcr = record { earliest = feed.earliest; origin = origin_by feed pcr; shown = Some pcr.base; ticked = feed.ticked; marking = feed.marking; maps = feed.maps; streams = feed.streams; fallen = feed.fallen }
 
 -- a jump is told before what it does; it is of no stream, so a number stands there that says nothing
 unfoldable pub jump_fed : Option ClockJump → Option Fed
@@ -154,13 +167,13 @@ unfoldable pub fed_pcr : FeedView → Option FoundPcr → List Fed
 fed_pcr feed None = []
 fed_pcr feed (Some pcr) = fed_own feed pcr
 
--- 5. Packets one after another: of each what is found in it, and then its clock reference
+-- 5. Packets one after another: of each what is found in it, with the marks that are asked for, and then its clock reference
 
 abbrev pub after_packet : FeedView → List FindingView → Option FoundPcr → FeedView
-after_packet feed found pcr = after_pcr (after_all feed found) pcr
+after_packet feed found pcr = after_pcr (after_all feed (all_marked feed.marking found)) pcr
 
 abbrev pub fed_packet : FeedView → List FindingView → Option FoundPcr → List Fed
-fed_packet feed found pcr = fed_all feed found ++ fed_pcr (after_all feed found) pcr
+fed_packet feed found pcr = fed_all feed (all_marked feed.marking found) ++ fed_pcr (after_all feed (all_marked feed.marking found)) pcr
 
 unfoldable pub after_packets : StreamState → FeedView → List (List ℕ) → FeedView
 after_packets s feed [] = feed

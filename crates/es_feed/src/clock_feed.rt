@@ -1,10 +1,11 @@
 //! All streams of a description, clock reference by clock reference.
 
 ghost use Rattle.std.specs.Prelude.{◌≡◌, ◌<◌, ◌++◌, OnOk, length};
+ghost use Rattle.std.specs.Option.{option_to_list};
 ghost use Rattle.es_feed.specs.Ticks as spec;
 
 use crate::fed_map::clock_pid;
-use crate::fed_streams::{end_at, passed_place};
+use crate::fed_streams::{end_at, greatest_of, passed_place};
 use crate::feed_fault::{ClockJump, FeedFault};
 use crate::found_pcr::FoundPcr;
 use crate::late::late_of;
@@ -14,6 +15,9 @@ use std::alloc::{AllocError, Global};
 
 // The latest DTS of a unit.
 const LAST_DTS: u64 = 1 << 52;
+
+// How long all streams may be silent before that is told, in units of 90 kHz: 10 s.
+const LONGEST_SILENCE: u64 = 900_000;
 
 // What is told of a clock that jumps, if it does.
 #[tactic(auto, unfolding(crate::specs::Ticks::jump_fed))]
@@ -40,6 +44,17 @@ fn tick(alloc: &Global, moment: u64) -> (u8, Result<Unit, FeedFault>)
 }
 
 impl UnitFeed {
+    // What is told of a silence that a tick ends 10 s of.
+    fn told_silence(&self, late: u64) -> Option<(u8, Result<Unit, FeedFault>)>
+        ensures { option_to_list result ≡ spec.silence self.now late }
+    {
+        let last = greatest_of(0, &self.streams);
+        if self.ticked <= last + LONGEST_SILENCE && last + LONGEST_SILENCE < late {
+            return Some((NO_STREAM, Err(FeedFault::Silent(last))));
+        }
+        None
+    }
+
     // Feeds a tick, where time goes on by it.
     fn tick(
         &mut self,
@@ -53,6 +68,7 @@ impl UnitFeed {
         if late <= self.greatest() || late > LAST_DTS {
             return Ok(());
         }
+        push_fed(fed, self.told_silence(late))?;
         self.ticked = late;
         fed.push(tick(alloc, late))?;
         Ok(())

@@ -1,12 +1,14 @@
 //! The map of one program of a description.
 
-ghost use Rattle.std.specs.Prelude.{◌≡◌, ◌<◌, IfSome, Some, is_some, length, slice_get, slice_set};
+ghost use Rattle.std.specs.Prelude.{◌≡◌, ◌<◌, IfSome, Some, is_some, length, option_map, slice_get, slice_set};
+ghost use Rattle.psi_tables.specs.ProgramMap.{pmt_view, streams_of};
 ghost use Rattle.demux.specs.Shown.{finding_view};
 ghost use Rattle.es_feed.specs.Maps as spec;
 
-use crate::feed_fault::NewMap;
+use crate::feed_fault::{NewMap, OtherStream};
 use demux::{Finding, Kind};
-use psi_tables::Program;
+use psi_tables::{Pmt, Program, Streams};
+use std::marker::Model;
 use std::slice;
 use stream_programs::last_program_map;
 
@@ -22,11 +24,28 @@ pub struct CurrentMap {
     pub pcr_pid: u16,
 }
 
-/// A program, and its map that came last.
+/// A stream that a description has.
 #[derive(Clone, Copy)]
+pub struct NamedStream {
+    pub pid: u16,
+    pub stream_type: u8,
+}
+
+/// A program, its map that came last, and the streams that a description has of it.
+#[derive(Drop)]
 pub struct FedMap {
     pub program_number: u16,
     pub current: Option<CurrentMap>,
+    pub named: Vec<NamedStream>,
+}
+
+// A contract sees the streams as a list.
+impl Model for FedMap {
+    ghost use Rattle.es_feed.specs.Maps.{MapView};
+
+    ghost Value = { MapView };
+
+    ghost view = { λ m. record { program_number = m.program_number; current = m.current; named = m.named.items } };
 }
 
 // Whether a section begins as one of a program map table.
@@ -41,9 +60,9 @@ fn is_map(begun: Option<(u64, Kind)>) -> bool
 }
 
 // The map of a program that a finding of a PID has.
-#[tactic(auto, unfolding(crate::specs::Maps::current_on))]
-fn current_on(program_number: u16, finding: &Finding<'_>) -> Option<CurrentMap>
-    ensures { result ≡ spec.current_on program_number (finding_view finding.now) (finding_view finding.now).pid }
+#[tactic(auto, unfolding(crate::specs::Maps::map_on))]
+fn map_on<'f>(program_number: u16, finding: &'f Finding<'_>) -> Option<Pmt<'f>>
+    ensures { option_map pmt_view result ≡ spec.map_on program_number (finding_view finding.now) (finding_view finding.now).pid }
 {
     let Some(pid) = finding.pid else {
         return None;
@@ -52,7 +71,26 @@ fn current_on(program_number: u16, finding: &Finding<'_>) -> Option<CurrentMap>
         program_number,
         pid,
     };
-    match last_program_map(program, slice::from_ref(finding)) {
+    last_program_map(program, slice::from_ref(finding))
+}
+
+// The map of a program that a finding has.
+#[tactic(auto, unfolding(crate::specs::Maps::map_found))]
+fn map_found<'f>(program_number: u16, finding: &'f Finding<'_>) -> Option<Pmt<'f>>
+    ensures { option_map pmt_view result ≡ spec.map_found program_number (finding_view finding.now) }
+{
+    if !is_map(finding.begun) {
+        return None;
+    }
+    map_on(program_number, finding)
+}
+
+// What is kept of the map of a program that a finding has.
+#[tactic(auto, unfolding(crate::specs::Maps::current_found))]
+fn current_found(program_number: u16, finding: &Finding<'_>) -> Option<CurrentMap>
+    ensures { result ≡ spec.current_found program_number (finding_view finding.now) }
+{
+    match map_found(program_number, finding) {
         None => None,
         Some(map) => Some(CurrentMap {
             version: map.header.version_number,
@@ -61,15 +99,45 @@ fn current_on(program_number: u16, finding: &Finding<'_>) -> Option<CurrentMap>
     }
 }
 
-// The map of a program that a finding has.
-#[tactic(auto, unfolding(crate::specs::Maps::current_found))]
-fn current_found(program_number: u16, finding: &Finding<'_>) -> Option<CurrentMap>
-    ensures { result ≡ spec.current_found program_number (finding_view finding.now) }
+// Whether a map names a stream by its PID and stream_type.
+#[tactic(auto, unfolding(crate::specs::Maps::is_named))]
+fn is_named(streams: Streams<'_>, named: NamedStream) -> bool
+    ensures { result ≡ spec.is_named (streams_of streams.entry) named }
 {
-    if !is_map(finding.begun) {
-        return None;
+    for stream in streams {
+        if stream.stream_type == named.stream_type && stream.elementary_pid == named.pid {
+            return true;
+        }
     }
-    current_on(program_number, finding)
+    false
+}
+
+// The first stream that a map does not name.
+fn first_other(streams: Streams<'_>, named: &[NamedStream]) -> Option<NamedStream>
+    ensures { result ≡ spec.first_other (streams_of streams.entry) named.now }
+{
+    for one in named {
+        if !is_named(streams, *one) {
+            return Some(*one);
+        }
+    }
+    None
+}
+
+// What is told of it.
+#[tactic(auto, unfolding(crate::specs::Maps::other_of))]
+fn other_of(program: u16, packet: u64, named: Option<NamedStream>) -> Option<OtherStream>
+    ensures { result ≡ spec.other_of program packet named }
+{
+    match named {
+        None => None,
+        Some(named) => Some(OtherStream {
+            program,
+            packet,
+            pid: named.pid,
+            stream_type: named.stream_type,
+        }),
+    }
 }
 
 // A version at a packet, if another one was before it.
@@ -99,6 +167,24 @@ impl FedMap {
         ensures { result ≡ is_some (spec.current_found self.now.program_number (finding_view finding.now)) }
     {
         current_found(self.program_number, finding).is_some()
+    }
+
+    // The stream of a description that the first map does not name, if a finding has that map.
+    #[tactic(auto, unfolding(crate::specs::Maps::other_by))]
+    fn other(&self, finding: &Finding<'_>) -> Option<OtherStream>
+        ensures { result ≡ spec.other_by self.now (finding_view finding.now).packet
+            (spec.map_found self.now.program_number (finding_view finding.now)) }
+    {
+        match map_found(self.program_number, finding) {
+            None => None,
+            Some(map) => {
+                if self.current.is_some() {
+                    return None;
+                }
+                let named = first_other(map.streams, &self.named);
+                other_of(self.program_number, finding.packet, named)
+            }
+        }
     }
 
     // Takes a finding, and gives the version that it changes, if it does.
@@ -151,6 +237,20 @@ pub(crate) fn watch(maps: &mut Vec<FedMap>, finding: &Finding<'_>) -> Option<New
         return None;
     };
     watch_at(maps, k, finding)
+}
+
+/// Returns the stream of a description that the first map of its program does not name, if a finding has that map.
+#[tactic(auto, unfolding(crate::specs::Maps::other_place, crate::specs::Maps::other_at))]
+pub(crate) fn other_stream(maps: &[FedMap], finding: &Finding<'_>) -> Option<OtherStream>
+    ensures { result ≡ spec.other_stream (finding_view finding.now) maps.now }
+{
+    let Some(k) = map_place(finding, maps) else {
+        return None;
+    };
+    match maps.get(k) {
+        None => None,
+        Some(map) => map.other(finding),
+    }
 }
 
 /// The PID of the clock references of the first program, once its map has come.

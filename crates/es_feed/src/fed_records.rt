@@ -7,7 +7,10 @@ ghost use Rattle.devices.specs.Lines.{Reports, Tells, WritesLine};
 ghost use Rattle.es_feed.specs.FedLines as spec;
 ghost use Rattle.es_feed.specs.Records.{Puts};
 
-use crate::feed_fault::{ClockJump, CutCause, CutUnits, FeedFault, Loss, NewMap};
+use crate::feed_fault::{
+    ClockJump, CutCause, CutUnits, FeedFault, Loss, NewMap, OtherStream, PacketFault, Restart,
+    SlippedBytes,
+};
 use crate::pending::PendingBytes;
 use crate::records::{flush, put_record};
 use counted_io::Sink;
@@ -83,7 +86,9 @@ fn report_stamp<E: Sink>(faults: &mut E, pid: u16, fault: StampFault)
             "dts-falls",
             &[pid, u128::from(by)],
         ),
-        StampFault::PtsOutOfRange(by) => report_line(faults, "pts-range", &[pid, u128::from(by)]),
+        StampFault::PtsOutOfRange { after, .. } => {
+            report_line(faults, "pts-range", &[pid, u128::from(after)])
+        }
         StampFault::DtsTooFar => report_line(faults, "dts-far", &[pid]),
     }
 }
@@ -157,7 +162,58 @@ fn report_jump<E: Sink>(faults: &mut E, jump: ClockJump)
     report_line(faults, "clock", &numbers);
 }
 
-// Reports what is told of the stream of a PID, of a map, or of the clock.
+// Reports that a packet is not read, or that bytes are left at the end.
+#[tactic(auto, unfolding(crate::specs::FedLines::packet_line))]
+fn report_packet<E: Sink>(faults: &mut E, fault: PacketFault)
+    ensures { Reports (writes E.Sink faults.old faults.new) (spec.packet_line fault) }
+{
+    match fault {
+        PacketFault::Bad(packet) => report_line(faults, "bad-packet", &[u128::from(packet)]),
+        PacketFault::Errored(packet) => report_line(faults, "errored", &[u128::from(packet)]),
+        PacketFault::Rest(size) => report_line(faults, "rest", &[size as u128]),
+    }
+}
+
+// Reports that the description is of another stream.
+fn report_other<E: Sink>(faults: &mut E, other: OtherStream)
+    ensures { Reports (writes E.Sink faults.old faults.new) (spec.other_line other) }
+{
+    let numbers = [
+        u128::from(other.program),
+        u128::from(other.packet),
+        u128::from(other.pid),
+        u128::from(other.stream_type),
+    ];
+    report_line(faults, "other", &numbers);
+}
+
+// Reports bytes that are in no packet.
+fn report_slip<E: Sink>(faults: &mut E, bytes: SlippedBytes)
+    ensures { Reports (writes E.Sink faults.old faults.new) (spec.slip_line bytes) }
+{
+    report_line(faults, "slip", &[bytes.packet as u128, bytes.size as u128]);
+}
+
+// Reports that an encoder restarts.
+fn report_restart<E: Sink>(faults: &mut E, restart: Restart)
+    ensures { Reports (writes E.Sink faults.old faults.new) (spec.restart_line restart) }
+{
+    let numbers = [
+        u128::from(restart.packet),
+        u128::from(restart.stamp),
+        u128::from(restart.moment),
+    ];
+    report_line(faults, "restart", &numbers);
+}
+
+// Reports that all streams are silent after a DTS.
+fn report_silence<E: Sink>(faults: &mut E, dts: u64)
+    ensures { Reports (writes E.Sink faults.old faults.new) (spec.silence_line dts) }
+{
+    report_line(faults, "silent", &[u128::from(dts)]);
+}
+
+// Reports what is told of the stream of a PID, of a map, of the clock, or of an encoder.
 #[tactic(auto, unfolding(crate::specs::FedLines::fault_line))]
 fn report_fault<E: Sink>(faults: &mut E, pid: u16, fault: FeedFault)
     ensures { Reports (writes E.Sink faults.old faults.new) (spec.fault_line pid fault) }
@@ -169,6 +225,11 @@ fn report_fault<E: Sink>(faults: &mut E, pid: u16, fault: FeedFault)
         FeedFault::Cut(cut) => report_cut(faults, pid, cut),
         FeedFault::Map(map) => report_map(faults, map),
         FeedFault::Clock(jump) => report_jump(faults, jump),
+        FeedFault::Other(other) => report_other(faults, other),
+        FeedFault::Packet(fault) => report_packet(faults, fault),
+        FeedFault::Restarted(restart) => report_restart(faults, restart),
+        FeedFault::Silent(dts) => report_silence(faults, dts),
+        FeedFault::Slipped(bytes) => report_slip(faults, bytes),
     }
 }
 

@@ -4,7 +4,7 @@ ghost use Rattle.std.specs.Prelude.{◌≡◌, ◌≤◌, ◌<◌, ◌^◌, ◌&
 ghost use Rattle.demux.specs.Laws.{has_pid};
 ghost use Rattle.demux.specs.Shown.{finding_view};
 ghost use Rattle.es_units.specs.CarriedUnits as units;
-ghost use Rattle.es_units.specs.UnitSteps.{ended_unit, none_so_far};
+ghost use Rattle.es_units.specs.UnitSteps.{ended_unit, none_so_far, start_of};
 ghost use Rattle.es_feed.specs.Feeding as spec;
 ghost use Rattle.es_feed.specs.Origins.{IsOrigin};
 ghost use Rattle.es_feed.specs.Ticks as ticks;
@@ -14,7 +14,7 @@ use crate::feed_fault::{CutCause, CutUnits, FeedFault, Loss};
 use crate::moments::feed;
 use crate::origin::Origin;
 use demux::{Finding, Kind, What};
-use es_units::{UnitTaker, dts_at};
+use es_units::{UnitTaker, WireUnit, dts_at};
 use pes_packet::Unit;
 use std::alloc::{AllocError, Global};
 use std::marker::Model;
@@ -34,6 +34,8 @@ pub struct FedStream {
 pub(crate) struct FedFound {
     /// The unit that it makes whole at its moment, or why it can't have one.
     pub unit: Option<(u8, Result<Unit, FeedFault>)>,
+    /// The packet where that unit begins, and its DTS as its header has it.
+    pub start: Option<(u64, u64)>,
     /// The report on it.
     pub told: Option<(u8, Result<Unit, FeedFault>)>,
 }
@@ -132,6 +134,17 @@ fn fault_of(cuts: bool, finding: &Finding<'_>) -> Option<FeedFault>
     }
 }
 
+// The packet where a unit begins, and its DTS as its header has it.
+#[tactic(auto, unfolding(es_units::specs::UnitSteps::start_of))]
+fn start_of(whole: &Option<WireUnit>) -> Option<(u64, u64)>
+    ensures { result ≡ start_of whole.now }
+{
+    match whole {
+        None => None,
+        Some(unit) => Some((unit.packet, unit.dts)),
+    }
+}
+
 // What is told of the stream of a number.
 #[tactic(auto, unfolding(crate::specs::Feeding::told_of))]
 fn told_of(number: u8, fault: Option<FeedFault>) -> Option<(u8, Result<Unit, FeedFault>)>
@@ -204,6 +217,7 @@ impl FedStream {
         requires origin { IsOrigin origin.old }
         ensures fed { IfOk result (λ fed. fed.unit
             ≡ spec.fed_by due origin.old self.old (spec.whole_by self.old (finding_view finding.now))) }
+        ensures start { IfOk result (λ fed. fed.start ≡ start_of (spec.whole_by self.old (finding_view finding.now))) }
         ensures told { IfOk result (λ fed. fed.told ≡ spec.told_fed self.old (finding_view finding.now)) }
         ensures stream { OnOk result (self.new ≡ spec.stream_with due origin.old
             (spec.after_found self.old (finding_view finding.now)) (spec.whole_by self.old (finding_view finding.now))) }
@@ -213,9 +227,11 @@ impl FedStream {
     {
         let whole = self.taker.take(alloc, finding)?;
         let fault = self.tell(finding);
+        let start = start_of(&whole);
         let unit = feed(self.number, &mut self.before, due, origin, whole);
         Ok(FedFound {
             unit,
+            start,
             told: told_of(self.number, fault),
         })
     }

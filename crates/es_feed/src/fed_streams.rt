@@ -2,7 +2,7 @@
 
 ghost use Rattle.std.specs.Prelude.{◌≡◌, ◌<◌, ◌≤◌, ◌^◌, IfOk, IfSome, OnOk, Some, false, length, slice_get, slice_set};
 ghost use Rattle.demux.specs.Shown.{finding_view};
-ghost use Rattle.es_units.specs.UnitSteps.{ended_unit};
+ghost use Rattle.es_units.specs.UnitSteps.{ended_unit, start_of};
 ghost use Rattle.es_feed.specs.Feeding as spec;
 ghost use Rattle.es_feed.specs.Origins.{IsOrigin};
 ghost use Rattle.es_feed.specs.Ticks as ticks;
@@ -69,6 +69,8 @@ pub(crate) fn take_at(
     requires origin { IsOrigin origin.old }
     ensures fed { (s : spec.FedStreamView) → slice_get streams.old.items k ≡ Some s → IfOk result (λ fed. fed.unit
         ≡ spec.fed_by due origin.old s (spec.whole_by s (finding_view finding.now))) }
+    ensures start { (s : spec.FedStreamView) → slice_get streams.old.items k ≡ Some s →
+        IfOk result (λ fed. fed.start ≡ start_of (spec.whole_by s (finding_view finding.now))) }
     ensures told { (s : spec.FedStreamView) → slice_get streams.old.items k ≡ Some s →
         IfOk result (λ fed. fed.told ≡ spec.told_fed s (finding_view finding.now)) }
     ensures streams { (s : spec.FedStreamView) → slice_get streams.old.items k ≡ Some s →

@@ -50,6 +50,18 @@ pub struct NewMap {
     pub version: u8,
 }
 
+/// A stream of a description that the first map of its program does not name.
+#[derive(Clone, Copy, PartialEq, Eq)]
+pub struct OtherStream {
+    /// program_number.
+    pub program: u16,
+    /// The packet at which the map is whole.
+    pub packet: u64,
+    pub pid: u16,
+    /// The type that the description says.
+    pub stream_type: u8,
+}
+
 /// A clock reference that does not go on from the one before it on its program's clock.
 #[derive(Clone, Copy, PartialEq, Eq)]
 pub struct ClockJump {
@@ -61,6 +73,37 @@ pub struct ClockJump {
     pub before: u64,
     /// What it shows, in units of 90 kHz.
     pub after: u64,
+}
+
+/// Bytes of a stream that are in no packet that can be read.
+#[derive(Clone, Copy, PartialEq, Eq)]
+pub enum PacketFault {
+    /// A packet of this index is none: it has no sync byte, or its adaptation field is refused.
+    Bad(u64),
+    /// A packet of this index has transport_error_indicator.
+    Errored(u64),
+    /// So many bytes are left at the end of the stream.
+    Rest(usize),
+}
+
+/// Bytes that are in no packet: the packets after them are in another step than the packets before.
+#[derive(Clone, Copy, PartialEq, Eq)]
+pub struct SlippedBytes {
+    /// The number of packets before them.
+    pub packet: usize,
+    /// How many they are.
+    pub size: usize,
+}
+
+/// Stamps that fall without a clock, and go on from there.
+#[derive(Clone, Copy, PartialEq, Eq)]
+pub struct Restart {
+    /// The packet where the unit begins that shows it: the units that begin in it or later go on from there.
+    pub packet: u64,
+    /// Its DTS as its header has it, modulo 2^33.
+    pub stamp: u64,
+    /// The moment at which this stamp is taken to come: the greatest DTS so far.
+    pub moment: u64,
 }
 
 /// A report in place of a unit.
@@ -78,4 +121,14 @@ pub enum FeedFault {
     Map(NewMap),
     /// The clock jumps.
     Clock(ClockJump),
+    /// A packet is not read.
+    Packet(PacketFault),
+    /// The description is of another stream.
+    Other(OtherStream),
+    /// Bytes are in no packet.
+    Slipped(SlippedBytes),
+    /// An encoder restarts, and no clock is known.
+    Restarted(Restart),
+    /// No stream has a unit that is due within 10 s after this DTS, by the clock.
+    Silent(u64),
 }

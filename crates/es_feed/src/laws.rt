@@ -12,7 +12,7 @@ pub fn fed_in_turn()
 {}
 
 /// States that the units that one stream feeds from findings that end are the units that its PID carries, moved by the
-/// constant that the first unit fixes, if each can have a moment.
+/// constant that the first unit fixes, if each can have a moment and each packet is read.
 pub fn fed_as_carried()
     ensures { FedAsCarried }
 {}

@@ -6,7 +6,8 @@
 //! `laws` say that later findings feed after earlier ones and change none of them, and that the fed units of each
 //! stream are the units that its PID carries, at their moments by that constant, in the order of their DTS
 //! (`specs/EachStream`, `specs/MovedApart`). Clock references advance time while streams are silent, and show a clock
-//! that jumps (`specs/Clocks`, `specs/Ticks`). A [`StreamFeed`] takes the bytes of a stream in pieces of any size, the
+//! that jumps (`specs/Clocks`, `specs/Ticks`); without them stamps that fall show an encoder that restarts (`specs/Restarts`).
+//! A [`StreamFeed`] takes the bytes of a stream in pieces of any size, the
 //! packets in step (`specs/StreamFeeding`): at its end it has fed what the whole stream feeds, and at each moment a
 //! beginning of it.
 //!
@@ -32,12 +33,17 @@ mod packet_feed;
 mod passing;
 mod pending;
 mod records;
+mod restart;
+mod slip_watch;
 mod stream_feed;
 mod unit_feed;
+mod watched_feed;
 
-pub use fed_map::{CurrentMap, FedMap};
+pub use fed_map::{CurrentMap, FedMap, NamedStream};
 pub use fed_stream::FedStream;
-pub use feed_fault::{ClockJump, CutCause, CutUnits, FeedFault, Loss, NewMap};
+pub use feed_fault::{
+    ClockJump, CutCause, CutUnits, FeedFault, Loss, NewMap, PacketFault, Restart,
+};
 pub use laws::{
     fed_apart, fed_as_carried, fed_by_one_constant, fed_in_order, fed_in_turn, fed_so_far,
     fed_without_clock, ticks_are_past,

@@ -13,6 +13,9 @@ use pes_packet::Unit;
 /// The furthest that a unit is due after the greatest DTS so far, in units of 90 kHz: 10 s.
 const MAX_AHEAD: u64 = 900_000;
 
+/// The longest time from the DTS of a unit to its PTS that a description may have, in units of 90 kHz: a minute.
+const GREATEST_PTS_LIMIT: u32 = 5_400_000;
+
 // What the clock shows at moment 0, with the first unit of all at `earliest`.
 #[tactic(auto, unfolding(crate::specs::Feeding::base_by))]
 fn base_by(earliest: u64, base: Option<u64>, wire: &WireUnit) -> u64
@@ -72,7 +75,7 @@ fn at_moment(
     ensures value { result ≡ spec.at_moment greatest base before wire.unit }
     ensures bound { IfOk result (λ u. u.dts ≤ 2 ^ 52) }
 {
-    match moved_unit(base, before, wire) {
+    match moved_unit(GREATEST_PTS_LIMIT, base, before, wire) {
         Err(fault) => Err(FeedFault::Stamp(fault)),
         Ok(unit) => match ahead_of(greatest, unit.dts) {
             None => Ok(unit),

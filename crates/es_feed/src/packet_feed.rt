@@ -15,8 +15,8 @@ use std::alloc::{AllocError, Global};
 use std::marker::Model;
 use ts_packet::read_packet;
 
-/// A stream whose packets come one after another: each is demultiplexed, and what is found in it is fed, and then its clock
-/// reference. A packet that only goes on with an open unit is not read: nothing is found in it, and it has no reference.
+/// A stream whose packets come one after another: each is demultiplexed, and what is found in it is marked and fed, and then its
+/// clock reference. A packet that only goes on with an open unit is not read: nothing is found in it, and it has no reference.
 #[derive(Drop)]
 pub(crate) struct PacketFeed {
     demux: Demux,
@@ -103,6 +103,7 @@ impl PacketFeed {
             return Err(AllocError);
         };
         self.packets = index.saturating_add(1);
+        self.feed.mark(&mut found);
         self.feed.take_all(alloc, found.as_slice(), fed)?;
         self.take_pcr(alloc, found_pcr(index, &read), fed)
     }
@@ -161,7 +162,9 @@ impl PacketFeed {
         let Ok(()) = demux.finish() else {
             return Err(AllocError);
         };
-        feed.take_all(alloc, demux.findings(), fed)?;
+        let mut found = demux.into_findings();
+        feed.mark(&mut found);
+        feed.take_all(alloc, found.as_slice(), fed)?;
         feed.finish(fed)?;
         Ok(())
     }

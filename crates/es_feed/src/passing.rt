@@ -3,13 +3,14 @@
 ghost use Rattle.std.specs.Prelude.{◌≡◌, ◌<◌, ◌≤◌, ◌||◌, ℕ, List, [], false, length};
 ghost use Rattle.devices.specs.Devices.{reads, writes};
 ghost use Rattle.es_feed.specs.Feeding.{Fed, FeedView};
-ghost use Rattle.es_feed.specs.StreamFeeding.{IsFedBy, at_first};
+ghost use Rattle.es_feed.specs.Watching.{IsWatchedBy, watched_first};
+ghost use Rattle.es_feed.specs.FedLines as lines;
 ghost use Rattle.es_feed.specs.Passing as spec;
 
 use crate::fed_records::{tell_faults, write_fed};
 use crate::feed_fault::FeedFault;
-use crate::stream_feed::StreamFeed;
 use crate::unit_feed::UnitFeed;
+use crate::watched_feed::WatchedFeed;
 use counted_io::{Sink, Source};
 use devices::{Halt, report_halt};
 use pes_packet::Unit;
@@ -52,7 +53,7 @@ fn let_out<W: Sink, E: Sink>(
 
 // Reads the next bytes of the input, and feeds them. All that was fed before is out. Returns whether there are any.
 fn feed_piece<R: Source>(
-    stream: &mut StreamFeed,
+    stream: &mut WatchedFeed,
     piece: &mut [u8],
     input: &mut R,
     fed: &mut Vec<(u8, Result<Unit, FeedFault>)>,
@@ -74,11 +75,28 @@ fn feed_piece<R: Source>(
     Ok(true)
 }
 
-// Reads a stream to the end of the input; what each read feeds goes out before the next. Returns whether a line was told.
+// Whether what is fed says that the description is of another stream.
+#[tactic(auto, unfolding(crate::specs::FedLines::is_refusal, crate::specs::FedLines::is_other))]
+fn is_refusal(fed: &(u8, Result<Unit, FeedFault>)) -> bool
+    ensures { result ≡ lines.is_refusal fed.now }
+{
+    match &fed.1 {
+        Ok(_) => false,
+        Err(fault) => matches!(fault, FeedFault::Other(_)),
+    }
+}
+
+fn have_refusal(fed: &[(u8, Result<Unit, FeedFault>)]) -> bool
+    ensures { result ≡ lines.have_refusal fed.now }
+{
+    fed.iter().any(|one| is_refusal(one))
+}
+
+// Reads a stream to the end of the input, or until it shows that the description is of another one; what each read feeds goes out before the next. Returns whether a line was told.
 fn pass_pieces<R: Source, W: Sink, E: Sink>(
     alloc: Global,
     pids: &[u16],
-    stream: &mut StreamFeed,
+    stream: &mut WatchedFeed,
     piece: &mut [u8],
     input: &mut R,
     output: &mut W,
@@ -86,7 +104,7 @@ fn pass_pieces<R: Source, W: Sink, E: Sink>(
 ) -> Result<bool, Halt>
     requires some { 0 < length piece.old }
     requires most { length piece.old ≤ spec.longest_piece }
-    ensures { (first : FeedView) → stream.old ≡ at_first first →
+    ensures { (first : FeedView) → stream.old ≡ watched_first first →
         spec.PassesPieces first pids.now (reads R.Source input.old input.new) (writes W.Sink output.old output.new)
         (writes E.Sink faults.old faults.new) result stream.new }
 {
@@ -100,12 +118,16 @@ fn pass_pieces<R: Source, W: Sink, E: Sink>(
         if !more {
             return Ok(faulty);
         }
+        let refused = have_refusal(&fed);
         let found = match let_out(pids, &mut fed, output, faults) {
             Ok(found) => found,
             Err(halt) => return Err(halt),
         };
         if found {
             faulty = true;
+        }
+        if refused {
+            return Ok(faulty);
         }
     }
     Err(Halt::Read)
@@ -115,11 +137,11 @@ fn pass_pieces<R: Source, W: Sink, E: Sink>(
 fn pass_last<W: Sink, E: Sink>(
     alloc: Global,
     pids: &[u16],
-    stream: StreamFeed,
+    stream: WatchedFeed,
     output: &mut W,
     faults: &mut E,
 ) -> Result<bool, Halt>
-    ensures { (first : FeedView) (came : List ℕ) (before : List Fed) → IsFedBy first came false stream before →
+    ensures { (first : FeedView) (came : List ℕ) (before : List Fed) → IsWatchedBy first came false stream before →
         spec.PassesLast first pids.now came before (writes W.Sink output.old output.new)
         (writes E.Sink faults.old faults.new) result }
 {
@@ -154,7 +176,7 @@ fn pass_all<R: Source, W: Sink, E: Sink>(
         drop(feed);
         return Err(Halt::Memory);
     };
-    let mut stream = StreamFeed::new(alloc, feed);
+    let mut stream = WatchedFeed::new(alloc, feed);
     let early = match pass_pieces(alloc, pids, &mut stream, &mut piece, input, output, faults) {
         Ok(early) => early,
         Err(halt) => {
@@ -169,8 +191,8 @@ fn pass_all<R: Source, W: Sink, E: Sink>(
 }
 
 /// Reads a stream as it arrives, writes the record of each unit and tick that it feeds before the next read, reports each unit
-/// that has no moment, each loss of packets, whatever else cuts units, each new map and each jump of the clock, and returns the
-/// status: 0 all went out, 1 any of these was reported, 3 a device failed or out of memory.
+/// that has no moment, each loss of packets, whatever else cuts units, each new map, each jump of the clock and all else that is told, and returns the
+/// status: 0 all went out, 1 any of these was reported (a description of another stream ends the run), 3 a device failed or out of memory.
 pub fn pass_stream<R: Source, W: Sink, E: Sink>(
     alloc: Global,
     feed: UnitFeed,

@@ -1,17 +1,20 @@
 //! All streams of a description, finding by finding.
 
-ghost use Rattle.std.specs.Prelude.{◌≡◌, ◌≤◌, ◌++◌, ◌^◌, IfSome, OnOk, map};
+ghost use Rattle.std.specs.Prelude.{◌≡◌, ◌≤◌, ◌++◌, ◌^◌, IfOk, IfSome, OnOk, map};
 ghost use Rattle.demux.specs.Shown.{finding_view};
 ghost use Rattle.std.specs.Option.{option_to_list};
+ghost use Rattle.given_marks.specs.Marking.{all_marked};
 ghost use Rattle.es_feed.specs.Feeding as spec;
 
 use crate::due::Due;
-use crate::fed_map::{FedMap, watch};
+use crate::fed_map::{FedMap, other_stream, watch};
 use crate::fed_stream::FedStream;
 use crate::fed_streams::{greatest_of, place_of, take_at};
-use crate::feed_fault::{FeedFault, NewMap};
+use crate::feed_fault::{FeedFault, NewMap, OtherStream, PacketFault, Restart};
 use crate::origin::Origin;
-use demux::Finding;
+use crate::restart::{Seen, fallen_after, origin_by, restart_of, seen_of};
+use demux::{Finding, What};
+use given_marks::Marking;
 use pes_packet::Unit;
 use std::alloc::{AllocError, Global};
 use std::collections::VecDeque;
@@ -20,15 +23,18 @@ use std::marker::Model;
 /// The number that stands where there is no stream, and that of a tick.
 pub(crate) const NO_STREAM: u8 = 255;
 
-/// The maps of a description's programs, its streams with their current units, and the clock.
+/// The maps of a description's programs, its streams with their current units, the marks that are asked for, and the clock.
 #[derive(Drop)]
 pub struct UnitFeed {
     pub(crate) earliest: u64,
     pub(crate) origin: Origin,
     pub(crate) shown: Option<u64>,
     pub(crate) ticked: u64,
+    marking: Marking,
     pub(crate) maps: Vec<FedMap>,
     pub(crate) streams: Vec<FedStream>,
+    // the stamp of the last unit, if it fell where no clock is known
+    fallen: Option<u64>,
 }
 
 // A contract sees what is kept of each stream.
@@ -44,8 +50,10 @@ impl Model for UnitFeed {
       origin = f.origin;
       shown = f.shown;
       ticked = f.ticked;
+      marking = f.marking;
       maps = f.maps.items;
       streams = f.streams.items;
+      fallen = f.fallen;
     } };
 
     ghost invariant = { λ f. IsOrigin f.origin × (f.ticked ≤ 2 ^ 52) };
@@ -76,6 +84,55 @@ fn told_map(change: Option<NewMap>) -> Option<(u8, Result<Unit, FeedFault>)>
     }
 }
 
+// What is told of a description of another stream.
+#[tactic(auto, unfolding(crate::specs::Feeding::other_fed))]
+fn told_other(other: Option<OtherStream>) -> Option<(u8, Result<Unit, FeedFault>)>
+    ensures { result ≡ spec.other_fed other }
+{
+    match other {
+        None => None,
+        Some(other) => Some((NO_STREAM, Err(FeedFault::Other(other)))),
+    }
+}
+
+// What a finding of no PID says of a packet, or of the end of the stream.
+#[tactic(auto, unfolding(crate::specs::Feeding::packet_fault, crate::specs::Feeding::packet_fault_of))]
+fn packet_fault(finding: &Finding<'_>) -> Option<PacketFault>
+    ensures { result ≡ spec.packet_fault (finding_view finding.now) }
+{
+    if finding.pid.is_some() {
+        return None;
+    }
+    match &finding.what {
+        What::BadPacket(_) => Some(PacketFault::Bad(finding.packet)),
+        What::Errored => Some(PacketFault::Errored(finding.packet)),
+        What::Truncated(part) => Some(PacketFault::Rest(part.bytes().len())),
+        _ => None,
+    }
+}
+
+// What is told of a packet, if it is not read.
+#[tactic(auto, unfolding(crate::specs::Feeding::packet_fed))]
+fn told_packet(fault: Option<PacketFault>) -> Option<(u8, Result<Unit, FeedFault>)>
+    ensures { result ≡ spec.packet_fed fault }
+{
+    match fault {
+        None => None,
+        Some(fault) => Some((NO_STREAM, Err(FeedFault::Packet(fault)))),
+    }
+}
+
+// What is told of a restart, if there is one.
+#[tactic(auto, unfolding(crate::specs::Feeding::restart_fed))]
+fn told_restart(restart: Option<Restart>) -> Option<(u8, Result<Unit, FeedFault>)>
+    ensures { result ≡ spec.restart_fed restart }
+{
+    match restart {
+        None => None,
+        Some(restart) => Some((NO_STREAM, Err(FeedFault::Restarted(restart)))),
+    }
+}
+
 // The greatest DTS so far, where the clock is known.
 #[tactic(auto, unfolding(crate::specs::Feeding::greatest_if))]
 fn greatest_if(shown: Option<u64>, greatest: u64) -> Option<u64>
@@ -91,18 +148,33 @@ fn greatest_if(shown: Option<u64>, greatest: u64) -> Option<u64>
 
 impl UnitFeed {
     /// Returns the programs' maps and the streams of a description before the first packet, each stream with its number and
-    /// its own PID; the first unit of all is to be due at `earliest`. The clock is the first program's clock.
-    pub fn new(earliest: u64, maps: Vec<FedMap>, streams: Vec<FedStream>) -> UnitFeed
-        ensures { result ≡ spec.feed_first earliest maps.items streams.items }
+    /// its own PID; the first unit of all is to be due at `earliest`. The clock is the first program's clock. What is found
+    /// of a stream is marked by `marking` before it is fed.
+    pub fn new(
+        earliest: u64,
+        marking: Marking,
+        maps: Vec<FedMap>,
+        streams: Vec<FedStream>,
+    ) -> UnitFeed
+        ensures { result ≡ spec.feed_first earliest marking maps.items streams.items }
     {
         UnitFeed {
             earliest,
             origin: Origin::new(),
             shown: None,
             ticked: 0,
+            marking,
             maps,
             streams,
+            fallen: None,
         }
+    }
+
+    /// Marks what is found of a stream, before it is taken.
+    pub(crate) fn mark(&self, findings: &mut [Finding<'_>])
+        ensures { map finding_view findings.new ≡ all_marked self.now.marking (map finding_view findings.old) }
+    {
+        self.marking.mark_all(findings);
     }
 
     /// Returns the greatest DTS of units that were fed and of ticks.
@@ -124,28 +196,62 @@ impl UnitFeed {
         }
     }
 
-    // Takes a finding for the stream with its PID.
+    // Takes a finding for the stream with its PID, and returns which unit it makes whole.
     fn take_unit(
         &mut self,
         alloc: &Global,
         finding: &Finding<'_>,
         fed: &mut Vec<(u8, Result<Unit, FeedFault>)>,
-    ) -> Result<(), AllocError>
+    ) -> Result<Seen, AllocError>
+        ensures seen { IfOk result (λ seen. seen ≡ spec.seen_in self.old (finding_view finding.now)) }
         ensures feed { OnOk result (self.new ≡ spec.after_unit self.old (finding_view finding.now)) }
         ensures fed { OnOk result (fed.new.items ≡ fed.old.items ++ spec.fed_unit self.old (finding_view finding.now)) }
     {
         let Some(k) = place_of(finding.pid, &self.streams) else {
-            return Ok(());
+            return Ok(Seen::NoUnit);
         };
         let due = self.due();
         let found = take_at(&mut self.streams, k, alloc, due, &mut self.origin, finding)?;
+        let seen = seen_of(self.shown, found.start, &found.unit);
         push_fed(fed, found.unit)?;
         push_fed(fed, found.told)?;
+        Ok(seen)
+    }
+
+    // Goes on from a unit that shows that an encoder restarts, if it does.
+    fn restart(
+        &mut self,
+        seen: Seen,
+        fed: &mut Vec<(u8, Result<Unit, FeedFault>)>,
+    ) -> Result<(), AllocError>
+        ensures feed { OnOk result (self.new ≡ spec.restarted self.old seen) }
+        ensures fed { OnOk result (fed.new.items ≡ fed.old.items
+            ++ option_to_list (spec.restart_fed (spec.restart_in self.old seen))) }
+    {
+        let restart = restart_of(self.greatest(), self.fallen, seen);
+        push_fed(fed, told_restart(restart))?;
+        self.origin = origin_by(self.origin, restart);
+        self.fallen = fallen_after(self.fallen, seen);
         Ok(())
     }
 
+    // Takes a finding for the stream with its PID, and goes on from a restart that it shows.
+    fn take_found(
+        &mut self,
+        alloc: &Global,
+        finding: &Finding<'_>,
+        fed: &mut Vec<(u8, Result<Unit, FeedFault>)>,
+    ) -> Result<(), AllocError>
+        ensures feed { OnOk result (self.new ≡ spec.after_found_in self.old (finding_view finding.now)) }
+        ensures fed { OnOk result (fed.new.items ≡ fed.old.items ++ spec.fed_found self.old (finding_view finding.now)) }
+    {
+        let seen = self.take_unit(alloc, finding, fed)?;
+        self.restart(seen, fed)
+    }
+
     /// Takes a finding; the unit that it makes whole goes to `fed`, at its moment with the number of its stream, or why it
-    /// can't have one, and so does a loss of packets of a stream, a cut of its units, or the new version of a map.
+    /// can't have one, and so does a loss of packets of a stream, a cut of its units, the new version of a map, a packet
+    /// that is not read, or a restart.
     pub fn take(
         &mut self,
         alloc: &Global,
@@ -155,9 +261,11 @@ impl UnitFeed {
         ensures feed { OnOk result (self.new ≡ spec.after_one self.old (finding_view finding.now)) }
         ensures fed { OnOk result (fed.new.items ≡ fed.old.items ++ spec.fed_one self.old (finding_view finding.now)) }
     {
+        push_fed(fed, told_other(other_stream(&self.maps, finding)))?;
         let change = watch(&mut self.maps, finding);
         push_fed(fed, told_map(change))?;
-        self.take_unit(alloc, finding, fed)
+        push_fed(fed, told_packet(packet_fault(finding)))?;
+        self.take_found(alloc, finding, fed)
     }
 
     /// Takes findings, one after another.

@@ -1,5 +1,5 @@
 -- Units that a stream declares enough for.
-use Rattle.std.proofs.Common.{◌≡◌, ◌≤◌, ℕ, ◌+◌, Option, Some, None, List, [], ◌∷◌, length, map, arith, All}
+use Rattle.std.proofs.Common.{◌≡◌, ◌≤◌, ℕ, ◌+◌, ◌-◌, Option, Some, None, List, [], ◌∷◌, length, map, arith, All}
 use Rattle.std.proofs.lemmas.List.Elements.{All-nil, All-cons, All-head, All-tail}
 use Rattle.pes_packet.specs.AccessUnits.{AccessUnit}
 use Rattle.pes_packet.specs.Marks.{marks_size}
@@ -13,29 +13,31 @@ use Rattle.unit_queue.specs.OwnedStreams.{OwnedStream, timed}
 use Rattle.unit_queue.specs.Queues.{IsUnit, max_packets_per_unit}
 use Rattle.unit_queue.specs.declared.parameters.StreamParameters.{StreamParameters}
 use Rattle.es_units.specs.Stamps.{distance, dts_at, unit_at, moved, unit_fault, first_fault}
-use Rattle.es_units.specs.Declaration.{interval_after, min_interval, max_unit_size, max_group, AllowsUnits}
+use Rattle.es_units.specs.Declaration.{interval_after, min_interval, max_unit_size, max_pts_after, max_group, AllowsUnits}
 use Rattle.es_units.specs.Laws.{FirstDue, UnitsAreKept}
 use Rattle.es_units.proofs.StampFaults.{place_none, timely}
 use Rattle.es_units.proofs.UnitCounts.{within_burst, bytes_most}
 
 -- 1. Each by itself
 
-unit_is : (r : StreamParameters) (base : ℕ) (before : Option ℕ) (u : AccessUnit) → unit_fault base before u ≡ None →
-    1 ≤ length u.bytes → length (unit_at base before u).bytes + marks_size (unit_at base before u).marks ≤ r.size → IsUnit r (unit_at base before u)
+unit_is : (r : StreamParameters) (limit base : ℕ) (before : Option ℕ) (u : AccessUnit) → unit_fault limit base before u ≡ None →
+    1 ≤ length u.bytes → length (unit_at base before u).bytes + marks_size (unit_at base before u).marks ≤ r.size →
+    (unit_at base before u).pts - (unit_at base before u).dts ≤ r.pts_limit → IsUnit r (unit_at base before u)
 unfolding unit_at
-unit_is r base before u none some most =
-    let own = timely base before u none in
-    record { some = some; most = most; later = own.later; soon = own.soon; last = own.last }
+unit_is r limit base before u none some most few =
+    let own = timely limit base before u none in
+    record { some = some; most = most; later = own.later; soon = omega (arith, own.later, few); last = own.last }
 
-units_each : (r : StreamParameters) (base place : ℕ) (before : Option ℕ) (us : List AccessUnit) → first_fault base before place us ≡ None →
-    All (λ u. 1 ≤ length u.bytes) us → max_unit_size (moved base before us) ≤ r.size → All (IsUnit r) (moved base before us)
-unfolding moved first_fault max_unit_size
-units_each r base place before [] none some size = All-nil (IsUnit r)
-units_each r base place before (u ∷ us) none some size =
-    let both = place_none place (unit_fault base before u) _ none in
-    let unit = unit_is r base before u both.0 (All-head (λ u. 1 ≤ length u.bytes) u us some) (omega (arith, size)) in
+units_each : (r : StreamParameters) (limit base place : ℕ) (before : Option ℕ) (us : List AccessUnit) → first_fault limit base before place us ≡ None →
+    All (λ u. 1 ≤ length u.bytes) us → max_unit_size (moved base before us) ≤ r.size → max_pts_after (moved base before us) ≤ r.pts_limit →
+    All (IsUnit r) (moved base before us)
+unfolding moved first_fault max_unit_size max_pts_after
+units_each r limit base place before [] none some size pts = All-nil (IsUnit r)
+units_each r limit base place before (u ∷ us) none some size pts =
+    let both = place_none place (unit_fault limit base before u) _ none in
+    let unit = unit_is r limit base before u both.0 (All-head (λ u. 1 ≤ length u.bytes) u us some) (omega (arith, size)) (omega (arith, pts)) in
     All-cons (IsUnit r) (unit_at base before u) (moved base (Some (dts_at base before u.dts)) us) unit
-    (units_each r base (place + 1) (Some (dts_at base before u.dts)) us both.1 (All-tail (λ u. 1 ≤ length u.bytes) u us some) (omega (arith, size)))
+    (units_each r limit base (place + 1) (Some (dts_at base before u.dts)) us both.1 (All-tail (λ u. 1 ≤ length u.bytes) u us some) (omega (arith, size)) (omega (arith, pts)))
 
 -- 2. Their distances
 
@@ -84,10 +86,10 @@ allowed_all (Pace burst pace) l us size spaced allows =
 -- 5. All together
 
 pub units_kept : UnitsAreKept
-units_kept l base wire none some declares =
+units_kept l limit base wire none some declares =
     let spaced = spaced_all l base wire declares.interval declares.lead in
     record {
-      units = units_each l.parameters base 0 None wire none some declares.size;
+      units = units_each l.parameters limit base 0 None wire none some declares.size declares.pts;
       spaced = spaced;
       sized = sized_all l (moved base None wire) declares.size;
       allowed = allowed_all l.parameters.allowance l (moved base None wire) declares.size spaced declares.allowance;

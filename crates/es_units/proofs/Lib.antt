@@ -15,6 +15,7 @@ pub mod Conservation
 pub mod SameIds
 pub mod TimeOrder
 pub mod MadeDts
+pub mod ApartUnits
 pub mod UnitSteps
 pub mod TakenUnits
 pub mod UnitMoments

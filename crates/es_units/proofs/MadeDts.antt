@@ -119,7 +119,7 @@ length_made us =
     let moments = moments_of (pts_of us) in
     length-map (in_order moments) (λ (m : ℕ). (m - shift_of moments) % 2 ^ 33) ∙ length_order moments ∙ length_moments (2 ^ 100) (pts_of us) ∙ length-map us (λ (u : CarriedUnit). u.unit.pts)
 
-restamped_contents : (dts : List ℕ) (us : List CarriedUnit) → length dts ≡ length us → contents (with_dts dts us) ≡ contents us
+pub restamped_contents : (dts : List ℕ) (us : List CarriedUnit) → length dts ≡ length us → contents (with_dts dts us) ≡ contents us
 unfolding with_dts
 restamped_contents [] [] same = refl
 restamped_contents [] (u ∷ us) same = absurd cc

@@ -27,7 +27,7 @@ use Rattle.es_units.specs.Laws.{TakenOneByOne}
 pub not_none : (n : ℕ) → 1 ≤ n → (n == 0) ≡ false
 not_none n le = grind (arith, nat_tests, le)
 
-own_none : (r : StreamParameters) (earliest : ℕ) (u : AccessUnit) → IsUnit r u → earliest ≤ u.dts → own_cause r.size earliest u ≡ None
+own_none : (r : StreamParameters) (earliest : ℕ) (u : AccessUnit) → IsUnit r u → earliest ≤ u.dts → own_cause r.size r.pts_limit earliest u ≡ None
 unfolding own_cause
 own_none r earliest u unit due =
     rw (
@@ -35,7 +35,7 @@ own_none r earliest u unit due =
       le-ltb r.size (length u.bytes + marks_size u.marks) unit.most,
       le-ltb u.dts earliest due,
       le-ltb u.pts u.dts unit.later,
-      le-ltb (u.dts + 90_000) u.pts unit.soon,
+      le-ltb (u.dts + r.pts_limit) u.pts unit.soon,
     ) refl
 
 time_none : (l : OwnedStream) (u : AccessUnit) → l.parameters.lead ≤ u.dts → u.dts ≤ 2 ^ 52 → time_cause (is_late l 0 u) u.dts ≡ None

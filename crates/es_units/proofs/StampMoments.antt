@@ -9,7 +9,7 @@ pub shows : (a w : ℕ) → (a + distance a w) % 2 ^ 33 ≡ w % 2 ^ 33
 unfolding distance
 shows a w = omega arith
 
-shows_dts : (base : ℕ) (before : Option ℕ) (w : ℕ) → on_wire (dts_at base before w + base) ≡ on_wire w
+pub shows_dts : (base : ℕ) (before : Option ℕ) (w : ℕ) → on_wire (dts_at base before w + base) ≡ on_wire w
 unfolding distance dts_at
 shows_dts base None w = omega arith
 shows_dts base (Some d) w = omega arith

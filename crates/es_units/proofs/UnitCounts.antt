@@ -11,12 +11,21 @@ use Rattle.pes_packet.specs.declared.marks.Marks.{Marks}
 use Rattle.pes_packet.proofs.Written.{header_sizes}
 use Rattle.es_units.specs.Stamps.{distance, min_distance}
 use Rattle.clock27.specs.Units.{slot_units_at_1bps}
-use Rattle.es_units.specs.Declaration.{interval_after, min_interval, max_unit_size}
+use Rattle.es_units.specs.Declaration.{interval_after, min_interval, max_pts_after, max_unit_size}
 
 pub size_more : (i : ℕ) (us : List AccessUnit) (u : AccessUnit) → i < length us → u ≡ get_or us i u →
     max_unit_size (drop i us) ≡ max (length u.bytes + marks_size u.marks) (max_unit_size (drop (i + 1) us))
 unfolding max_unit_size
 size_more i us u below at = rw (drop-cons us i u below, add-one i, sym at) refl
+
+pub pts_more : (i : ℕ) (us : List AccessUnit) (u : AccessUnit) → i < length us → u ≡ get_or us i u →
+    max_pts_after (drop i us) ≡ max (u.pts - u.dts) (max_pts_after (drop (i + 1) us))
+unfolding max_pts_after
+pts_more i us u below at = rw (drop-cons us i u below, sym at, add-one i) refl
+
+pub pts_end : (i : ℕ) (us : List AccessUnit) → length us ≤ i → max_pts_after (drop i us) ≡ 0
+unfolding max_pts_after
+pts_end i us over = rw (drop_all i us over) refl
 
 pub size_end : (i : ℕ) (us : List AccessUnit) → length us ≤ i → max_unit_size (drop i us) ≡ 0
 unfolding max_unit_size

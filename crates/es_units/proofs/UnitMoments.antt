@@ -35,28 +35,28 @@ moments_over base before i us all out over is =
     let none : wire (drop i us) ≡ [] = rw (drop_all i us over) refl in
     sym (is ∙ ap (λ (l : List AccessUnit). out ++ map moment_of (moved base before l)) none ∙ append-nil out)
 
-pub faults_more : (base : ℕ) (before : Option ℕ) (i : ℕ) (us : List CarriedUnit) (u : CarriedUnit) (m : UnitMoment) → i < length us → u ≡ get_or us i u →
-    first_fault base None 0 (wire us) ≡ first_fault base before i (wire (drop i us)) → None ≡ unit_fault base before u.unit → m ≡ moment_at base before u.unit.dts u.unit.pts →
-    first_fault base None 0 (wire us) ≡ first_fault base (Some m.dts) (i + 1) (wire (drop (i + 1) us))
+pub faults_more : (limit base : ℕ) (before : Option ℕ) (i : ℕ) (us : List CarriedUnit) (u : CarriedUnit) (m : UnitMoment) → i < length us → u ≡ get_or us i u →
+    first_fault limit base None 0 (wire us) ≡ first_fault limit base before i (wire (drop i us)) → None ≡ unit_fault limit base before u.unit → m ≡ moment_at base before u.unit.dts u.unit.pts →
+    first_fault limit base None 0 (wire us) ≡ first_fault limit base (Some m.dts) (i + 1) (wire (drop (i + 1) us))
 unfolding first_fault fault_or
-faults_more base before i us u m below here is none made =
-    rw (made) (is ∙ ap (first_fault base before i) (next_wire i us u below here)
-    ∙ ap (λ (o : Option StampFault). fault_or i o (first_fault base (Some (dts_at base before u.unit.dts)) (i + 1) (wire (drop (i + 1) us)))) (sym none))
+faults_more limit base before i us u m below here is none made =
+    rw (made) (is ∙ ap (first_fault limit base before i) (next_wire i us u below here)
+    ∙ ap (λ (o : Option StampFault). fault_or i o (first_fault limit base (Some (dts_at base before u.unit.dts)) (i + 1) (wire (drop (i + 1) us)))) (sym none))
 
-pub faults_here : (base : ℕ) (before : Option ℕ) (i : ℕ) (us : List CarriedUnit) (u : CarriedUnit) (fault : StampFault) → i < length us → u ≡ get_or us i u →
-    first_fault base None 0 (wire us) ≡ first_fault base before i (wire (drop i us)) → Some fault ≡ unit_fault base before u.unit →
-    first_fault base None 0 (wire us) ≡ Some (i, fault)
+pub faults_here : (limit base : ℕ) (before : Option ℕ) (i : ℕ) (us : List CarriedUnit) (u : CarriedUnit) (fault : StampFault) → i < length us → u ≡ get_or us i u →
+    first_fault limit base None 0 (wire us) ≡ first_fault limit base before i (wire (drop i us)) → Some fault ≡ unit_fault limit base before u.unit →
+    first_fault limit base None 0 (wire us) ≡ Some (i, fault)
 unfolding first_fault fault_or
-faults_here base before i us u fault below here is some =
-    is ∙ ap (first_fault base before i) (next_wire i us u below here)
-    ∙ ap (λ (o : Option StampFault). fault_or i o (first_fault base (Some (dts_at base before u.unit.dts)) (i + 1) (wire (drop (i + 1) us)))) (sym some)
+faults_here limit base before i us u fault below here is some =
+    is ∙ ap (first_fault limit base before i) (next_wire i us u below here)
+    ∙ ap (λ (o : Option StampFault). fault_or i o (first_fault limit base (Some (dts_at base before u.unit.dts)) (i + 1) (wire (drop (i + 1) us)))) (sym some)
 
-pub faults_over : (base : ℕ) (before : Option ℕ) (i : ℕ) (us : List CarriedUnit) → length us ≤ i →
-    first_fault base None 0 (wire us) ≡ first_fault base before i (wire (drop i us)) → first_fault base None 0 (wire us) ≡ None
+pub faults_over : (limit base : ℕ) (before : Option ℕ) (i : ℕ) (us : List CarriedUnit) → length us ≤ i →
+    first_fault limit base None 0 (wire us) ≡ first_fault limit base before i (wire (drop i us)) → first_fault limit base None 0 (wire us) ≡ None
 unfolding first_fault
-faults_over base before i us over is =
+faults_over limit base before i us over is =
     let none : wire (drop i us) ≡ [] = rw (drop_all i us over) refl in
-    is ∙ ap (first_fault base before i) none
+    is ∙ ap (first_fault limit base before i) none
 
 -- 2. Units at moments, one by one
 

@@ -24,6 +24,11 @@ unfoldable pub max_unit_size : List AccessUnit → ℕ
 max_unit_size [] = 0
 max_unit_size (u ∷ us) = max (length u.bytes + marks_size u.marks) (max_unit_size us)
 
+-- the longest time from the DTS of a unit to its PTS
+unfoldable pub max_pts_after : List AccessUnit → ℕ
+max_pts_after [] = 0
+max_pts_after (u ∷ us) = max (u.pts - u.dts) (max_pts_after us)
+
 -- the packets of one unit of `size` bytes, whose header has at most 19 bytes and what its marks take
 abbrev pub max_unit_packets : ℕ → ℕ
 max_unit_packets size = (19 + size + 183) / 184

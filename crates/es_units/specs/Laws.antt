@@ -14,7 +14,7 @@ use Rattle.es_units.specs.CarriedUnits.{RoleView, Ignored, Start, Continuation, 
 use Rattle.es_units.specs.Damage.{is_left_out}
 use Rattle.es_units.specs.UnitWarnings.{unit_warnings}
 use Rattle.es_units.specs.declared.unit_warning.UnitWarning.{UnitWarning}
-use Rattle.es_units.specs.Declaration.{min_interval, max_unit_size, AllowsUnits}
+use Rattle.es_units.specs.Declaration.{min_interval, max_unit_size, max_pts_after, AllowsUnits}
 
 -- the units of a PID are those of its findings alone
 abbrev pub FindingsOfThePid : Type 0
@@ -72,12 +72,13 @@ FirstDue from (u ∷ us) = from ≤ u.dts
 pub record Declares (l : OwnedStream) (us : List AccessUnit) : Type 0 where
   pub interval : l.parameters.interval ≤ min_interval us
   pub size : max_unit_size us ≤ l.parameters.size
+  pub pts : max_pts_after us ≤ l.parameters.pts_limit
   pub lead : FirstDue l.parameters.lead us
   pub allowance : AllowsUnits l.parameters.allowance l.parameters.stream_id l.parameters.base0 us
 
 -- units that have bytes, and stamps that can be moments, keep what is declared of them
 abbrev pub UnitsAreKept : Type 0
-UnitsAreKept = (l : OwnedStream) (base : ℕ) (wire : List AccessUnit) → first_fault base None 0 wire ≡ None → All (λ u. 1 ≤ length u.bytes) wire →
+UnitsAreKept = (l : OwnedStream) (limit base : ℕ) (wire : List AccessUnit) → first_fault limit base None 0 wire ≡ None → All (λ u. 1 ≤ length u.bytes) wire →
     Declares l (moved base None wire) → Kept l (moved base None wire)
 
 -- each of them is then taken after those before it while no slot is written, if there is room for one

@@ -7,6 +7,7 @@ pub mod StreamIds
 pub mod Stamps
 pub mod StampErrors
 pub mod MadeDts
+pub mod ApartUnits
 pub mod DtsErrors
 pub mod Declaration
 pub mod UnitRuns

@@ -12,6 +12,6 @@ fault_of (Ok value) = None
 fault_of (Err fault) = Some fault
 
 -- there was no memory, or it is the first unit that has a fault
-abbrev pub IsStampError : ℕ → List AccessUnit → StampError → Type 0
-IsStampError base us errors.Memory = Unit {0}
-IsStampError base us (errors.Unit index fault) = first_fault base None 0 us ≡ Some (index, fault)
+abbrev pub IsStampError : ℕ → ℕ → List AccessUnit → StampError → Type 0
+IsStampError limit base us errors.Memory = Unit {0}
+IsStampError limit base us (errors.Unit index fault) = first_fault limit base None 0 us ≡ Some (index, fault)

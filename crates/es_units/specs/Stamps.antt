@@ -41,9 +41,9 @@ dts_not_increasing base None stamp = None
 dts_not_increasing base (Some before) stamp =
     if distance (before + base) stamp == 0 || nat_le (2 ^ 32) (distance (before + base) stamp) then Some (DtsNotIncreasing (distance stamp (before + base))) else None
 
--- a PTS that is over a second after its DTS, or before it
-abbrev pub pts_out_of_range : ℕ → ℕ → ℕ → Option StampFault
-pts_out_of_range base dts stamp = if nat_lt 90_000 (distance (dts + base) stamp) then Some (PtsOutOfRange (distance (dts + base) stamp)) else None
+-- a PTS that is more than a limit after its DTS, or before it
+abbrev pub pts_out_of_range : ℕ → ℕ → ℕ → ℕ → Option StampFault
+pts_out_of_range limit base dts stamp = if nat_lt limit (distance (dts + base) stamp) then Some (PtsOutOfRange (distance (dts + base) stamp) limit) else None
 
 -- a moment that no unit may have
 abbrev pub dts_too_far : ℕ → Option StampFault
@@ -55,19 +55,19 @@ or_fault (Some fault) next = Some fault
 or_fault None next = next
 
 -- of a unit after a DTS or after none
-abbrev pub unit_fault : ℕ → Option ℕ → AccessUnit → Option StampFault
-unit_fault base before u =
-    or_fault (dts_not_increasing base before u.dts) (or_fault (pts_out_of_range base (dts_at base before u.dts) u.pts) (dts_too_far (dts_at base before u.dts)))
+abbrev pub unit_fault : ℕ → ℕ → Option ℕ → AccessUnit → Option StampFault
+unit_fault limit base before u =
+    or_fault (dts_not_increasing base before u.dts) (or_fault (pts_out_of_range limit base (dts_at base before u.dts) u.pts) (dts_too_far (dts_at base before u.dts)))
 
 -- of units one after another: the place of the first unit that has one, and its fault
 unfoldable pub fault_or : ℕ → Option StampFault → Option (ℕ × StampFault) → Option (ℕ × StampFault)
 fault_or place (Some fault) next = Some (place, fault)
 fault_or place None next = next
 
-unfoldable pub first_fault : ℕ → Option ℕ → ℕ → List AccessUnit → Option (ℕ × StampFault)
-first_fault base before place [] = None
-first_fault base before place (u ∷ us) =
-    fault_or place (unit_fault base before u) (first_fault base (Some (dts_at base before u.dts)) (place + 1) us)
+unfoldable pub first_fault : ℕ → ℕ → Option ℕ → ℕ → List AccessUnit → Option (ℕ × StampFault)
+first_fault limit base before place [] = None
+first_fault limit base before place (u ∷ us) =
+    fault_or place (unit_fault limit base before u) (first_fault limit base (Some (dts_at base before u.dts)) (place + 1) us)
 
 -- 3. The constant of a clock
 

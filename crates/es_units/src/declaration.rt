@@ -5,7 +5,7 @@ ghost use Rattle.pes_packet.specs.Encoding.{pes_packet_bytes};
 ghost use Rattle.pes_packet.specs.Marks.{field_size};
 ghost use Rattle.es_units.specs.Declaration as spec;
 
-use crate::unit::{dts_of, size_of};
+use crate::unit::{dts_of, pts_after, size_of};
 use pes_packet::{Unit, field_size, packet_size};
 use std::alloc::Allocator;
 
@@ -54,6 +54,17 @@ pub fn max_unit_size<A: Allocator>(units: &[Unit<A>]) -> usize
     let mut greatest = 0;
     for unit in units {
         greatest = greatest.max(size_of(unit));
+    }
+    greatest
+}
+
+/// Returns the longest time from the DTS of a unit to its PTS, in units of 90 kHz.
+pub fn max_pts_after<A: Allocator>(units: &[Unit<A>]) -> u64
+    ensures { result ≡ spec.max_pts_after units.now }
+{
+    let mut greatest = 0;
+    for unit in units {
+        greatest = greatest.max(pts_after(unit));
     }
     greatest
 }

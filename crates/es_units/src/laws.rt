@@ -1,5 +1,6 @@
 //! Laws of the definitions. Each function does nothing: its contract is the law.
 
+ghost use Rattle.es_units.specs.ApartUnits.{ApartKeep, ApartStay, RowRises, SoundStay};
 ghost use Rattle.es_units.specs.Laws.{ConstantIsLeast, FindingsOfThePid, MovedByOneConstant, MovedInTurn};
 ghost use Rattle.es_units.specs.Laws.{NothingIsLost, TakenOneByOne, UnitsAreKept};
 ghost use Rattle.es_units.specs.UnitSteps.{GivenAreCarried, GivenInTurn, UncutAreCarried};
@@ -21,6 +22,15 @@ pub fn given_as_carried()
 /// States that the bytes of a PID's PES packets, joined, are the bytes of its units, joined, if no warning leaves anything out.
 pub fn nothing_is_lost()
     ensures { NothingIsLost }
+{}
+
+/// States that units of a data stream that are due at one moment are decoded one after another, up to 63 units of 90 kHz earlier:
+/// all but their DTS is kept, and nothing changes if no two in a row have one DTS, as those whose stamps can be moments.
+pub fn apart_by_one()
+    ensures keep { ApartKeep }
+    ensures stay { ApartStay }
+    ensures sound { SoundStay }
+    ensures apart { RowRises }
 {}
 
 /// States that the moments of a stream's units are their stamps less one constant: plus that, modulo 2^33, they are the stamps.

@@ -2,12 +2,14 @@
 //!
 //! The units of a PID are a function of its findings (`specs/CarriedUnits`): where they are found, copied, or moved out of
 //! the findings (`specs/TakenUnits`); their stamps of 33 bits become moments of
-//! a run by one constant for a clock (`specs/Stamps`); the least that a stream declares is counted from them
+//! a run by one constant for a clock (`specs/Stamps`), with DTS of their own where several of a data stream have one
+//! (`specs/ApartUnits`); the least that a stream declares is counted from them
 //! (`specs/Declaration`). The laws say that the stamps on the wire are the moments with the constant modulo 2^33, and
 //! that the units keep their declaration, so that a queue accepts each. [`merged`] puts the units of many streams in the
 //! order of their decoding times.
 #![tactic(auto)]
 
+mod apart;
 mod carried;
 mod counted_packets;
 mod counted_units;
@@ -33,15 +35,16 @@ mod unit_weights;
 mod warnings;
 mod wire_unit;
 
+pub use apart::apart_units;
 pub use carried::carried_units;
 pub use counted_packets::CountedPackets;
 pub use counted_units::CountedUnits;
-pub use declaration::{max_unit_size, min_interval};
+pub use declaration::{max_pts_after, max_unit_size, min_interval};
 pub use dts_from_pts::{DtsError, DtsFault, made_dts};
 pub use found::found_units;
 pub use laws::{
-    constant_is_least, findings_of_the_pid, given_as_carried, moved_by_one_constant, moved_in_turn,
-    nothing_is_lost, taken_one_by_one, units_are_kept,
+    apart_by_one, constant_is_least, findings_of_the_pid, given_as_carried, moved_by_one_constant,
+    moved_in_turn, nothing_is_lost, taken_one_by_one, units_are_kept,
 };
 pub use made_units::units_with_made_dts;
 pub use merging::merged;

@@ -32,8 +32,8 @@ fn restamped<'f, A: Allocator>(dts: u64, unit: FoundUnit<'f, A>) -> FoundUnit<'f
     }
 }
 
-// Units with these DTS.
-fn with_dts<'f, A: Allocator>(
+/// Returns units with these DTS.
+pub(crate) fn with_dts<'f, A: Allocator>(
     alloc: A,
     dts: &[u64],
     found: Vec<FoundUnit<'f, A>, A>,

@@ -13,8 +13,8 @@ const LAST_DTS: u64 = 1 << 52;
 pub enum StampFault {
     /// The DTS is this long before the one before it; 0 if they are equal.
     DtsNotIncreasing(u64),
-    /// The PTS is this long after its DTS, modulo 2^33, which is more than 90,000.
-    PtsOutOfRange(u64),
+    /// The PTS is so long after its DTS, modulo 2^33, which is more than the limit.
+    PtsOutOfRange { after: u64, limit: u32 },
     /// The DTS is over 2^52 after the start.
     DtsTooFar,
 }
@@ -60,15 +60,15 @@ fn dts_not_increasing(base: u64, before: Option<u64>, stamp: u64) -> Option<Stam
     }
 }
 
-// A PTS that is not within the second after its DTS.
-fn pts_out_of_range(base: u64, dts: u64, stamp: u64) -> Option<StampFault>
+// A PTS that is not within a limit after its DTS.
+fn pts_out_of_range(limit: u32, base: u64, dts: u64, stamp: u64) -> Option<StampFault>
     requires base { base < 2 ^ 33 }
     requires dts { dts < 2 ^ 53 }
-    ensures { result ≡ spec.pts_out_of_range base dts stamp }
+    ensures { result ≡ spec.pts_out_of_range limit base dts stamp }
 {
     let after = distance(dts + base, stamp);
-    if after > 90_000 {
-        Some(StampFault::PtsOutOfRange(after))
+    if after > u64::from(limit) {
+        Some(StampFault::PtsOutOfRange { after, limit })
     } else {
         None
     }
@@ -87,18 +87,24 @@ fn dts_too_far(dts: u64) -> Option<StampFault>
 
 /// Returns what is wrong with the stamps of a unit after a DTS or after none.
 #[tactic(auto, unfolding(crate::specs::Stamps::or_fault))]
-pub(crate) fn unit_fault(base: u64, before: Option<u64>, dts: u64, pts: u64) -> Option<StampFault>
+pub(crate) fn unit_fault(
+    limit: u32,
+    base: u64,
+    before: Option<u64>,
+    dts: u64,
+    pts: u64,
+) -> Option<StampFault>
     requires base { base < 2 ^ 33 }
     requires before { IfSome before (λ dts. dts ≤ 2 ^ 52) }
     ensures { result ≡ spec.or_fault (spec.dts_not_increasing base before dts)
-        (spec.or_fault (spec.pts_out_of_range base (spec.dts_at base before dts) pts)
+        (spec.or_fault (spec.pts_out_of_range limit base (spec.dts_at base before dts) pts)
         (spec.dts_too_far (spec.dts_at base before dts))) }
 {
     if let Some(fault) = dts_not_increasing(base, before, dts) {
         return Some(fault);
     }
     let moment = dts_at(base, before, dts);
-    if let Some(fault) = pts_out_of_range(base, moment, pts) {
+    if let Some(fault) = pts_out_of_range(limit, base, moment, pts) {
         return Some(fault);
     }
     dts_too_far(moment)

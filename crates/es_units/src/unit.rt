@@ -1,6 +1,6 @@
 //! The conditions on one unit.
 
-ghost use Rattle.std.specs.Prelude.{◌≡◌, ◌<◌, ◌+◌, ◌^◌, length};
+ghost use Rattle.std.specs.Prelude.{◌≡◌, ◌<◌, ◌+◌, ◌-◌, ◌^◌, length};
 ghost use Rattle.pes_packet.specs.Marks.{marks_size};
 
 use pes_packet::Unit;
@@ -11,6 +11,13 @@ pub(crate) fn dts_of<A: Allocator>(unit: &Unit<A>) -> u64
     ensures { result ≡ unit.now.dts }
 {
     unit.dts
+}
+
+/// Returns how long after its DTS its PTS is.
+pub(crate) fn pts_after<A: Allocator>(unit: &Unit<A>) -> u64
+    ensures { result ≡ unit.now.pts - unit.now.dts }
+{
+    unit.pts.saturating_sub(unit.dts)
 }
 
 /// Returns its size in bytes, with what its marks take.

@@ -27,18 +27,24 @@ pub struct UnitMoment {
     pub pts: u64,
 }
 
-// The moments of a unit of these stamps, after a DTS or after none, where the clock shows `base` at moment 0; or why it
-// can't have any.
-fn moment(base: u64, before: Option<u64>, dts: u64, pts: u64) -> Result<UnitMoment, StampFault>
+// The moments of a unit of these stamps, after a DTS or after none, where the clock shows `base` at moment 0, its PTS at
+// most `limit` after its DTS; or why it can't have any.
+fn moment(
+    limit: u32,
+    base: u64,
+    before: Option<u64>,
+    dts: u64,
+    pts: u64,
+) -> Result<UnitMoment, StampFault>
     requires base { base < 2 ^ 33 }
     requires before { IfSome before (λ dts. dts ≤ 2 ^ 52) }
     ensures value { IfOk result (λ m. m ≡ at.moment_at base before dts pts) }
     ensures fault { fault_of result ≡ spec.or_fault (spec.dts_not_increasing base before dts)
-        (spec.or_fault (spec.pts_out_of_range base (spec.dts_at base before dts) pts)
+        (spec.or_fault (spec.pts_out_of_range limit base (spec.dts_at base before dts) pts)
         (spec.dts_too_far (spec.dts_at base before dts))) }
     ensures bound { IfOk result (λ m. m.dts ≤ 2 ^ 52) }
 {
-    if let Some(fault) = unit_fault(base, before, dts, pts) {
+    if let Some(fault) = unit_fault(limit, base, before, dts, pts) {
         return Err(fault);
     }
     let moment = dts_at(base, before, dts);
@@ -48,10 +54,11 @@ fn moment(base: u64, before: Option<u64>, dts: u64, pts: u64) -> Result<UnitMome
     })
 }
 
-/// Returns a unit at its moments, after a DTS or after none, where the clock shows `base` at moment 0; or why it can't
-/// have any.
+/// Returns a unit at its moments, after a DTS or after none, where the clock shows `base` at moment 0, its PTS at most
+/// `limit` after its DTS; or why it can't have any.
 #[tactic(auto, unfolding(crate::specs::Stamps::unit_at))]
 pub fn moved_unit<A: Allocator>(
+    limit: u32,
     base: u64,
     before: Option<u64>,
     wire: WireUnit<Vec<u8, A>>,
@@ -59,10 +66,10 @@ pub fn moved_unit<A: Allocator>(
     requires base { base < 2 ^ 33 }
     requires before { IfSome before (λ dts. dts ≤ 2 ^ 52) }
     ensures value { IfOk result (λ u. u ≡ spec.unit_at base before wire.unit) }
-    ensures fault { fault_of result ≡ spec.unit_fault base before wire.unit }
+    ensures fault { fault_of result ≡ spec.unit_fault limit base before wire.unit }
     ensures bound { IfOk result (λ u. u.dts ≤ 2 ^ 52) }
 {
-    match moment(base, before, wire.dts, wire.pts) {
+    match moment(limit, base, before, wire.dts, wire.pts) {
         Err(fault) => Err(fault),
         Ok(moment) => Ok(Unit {
             dts: moment.dts,
@@ -75,24 +82,25 @@ pub fn moved_unit<A: Allocator>(
 
 /// Returns the moments of units, where the clock shows `base` at moment 0: each DTS at the first moment after the DTS
 /// before at which the clock shows it, the first one at the first such moment of all, each PTS at the first from its DTS
-/// on.
+/// on, at most `limit` later.
 pub fn found_moments<A: Allocator>(
     alloc: A,
+    limit: u32,
     base: u64,
     units: &[FoundUnit<'_, A>],
 ) -> Result<Vec<UnitMoment, A>, StampError>
     requires { base < 2 ^ 33 }
     ensures moments { IfOk result (λ found. found.items
         ≡ map at.moment_of (spec.moved base None (map (λ u. u.unit) units.now))) }
-    ensures sound { OnOk result (spec.first_fault base None 0 (map (λ u. u.unit) units.now) ≡ None) }
-    ensures refused { IfErr result (IsStampError base (map (λ u. u.unit) units.now)) }
+    ensures sound { OnOk result (spec.first_fault limit base None 0 (map (λ u. u.unit) units.now) ≡ None) }
+    ensures refused { IfErr result (IsStampError limit base (map (λ u. u.unit) units.now)) }
 {
     let Ok(mut found) = Vec::with_capacity(alloc, units.len()) else {
         return Err(StampError::Memory);
     };
     let mut before = None;
     for (index, unit) in units.iter().enumerate() {
-        let next = match moment(base, before, unit.dts, unit.pts) {
+        let next = match moment(limit, base, before, unit.dts, unit.pts) {
             Ok(next) => next,
             Err(fault) => return Err(StampError::Unit { index, fault }),
         };

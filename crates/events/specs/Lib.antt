@@ -10,6 +10,7 @@ pub mod CheckCounts
 pub mod FaultTotals
 pub mod VerdictTexts
 pub mod FaultLines
+pub mod LateCauses
 pub mod VideoLines
 pub mod FileForms
 pub mod InputLines

@@ -3,12 +3,14 @@ use Rattle.std.specs.Prelude.{ℕ, Bool, List, [], ◌∷◌, codes}
 use Rattle.events.specs.declared.video_event.ElementaryLate.{ElementaryLate}
 use Rattle.events.specs.declared.video_event.ElementaryTotals.{ElementaryTotals}
 use Rattle.events.specs.declared.video_event.MultiplexingTotals.{MultiplexingTotals}
-use Rattle.events.specs.ReportLines.{line_of, number_field}
+use Rattle.events.specs.LateCauses.{word_of}
+use Rattle.events.specs.ReportLines.{line_of, number_field, word_field}
 
 abbrev pub elementary_late_line : Bool → ElementaryLate → List ℕ
 elementary_late_line json e = line_of json (codes "elementary_late")
     (number_field (codes "pid") e.pid ∷ number_field (codes "packet") e.packet ∷ number_field (codes "due") e.due
-    ∷ number_field (codes "left") e.left ∷ number_field (codes "by") e.by ∷ number_field (codes "bytes") e.bytes ∷ [])
+    ∷ number_field (codes "left") e.left ∷ number_field (codes "by") e.by ∷ number_field (codes "bytes") e.bytes
+    ∷ word_field (codes "cause") (word_of e.cause) ∷ [])
 
 abbrev pub multiplexing_line : Bool → MultiplexingTotals → List ℕ
 multiplexing_line json e = line_of json (codes "multiplexing")

@@ -59,4 +59,4 @@ pub use summary::{
 };
 pub use timed_event::TimedEvent;
 pub use verdict_text::write_verdict_text;
-pub use video_event::{ElementaryLate, ElementaryTotals, MultiplexingTotals};
+pub use video_event::{ElementaryLate, ElementaryTotals, LateCause, MultiplexingTotals};

@@ -2,7 +2,7 @@
 ghost use Rattle.std.specs.Prelude.{◌≡◌, ◌++◌, OnOk, string_bytes};
 ghost use Rattle.events.specs.VideoLines as spec;
 
-use crate::lines::{number, write_line};
+use crate::lines::{number, word, write_line};
 use crate::video_event::{ElementaryLate, ElementaryTotals, MultiplexingTotals};
 use std::alloc::AllocError;
 
@@ -21,6 +21,7 @@ pub(crate) fn write_elementary_late(
         number("left", e.left),
         number("by", e.by),
         number("bytes", u128::from(e.bytes)),
+        word("cause", e.cause.word()),
     ];
     write_line(text, json, "elementary_late", &fields)
 }

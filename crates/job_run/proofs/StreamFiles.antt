@@ -25,6 +25,8 @@ use Rattle.job_run.specs.InputLines.{are_lost, input_line, name_of, note_lines}
 use Rattle.job_run.specs.RefusalLine.{refusal_line}
 use Rattle.job_run.specs.SlipLines.{packets_line}
 use Rattle.stream_jobs.specs.Answers.{Answers, Refuses}
+use Rattle.stream_jobs.specs.AskedMarks.{as_asked}
+use Rattle.stream_jobs.specs.JobOptions.{JobOptionsView}
 use Rattle.stream_jobs.specs.JobInput.{JobInputView, job_input}
 use Rattle.stream_jobs.specs.Jobs.{AreStreams}
 use Rattle.stream_jobs.specs.JoinedInputs.{AreMadeOf, AreStreamsIn, JoinedInputsView, findings_in}
@@ -36,7 +38,7 @@ use Rattle.job_run.specs.JobArguments.{JobArgumentsView}
 use Rattle.job_run.specs.Outcomes.{ReportsWhy, Withholds, is_told_less, status_of, told_lines, unless_quiet}
 use Rattle.job_run.specs.SeveralInputs.{GivesIn, InputsLead, JoinedLead, NamedStream, all_findings, all_joined, are_streams_less, input_or_line, names_of, packets_input, stream_input, stream_inputs, streams_lines, under, with_first}
 use Rattle.job_run.specs.StreamFiles.{AreNamedInputs, AreTaken, EndsAt, FilesLead, HasRead, IsInput, IsInputIn, IsInputOf, IsLedTo, IsNamedInput, IsRefusalOf, IsTakenFrom, IsTakenOf, JoinedLeads, TakenLead, TakenView, read_line, stopped_by, taken_lines, told_under}
-use Rattle.job_run.specs.Streams.{IsOfStream, IsRead, PacketNotesView, ReadingView, findings_of, notes_of}
+use Rattle.job_run.specs.Streams.{IsOfStream, IsRead, PacketNotesView, ReadingView, findings_for, notes_of}
 
 -- 1. One stream
 
@@ -62,7 +64,7 @@ is_refusal_of a count findings (Refused refusal) o is told = record { refusal = 
 
 -- of packets of 188 bytes
 plain_input : (a : JobArgumentsView) (bytes : List ℕ) (x : Result JobInputView JobRefusal) → other_packets bytes ≡ None →
-    job_input a.options (length (carried bytes) / 188) (findings_of (carried bytes)) ≡ x → stream_input a.options bytes ≡ input_or_line x
+    job_input a.options (length (carried bytes) / 188) (findings_for a.options bytes) ≡ x → stream_input a.options bytes ≡ input_or_line x
 unfolding packets_input
 plain_input a bytes x none is = ap (λ (p : Option OtherPackets). packets_input a.options bytes p) none ∙ ap input_or_line is
 
@@ -75,7 +77,7 @@ unfolding input_or_line
 of_refusal refusal = refl
 
 of_bytes : (a : JobArgumentsView) (bytes : List ℕ) (r : Result TakenView Outcome) → other_packets bytes ≡ None →
-    IsInputOf a (notes_of bytes) (length (carried bytes) / 188) (findings_of (carried bytes)) r → IsInput a bytes r
+    IsInputOf a (notes_of bytes) (length (carried bytes) / 188) (findings_for a.options bytes) r → IsInput a bytes r
 of_bytes a bytes (Ok t) none is = record {
   input_is = plain_input a bytes (Ok t.input) none is.input_is ∙ of_value t.input;
   streams = is.streams;
@@ -88,13 +90,15 @@ of_bytes a bytes (Err o) none is = record {
   is = is.is;
 }
 
-pub carried_is_input : (a : JobArgumentsView) (bytes : List ℕ) (notes : PacketNotesView) (size : ℕ) (findings found : List FindingView) (r : Result TakenView Outcome) →
-    IsOfStream bytes notes found size → findings ≡ found → other_packets bytes ≡ None → IsInputOf a notes (size / 188) findings r → IsInput a bytes r
-carried_is_input a bytes notes size findings found r of same none is =
+pub carried_is_input : (a : JobArgumentsView) (bytes : List ℕ) (notes : PacketNotesView) (size : ℕ) (marked findings found : List FindingView) (w : JobOptionsView) (r : Result TakenView Outcome) →
+    IsOfStream bytes notes found size → findings ≡ found → other_packets bytes ≡ None → w ≡ a.options → marked ≡ as_asked w findings → IsInputOf a notes (size / 188) marked r → IsInput a bytes r
+carried_is_input a bytes notes size marked findings found w r of same none asked marks is =
+    let all : marked ≡ findings_for a.options bytes =
+    marks ∙ ap (λ (x : JobOptionsView). as_asked x findings) asked ∙ ap (λ (x : List FindingView). as_asked a.options x) (same ∙ of.found_is) in
     of_bytes a bytes r none
-    (subst (λ (x : PacketNotesView). IsInputOf a x (length (carried bytes) / 188) (findings_of (carried bytes)) r) of.notes_are
-    (subst (λ (x : List FindingView). IsInputOf a notes (length (carried bytes) / 188) x r) (same ∙ of.found_is)
-    (subst (λ (n : ℕ). IsInputOf a notes (n / 188) findings r) of.size_is is)))
+    (subst (λ (x : PacketNotesView). IsInputOf a x (length (carried bytes) / 188) (findings_for a.options bytes) r) of.notes_are
+    (subst (λ (x : List FindingView). IsInputOf a notes (length (carried bytes) / 188) x r) all
+    (subst (λ (n : ℕ). IsInputOf a notes (n / 188) marked r) of.size_is is)))
 
 -- of packets of another size
 pub other_is_input : (a : JobArgumentsView) (bytes : List ℕ) (packets : OtherPackets) (o : Outcome) → Some packets ≡ other_packets bytes → o ≡ reported (packets_line packets) → IsInput a bytes (Err o)
@@ -182,7 +186,7 @@ named_at [] s after = refl
 named_at (b ∷ bs) s after = named_at bs s after
 
 lines_are : (a : JobArgumentsView) (before : List NamedStream) (number : ℕ) (streams : List NamedStream) (taken : List TakenView) → length before ≡ number → AllZip (IsTakenFrom a) streams taken →
-    taken_lines (names_of (before ++ streams)) number taken ≡ streams_lines a.reporting number streams (map (λ t. t.input) taken)
+    taken_lines (names_of (before ++ streams)) number taken ≡ streams_lines a number streams (map (λ t. t.input) taken)
 unfolding taken_lines streams_lines
 lines_are a before number [] [] at all = refl
 lines_are a before number [] (t ∷ ts) at all = absurd all
@@ -192,12 +196,12 @@ lines_are a before number (s ∷ ss) (t ∷ ts) at all =
     let ms = map (λ t. t.input) ts in
     let here : name_of names number ≡ s.name = ap (λ (n : ℕ). name_of names n) (sym at) ∙ named_at before s ss in
     let size : length (before ++ s ∷ []) ≡ number + 1 = length-append before (s ∷ []) ∙ ap (λ (n : ℕ). n + 1) at in
-    let later : taken_lines names (number + 1) ts ≡ streams_lines a.reporting (number + 1) ss ms =
-    subst (λ (l : List NamedStream). taken_lines (names_of l) (number + 1) ts ≡ streams_lines a.reporting (number + 1) ss ms) (append_assoc before (s ∷ []) ss)
+    let later : taken_lines names (number + 1) ts ≡ streams_lines a (number + 1) ss ms =
+    subst (λ (l : List NamedStream). taken_lines (names_of l) (number + 1) ts ≡ streams_lines a (number + 1) ss ms) (append_assoc before (s ∷ []) ss)
     (lines_are a (before ++ s ∷ []) (number + 1) ss ts size all.1) in
     ap (λ (l : List ℕ). under number (name_of names number) t.lines ++ l) later
-    ∙ ap (λ (n : List ℕ). under number n t.lines ++ streams_lines a.reporting (number + 1) ss ms) here
-    ∙ ap (λ (l : List ℕ). under number s.name l ++ streams_lines a.reporting (number + 1) ss ms) all.0.lines_are
+    ∙ ap (λ (n : List ℕ). under number n t.lines ++ streams_lines a (number + 1) ss ms) here
+    ∙ ap (λ (l : List ℕ). under number s.name l ++ streams_lines a (number + 1) ss ms) all.0.lines_are
 
 -- the lines one after another
 taken_step : (names : List (List ℕ)) (taken : List TakenView) (k : ℕ) (t : TakenView) → k < length taken → t ≡ get_or taken k t →
@@ -222,7 +226,7 @@ taken_whole names taken k text whole over so =
     sym (append-nil text) ∙ ap (λ (x : List ℕ). text ++ x) (sym (ap (λ (ts : List TakenView). taken_lines names k ts) (drop_all k taken over) ∙ no_lines names k)) ∙ so
 
 less_is : (a : JobArgumentsView) (streams : List NamedStream) (taken : List TakenView) → AllZip (IsTakenFrom a) streams taken →
-    list_any (λ t. t.less) taken ≡ are_streams_less a.reporting streams (map (λ t. t.input) taken)
+    list_any (λ t. t.less) taken ≡ are_streams_less a streams (map (λ t. t.input) taken)
 unfolding are_streams_less
 less_is a [] [] all = refl
 less_is a [] (t ∷ ts) all = absurd all
@@ -245,17 +249,18 @@ one_longer : (before : List (List FindingView)) (f : List FindingView) → lengt
 one_longer before f = length-append before (f ∷ [])
 
 are_made : (a : JobArgumentsView) (before : List (List FindingView)) (number : ℕ) (streams : List NamedStream) (taken : List TakenView) → length before ≡ number → AllZip (IsTakenFrom a) streams taken →
-    AreMadeOf a.options.make_dts (before ++ all_findings streams) number (map (λ t. t.input) taken)
+    AreMadeOf a.options.make_dts (before ++ all_findings a.options streams) number (map (λ t. t.input) taken)
 unfolding AreMadeOf
 are_made a before number [] [] at all = tt
 are_made a before number [] (t ∷ ts) at all = absurd all
 are_made a before number (s ∷ ss) [] at all = absurd all
 are_made a before number (s ∷ ss) (t ∷ ts) at all =
-    let f = findings_of (carried s.bytes) in
-    let here : findings_in (before ++ f ∷ all_findings ss) number ≡ f = ap (λ (n : ℕ). findings_in (before ++ f ∷ all_findings ss) n) (sym at) ∙ found_at before f (all_findings ss) in
+    let f = findings_for a.options s.bytes in
+    let after = all_findings a.options ss in
+    let here : findings_in (before ++ f ∷ after) number ≡ f = ap (λ (n : ℕ). findings_in (before ++ f ∷ after) n) (sym at) ∙ found_at before f after in
     let later = are_made a (before ++ f ∷ []) (number + 1) ss ts (one_longer before f ∙ ap (λ (n : ℕ). n + 1) at) all.1 in (
       subst (λ (x : List FindingView). AreStreams a.options.make_dts x t.input) (sym here) all.0.streams,
-      subst (λ (l : List (List FindingView)). AreMadeOf a.options.make_dts l (number + 1) (map (λ t. t.input) ts)) (append_assoc before (f ∷ []) (all_findings ss)) later,
+      subst (λ (l : List (List FindingView)). AreMadeOf a.options.make_dts l (number + 1) (map (λ t. t.input) ts)) (append_assoc before (f ∷ []) after) later,
     )
 
 few_of : (a : JobArgumentsView) (streams : List NamedStream) (taken : List TakenView) → AllZip (IsTakenFrom a) streams taken → All (λ t. length t.input.streams ≤ 32) taken
@@ -295,7 +300,7 @@ joined_lead a files names taken o are (Ok j) is (inr refused) = inr refused
 joined_lead a files names taken o are (Ok j) is (inl given) =
     let ms = map (λ t. t.input) taken in
     inl (record {
-      gives = given.gives (all_findings are.streams) (are_in a.options.make_dts (all_findings are.streams) ms j (are_made a [] 0 are.streams taken refl are.are) is);
+      gives = given.gives (all_findings a.options are.streams) (are_in a.options.make_dts (all_findings a.options are.streams) ms j (are_made a [] 0 are.streams taken refl are.are) is);
       report_is = given.report_is ∙ ap (λ (l : List (List ℕ)). taken_lines l 0 taken ++ unless_quiet a.reporting.quiet (note_lines l j.notes)) (names_are files names are.streams are.read)
           ∙ ap (λ (l : List ℕ). l ++ unless_quiet a.reporting.quiet (note_lines (names_of are.streams) j.notes)) (lines_are a [] 0 are.streams taken refl are.are);
       status_is = given.status_is ∙ ap (λ (b : Bool). status_of a.subcommand o.output (b || are_lost j.notes)) (less_is a are.streams taken are.are);

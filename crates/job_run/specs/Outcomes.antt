@@ -41,7 +41,7 @@ use Rattle.job_run.specs.FieldLines.{field_lines, told_fields}
 use Rattle.es_feed.specs.Records.{records_of, written}
 use Rattle.job_run.specs.RefusalLine.{refusal_line}
 use Rattle.job_run.specs.SlipLines.{packets_line, slip_lines}
-use Rattle.job_run.specs.Streams.{PacketNotesView, findings_of, notes_of}
+use Rattle.job_run.specs.Streams.{PacketNotesView, findings_for, notes_of}
 use Rattle.job_run.specs.TableLines.{other_table_lines, told_tables}
 use Rattle.job_run.specs.WarningLines.{told_warnings, warning_lines}
 
@@ -170,7 +170,7 @@ FindingsLead arguments notes count findings o = InputLeads arguments notes findi
 -- for the bytes of a stream that are in no slip; a stream of packets of another size is refused
 abbrev pub BytesLead : JobArgumentsView → List ℕ → Option OtherPackets → Outcome → Type 0
 BytesLead arguments bytes (Some packets) o = o ≡ reported (packets_line packets)
-BytesLead arguments bytes None o = FindingsLead arguments (notes_of bytes) (length (carried bytes) / 188) (findings_of (carried bytes)) o
+BytesLead arguments bytes None o = FindingsLead arguments (notes_of bytes) (length (carried bytes) / 188) (findings_for arguments.options bytes) o
 
 abbrev pub Leads : JobArgumentsView → List ℕ → Outcome → Type 0
 Leads arguments bytes o = BytesLead arguments bytes (other_packets bytes) o

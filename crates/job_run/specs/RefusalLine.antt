@@ -12,7 +12,7 @@ use Rattle.stream_jobs.specs.declared.refusal.JobRefusal.TheVariants.{NoPackets,
 -- time stamps that can't be moments of a run, after the packet and the PID of their unit
 unfoldable pub stamps_text : StampFault → List ℕ
 stamps_text (DtsNotIncreasing by) = codes " DTS is " ++ decimal by ++ codes " before the one before"
-stamps_text (PtsOutOfRange by) = codes " PTS is " ++ decimal by ++ codes " after its DTS: not 0 to 90000"
+stamps_text (PtsOutOfRange after limit) = codes " PTS is " ++ decimal after ++ codes " after its DTS: not 0 to " ++ decimal limit
 stamps_text DtsTooFar = codes " DTS is too far"
 
 -- what would mend them, if it would

@@ -22,12 +22,11 @@ use Rattle.job_run.specs.InputLines.{are_lost, input_line, note_lines}
 use Rattle.job_run.specs.RefusalLine.{refusal_line}
 use Rattle.job_run.specs.SlipLines.{packets_line}
 use Rattle.es_feed.specs.Records.{written}
-use Rattle.job_run.specs.declared.job_arguments.Reporting.{Reporting}
 use Rattle.job_run.specs.declared.job_arguments.Subcommand.{Subcommand}
 use Rattle.job_run.specs.declared.job_arguments.Subcommand.TheVariants.{Whole, Describe, Units, Why}
 use Rattle.job_run.specs.JobArguments.{JobArgumentsView}
 use Rattle.job_run.specs.Outcomes.{GivesReasons, GivesUnits, Withholds, is_told_less, status_of, told_lines, unless_quiet}
-use Rattle.job_run.specs.Streams.{findings_of, notes_of}
+use Rattle.job_run.specs.Streams.{findings_for, notes_of}
 
 -- a stream: the name of its file, and its bytes
 pub record NamedStream : Type 0 where
@@ -37,9 +36,9 @@ pub record NamedStream : Type 0 where
 abbrev pub names_of : List NamedStream → List (List ℕ)
 names_of streams = map (λ s. s.name) streams
 
--- what is found in each
-abbrev pub all_findings : List NamedStream → List (List FindingView)
-all_findings streams = map (λ s. findings_of (carried s.bytes)) streams
+-- what is found in each, with the marks that are asked for
+abbrev pub all_findings : JobOptionsView → List NamedStream → List (List FindingView)
+all_findings options streams = map (λ s. findings_for options s.bytes) streams
 
 -- 1. What a job takes of each, by the options as they stand; or the line that says why it takes nothing
 
@@ -49,7 +48,7 @@ input_or_line (Err refusal) = Err (refusal_line refusal)
 
 unfoldable pub packets_input : JobOptionsView → List ℕ → Option OtherPackets → Result JobInputView (List ℕ)
 packets_input options bytes (Some packets) = Err (packets_line packets)
-packets_input options bytes None = input_or_line (job_input options (length (carried bytes) / 188) (findings_of (carried bytes)))
+packets_input options bytes None = input_or_line (job_input options (length (carried bytes) / 188) (findings_for options bytes))
 
 abbrev pub stream_input : JobOptionsView → List ℕ → Result JobInputView (List ℕ)
 stream_input options bytes = packets_input options bytes (other_packets bytes)
@@ -68,32 +67,32 @@ stream_inputs options number (s ∷ streams) = with_first number s.name (stream_
 -- 2. What is told
 
 -- of a stream of which a job takes this
-abbrev pub stream_lines : Reporting → JobInputView → List ℕ → List ℕ
-stream_lines r m bytes = told_lines r (notes_of bytes) (findings_of (carried bytes)) m
+abbrev pub stream_lines : JobArgumentsView → JobInputView → List ℕ → List ℕ
+stream_lines a m bytes = told_lines a.reporting (notes_of bytes) (findings_for a.options bytes) m
 
 -- under the number and the name of its input, if there is anything
 unfoldable pub under : ℕ → List ℕ → List ℕ → List ℕ
 under number name lines = if length lines == 0 then [] else input_line number name ++ lines
 
 -- of all, one after another, numbered from `number` on
-unfoldable pub streams_lines : Reporting → ℕ → List NamedStream → List JobInputView → List ℕ
-streams_lines r number (s ∷ streams) (m ∷ ms) = under number s.name (stream_lines r m s.bytes) ++ streams_lines r (number + 1) streams ms
-streams_lines r number streams ms = []
+unfoldable pub streams_lines : JobArgumentsView → ℕ → List NamedStream → List JobInputView → List ℕ
+streams_lines a number (s ∷ streams) (m ∷ ms) = under number s.name (stream_lines a m s.bytes) ++ streams_lines a (number + 1) streams ms
+streams_lines a number streams ms = []
 
 -- and then what becomes of those after the first
-abbrev pub all_lines : Reporting → List NamedStream → List JobInputView → JoinedInputsView → List ℕ
-all_lines r streams ms j = streams_lines r 0 streams ms ++ unless_quiet r.quiet (note_lines (names_of streams) j.notes)
+abbrev pub all_lines : JobArgumentsView → List NamedStream → List JobInputView → JoinedInputsView → List ℕ
+all_lines a streams ms j = streams_lines a 0 streams ms ++ unless_quiet a.reporting.quiet (note_lines (names_of streams) j.notes)
 
 -- something of a stream is lost
-abbrev pub is_stream_less : Reporting → JobInputView → List ℕ → Bool
-is_stream_less r m bytes = is_told_less r (notes_of bytes) (findings_of (carried bytes)) m
+abbrev pub is_stream_less : JobArgumentsView → JobInputView → List ℕ → Bool
+is_stream_less a m bytes = is_told_less a.reporting (notes_of bytes) (findings_for a.options bytes) m
 
-unfoldable pub are_streams_less : Reporting → List NamedStream → List JobInputView → Bool
-are_streams_less r (s ∷ streams) (m ∷ ms) = is_stream_less r m s.bytes || are_streams_less r streams ms
-are_streams_less r streams ms = false
+unfoldable pub are_streams_less : JobArgumentsView → List NamedStream → List JobInputView → Bool
+are_streams_less a (s ∷ streams) (m ∷ ms) = is_stream_less a m s.bytes || are_streams_less a streams ms
+are_streams_less a streams ms = false
 
-abbrev pub is_any_less : Reporting → List NamedStream → List JobInputView → JoinedInputsView → Bool
-is_any_less r streams ms j = are_streams_less r streams ms || are_lost j.notes
+abbrev pub is_any_less : JobArgumentsView → List NamedStream → List JobInputView → JoinedInputsView → Bool
+is_any_less a streams ms j = are_streams_less a streams ms || are_lost j.notes
 
 -- 3. What is written
 
@@ -120,9 +119,9 @@ GivesIn Why w inputs j output = GivesReasons w j.input output
 -- 4. The outcome
 
 pub record IsGivenIn (arguments : JobArgumentsView) (streams : List NamedStream) (ms : List JobInputView) (j : JoinedInputsView) (o : Outcome) : Type 0 where
-  pub gives : GivesIn arguments.subcommand arguments.options (all_findings streams) j o.output
-  pub report_is : o.report ≡ all_lines arguments.reporting streams ms j
-  pub status_is : o.status ≡ status_of arguments.subcommand o.output (is_any_less arguments.reporting streams ms j)
+  pub gives : GivesIn arguments.subcommand arguments.options (all_findings arguments.options streams) j o.output
+  pub report_is : o.report ≡ all_lines arguments streams ms j
+  pub status_is : o.status ≡ status_of arguments.subcommand o.output (is_any_less arguments streams ms j)
 
 -- nothing is written but the line of the refusal, and the status is 1
 pub record IsRefusedIn (arguments : JobArgumentsView) (j : JoinedInputsView) (o : Outcome) : Type 0 where

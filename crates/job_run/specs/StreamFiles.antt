@@ -8,7 +8,6 @@ use Rattle.devices.specs.Lines.{Reports}
 use Rattle.devices.specs.Outcomes.{Outcome, halt_line, reported}
 use Rattle.devices.specs.WholeInput.{IsWhole}
 use Rattle.devices.specs.declared.halt.Halt.TheVariants.{Memory}
-use Rattle.packet_sync.specs.Slips.{carried}
 use Rattle.stream_jobs.specs.JobInput.{JobInputView, job_input}
 use Rattle.stream_jobs.specs.Jobs.{AreStreams}
 use Rattle.stream_jobs.specs.JoinedInputs.{AreStreamsIn, JoinedInputsView}
@@ -18,7 +17,7 @@ use Rattle.job_run.specs.RefusalLine.{refusal_line}
 use Rattle.job_run.specs.JobArguments.{JobArgumentsView}
 use Rattle.job_run.specs.Outcomes.{IsWritten, is_told_less, status_of, told_lines, unless_quiet}
 use Rattle.job_run.specs.SeveralInputs.{GivesIn, IsRefusedIn, NamedStream, StreamsLead, all_joined, is_stream_less, stream_input, stream_inputs, stream_lines, under}
-use Rattle.job_run.specs.Streams.{PacketNotesView, findings_of}
+use Rattle.job_run.specs.Streams.{PacketNotesView, findings_for}
 
 -- 1. One stream
 
@@ -48,9 +47,9 @@ IsInputOf a notes count findings (Err o) = IsRefusalOf a count findings o
 -- that of the bytes of a stream
 pub record IsTaken (a : JobArgumentsView) (bytes : List ℕ) (t : TakenView) : Type 0 where
   pub input_is : stream_input a.options bytes ≡ Ok t.input
-  pub streams : AreStreams a.options.make_dts (findings_of (carried bytes)) t.input
-  pub lines_are : t.lines ≡ stream_lines a.reporting t.input bytes
-  pub less_is : t.less ≡ is_stream_less a.reporting t.input bytes
+  pub streams : AreStreams a.options.make_dts (findings_for a.options bytes) t.input
+  pub lines_are : t.lines ≡ stream_lines a t.input bytes
+  pub less_is : t.less ≡ is_stream_less a t.input bytes
 
 -- or the line that says why a job takes nothing of it
 pub record IsUntaken (a : JobArgumentsView) (bytes : List ℕ) (o : Outcome) : Type 0 where

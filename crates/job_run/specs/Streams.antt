@@ -11,12 +11,18 @@ use Rattle.packet_sync.specs.OtherPackets.{other_packets}
 use Rattle.packet_sync.specs.Slips.{carried, slips}
 use Rattle.packet_sync.specs.declared.left_out.FieldLeftOut.{FieldLeftOut}
 use Rattle.packet_sync.specs.declared.slip.Slip.{Slip}
+use Rattle.stream_jobs.specs.AskedMarks.{as_asked}
+use Rattle.stream_jobs.specs.JobOptions.{JobOptionsView}
 
 -- 1. A whole stream
 
 -- the findings in it
 abbrev pub findings_of : List ℕ → List FindingView
 findings_of bytes = (finished (pushed start bytes)).found
+
+-- those of which a job by these options is made: the findings in the bytes that are in no slip, with the marks that are asked for
+abbrev pub findings_for : JobOptionsView → List ℕ → List FindingView
+findings_for options bytes = as_asked options (findings_of (carried bytes))
 
 -- what is said of the packets of a stream: its slips, and the fields that are not written again
 pub record PacketNotesView : Type 0 where

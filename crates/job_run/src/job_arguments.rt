@@ -65,6 +65,10 @@ pub struct JobArguments<'a> {
     pub without: Vec<u16>,
     /// Buffers in place of the buffers by coding and level.
     pub buffers: Vec<PidBuffers>,
+    /// Whether the units at which a decoder may begin are marked.
+    pub mark_access: bool,
+    /// The PIDs whose units are aligned.
+    pub aligned: Vec<u16>,
 }
 
 // A contract sees its lists and its text.
@@ -93,6 +97,8 @@ impl<'a> Model for JobArguments<'a> {
         programs = a.programs.items;
         without = a.without.items;
         buffers = a.buffers.items;
+        mark_access = a.mark_access;
+        aligned = a.aligned.items;
       };
     } };
 }
@@ -123,6 +129,8 @@ impl JobArguments<'_> {
             programs: &self.programs,
             without: &self.without,
             buffers: &self.buffers,
+            mark_access: self.mark_access,
+            aligned: &self.aligned,
         }
     }
 }

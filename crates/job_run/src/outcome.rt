@@ -34,7 +34,8 @@ use slot_plan::Plan;
 use std::alloc::{AllocError, Global};
 use std::marker::Model;
 use stream_jobs::{
-    Job, JobError, JobInput, JobOptions, Warning, describe, job_input, make_job, units,
+    Job, JobError, JobInput, JobOptions, Warning, describe, job_input, make_job, mark_as_asked,
+    units,
 };
 
 /// The output, the lines for the second writer, and the status.
@@ -370,7 +371,8 @@ fn carried_outcome(
 {
     let ReadStream { notes, demux, size } = stream.end()?;
     let count = size as u64 / 188;
-    let outcome = findings_outcome(alloc, arguments, &notes, count, demux.into_findings())?;
+    let findings = mark_as_asked(alloc, &arguments.options(), demux.into_findings())?;
+    let outcome = findings_outcome(alloc, arguments, &notes, count, findings)?;
     Ok(outcome)
 }
 

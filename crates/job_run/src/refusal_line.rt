@@ -42,8 +42,8 @@ fn write_stamps(fault: StampFault, text: &mut String) -> Result<(), AllocError>
 {
     match fault {
         StampFault::DtsNotIncreasing(by) => write!(text, " DTS is {by} before the one before"),
-        StampFault::PtsOutOfRange(by) => {
-            write!(text, " PTS is {by} after its DTS: not 0 to 90000")
+        StampFault::PtsOutOfRange { after, limit } => {
+            write!(text, " PTS is {after} after its DTS: not 0 to {limit}")
         }
         StampFault::DtsTooFar => text.push_str(" DTS is too far"),
     }

@@ -20,7 +20,7 @@ use devices::{Halt, NamedFiles};
 use other_tables::{OtherTable, other_tables};
 use std::alloc::{AllocError, Global};
 use std::marker::Model;
-use stream_jobs::{JobInput, job_input};
+use stream_jobs::{JobInput, job_input, mark_as_asked};
 
 /// What a job takes of a stream, the lines that are told of it, and whether something of it is lost.
 #[derive(Drop)]
@@ -88,7 +88,8 @@ fn carried_input(
 {
     let ReadStream { notes, demux, size } = stream.end()?;
     let count = size as u64 / 188;
-    let taken = taken_or_refused(alloc, arguments, &notes, count, demux.into_findings())?;
+    let findings = mark_as_asked(alloc, &arguments.options(), demux.into_findings())?;
+    let taken = taken_or_refused(alloc, arguments, &notes, count, findings)?;
     Ok(taken)
 }
 

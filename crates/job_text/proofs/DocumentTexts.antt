@@ -1,7 +1,7 @@
 -- The texts of a heading, of events, of a network, of programs and of streams are one document.
 use Rattle.std.proofs.Common.{◌≡◌, ℕ, suc, pos, ◌≤◌, Bool, true, false, ◌==◌, Option, Some, None, option_map, List, [], ◌∷◌, ◌++◌, length, map, codes, refl, sym, ap, ap₂, subst, ◌∙◌, arith, append_assoc, append-nil}
 use Rattle.std.proofs.lemmas.Bool.Decides.{nat_tests}
-use Rattle.std.specs.Prelude.{All}
+use Rattle.std.specs.Prelude.{All, IfSome}
 use Rattle.std.specs.List.{flat_map}
 use Rattle.std.specs.Ordering.{nat_cmp, is_lt}
 use Rattle.std.specs.Cmp.Lexicographic.{slice_cmp}
@@ -18,8 +18,8 @@ use Rattle.toml.proofs.Lines.{IsLinesText-append, after}
 use Rattle.toml.proofs.ReadBack.{parse_document-printed}
 use Rattle.job_text.specs.DescriptionParts.{EventPartView, HeadingView, NetworkPartView, ProgramPartView, StreamPartView, TablePartView}
 use Rattle.job_text.specs.KeyLines.{with_numbers, with_hex, with_list, hex_line, list_line, key_line, number_lines}
-use Rattle.job_text.specs.Fields.{program_numbers, burst_numbers, frame_numbers, group_numbers, time_numbers, size_numbers, pace_numbers, place_numbers, leak_numbers, drain_numbers, last_numbers}
-use Rattle.job_text.specs.Documents.{document, elements_of, with_table, with_tables, event_table, network_table, program_table, stream_last, stream_place, stream_middle, stream_rest, stream_members, stream_table, table_table}
+use Rattle.job_text.specs.Fields.{program_numbers, burst_numbers, frame_numbers, group_numbers, time_numbers, size_numbers, pace_numbers, place_numbers, leak_numbers, limit_numbers, drain_numbers, last_numbers}
+use Rattle.job_text.specs.Documents.{document, elements_of, with_table, with_tables, event_table, network_table, program_table, stream_last, stream_drain, stream_place, stream_middle, stream_rest, stream_members, stream_table, table_table}
 use Rattle.job_text.specs.Texts.{event_text, heading_text, network_text, network_if_any, program_text, stream_text, table_text}
 use Rattle.job_text.specs.Laws.{Fits, FitsEvent, FitsHeading, FitsNetwork, FitsProgram, FitsAllowance, FitsMultiplexing, FitsFraming, FitsStream, FitsTable, TextsAreRead}
 use Rattle.job_text.proofs.FlatArrays.{list_none, list_some, numbers_are, numbers_sorted, digits_are, digits_sorted}
@@ -154,107 +154,138 @@ end_scalars : (s : StreamPartView) → FitsStream s → AreScalars (with_list (c
 unfolding key_text
 end_scalars s h = list_scalars s.shared_with (stream_last s) h.shared_with (refl, small s.size h.size, (refl, small s.stream_type h.stream_type, tt))
 
-place_scalars : (m : Option MultiplexingBuffer) (s : StreamPartView) → FitsMultiplexing m → FitsStream s → AreScalars (stream_place m s)
+limit_scalars : (m : Option MultiplexingBuffer) (s : StreamPartView) → FitsMultiplexing m → FitsStream s → AreScalars (stream_drain m s)
 unfolding key_text
-place_scalars None s f h = (refl, small s.pid h.pid, (refl, small s.program h.program, (refl, small s.rx h.rx, end_scalars s h)))
-place_scalars (Some m) s f h = (refl, small s.pid h.pid, (refl, small s.program h.program, (refl, small m.rbx f.0, (refl, small s.rx h.rx, end_scalars s h))))
+limit_scalars None s f h = (refl, small s.rx h.rx, end_scalars s h)
+limit_scalars (Some m) s f h = (refl, small m.rbx f.0, (refl, small s.rx h.rx, end_scalars s h))
 
-pace_scalars : (a : Allowance) (m : Option MultiplexingBuffer) (s : StreamPartView) → FitsAllowance a → FitsMultiplexing m → FitsStream s
-    → AreScalars (with_numbers (pace_numbers a) (stream_place m s))
+drain_scalars : (m : Option MultiplexingBuffer) (l : Option ℕ) (s : StreamPartView) → FitsMultiplexing m → IfSome l Fits → FitsStream s
+    → AreScalars (with_numbers (limit_numbers l) (stream_drain m s))
 unfolding key_text
-pace_scalars (Groups units packets) m s f g h = place_scalars m s g h
-pace_scalars (Pace burst pace) m s f g h = (refl, small pace f.1, place_scalars m s g h)
+drain_scalars m None s f k h = limit_scalars m s f h
+drain_scalars m (Some n) s f k h = (refl, small n k, limit_scalars m s f h)
 
-size_scalars : (a : Allowance) (m : Option MultiplexingBuffer) (s : StreamPartView) → FitsAllowance a → FitsMultiplexing m → FitsStream s
-    → AreScalars (with_numbers (size_numbers m) (with_numbers (pace_numbers a) (stream_place m s)))
+place_scalars : (m : Option MultiplexingBuffer) (l : Option ℕ) (s : StreamPartView) → FitsMultiplexing m → IfSome l Fits → FitsStream s → AreScalars (stream_place m l s)
 unfolding key_text
-size_scalars a None s f g h = pace_scalars a None s f g h
-size_scalars a (Some m) s f g h = (refl, small m.size g.1, pace_scalars a (Some m) s f g h)
+place_scalars m l s f k h = (refl, small s.pid h.pid, (refl, small s.program h.program, drain_scalars m l s f k h))
 
-middle_scalars : (a : Allowance) (m : Option MultiplexingBuffer) (s : StreamPartView) → FitsAllowance a → FitsMultiplexing m → FitsStream s
-    → AreScalars (stream_middle a m s)
+pace_scalars : (a : Allowance) (m : Option MultiplexingBuffer) (l : Option ℕ) (s : StreamPartView) → FitsAllowance a → FitsMultiplexing m → IfSome l Fits → FitsStream s
+    → AreScalars (with_numbers (pace_numbers a) (stream_place m l s))
 unfolding key_text
-middle_scalars (Groups units packets) m s f g h =
-    let rest = size_scalars (Groups units packets) m s f g h in
+pace_scalars (Groups units packets) m l s f g k h = place_scalars m l s g k h
+pace_scalars (Pace burst pace) m l s f g k h = (refl, small pace f.1, place_scalars m l s g k h)
+
+size_scalars : (a : Allowance) (m : Option MultiplexingBuffer) (l : Option ℕ) (s : StreamPartView) → FitsAllowance a → FitsMultiplexing m → IfSome l Fits → FitsStream s
+    → AreScalars (with_numbers (size_numbers m) (with_numbers (pace_numbers a) (stream_place m l s)))
+unfolding key_text
+size_scalars a None l s f g k h = pace_scalars a None l s f g k h
+size_scalars a (Some m) l s f g k h = (refl, small m.size g.1, pace_scalars a (Some m) l s f g k h)
+
+middle_scalars : (a : Allowance) (m : Option MultiplexingBuffer) (l : Option ℕ) (s : StreamPartView) → FitsAllowance a → FitsMultiplexing m → IfSome l Fits → FitsStream s
+    → AreScalars (stream_middle a m l s)
+unfolding key_text
+middle_scalars (Groups units packets) m l s f g k h =
+    let rest = size_scalars (Groups units packets) m l s f g k h in
     (refl, small units f.0, (refl, small packets f.1, (refl, small s.stream_id h.stream_id, (refl, small s.interval h.interval, (refl, small s.lead h.lead, (refl, small s.main h.main, rest))))))
-middle_scalars (Pace burst pace) m s f g h =
-    let rest = size_scalars (Pace burst pace) m s f g h in
+middle_scalars (Pace burst pace) m l s f g k h =
+    let rest = size_scalars (Pace burst pace) m l s f g k h in
     (refl, small s.stream_id h.stream_id, (refl, small s.interval h.interval, (refl, small s.lead h.lead, (refl, small s.main h.main, rest))))
 
-rest_scalars : (a : Allowance) (m : Option MultiplexingBuffer) (p : Option Framing) (s : StreamPartView) → FitsAllowance a → FitsMultiplexing m
-    → FitsFraming p → FitsStream s → AreScalars (stream_rest a m p s)
+rest_scalars : (a : Allowance) (m : Option MultiplexingBuffer) (p : Option Framing) (l : Option ℕ) (s : StreamPartView) → FitsAllowance a → FitsMultiplexing m
+    → FitsFraming p → IfSome l Fits → FitsStream s → AreScalars (stream_rest a m p l s)
 unfolding key_text
-rest_scalars a m None s f g e h = middle_scalars a m s f g h
-rest_scalars a m (Some p) s f g e h =
-    (refl, small p.frame e.frame, (refl, small p.frame_size e.frame_size, (refl, small p.frames e.frames, middle_scalars a m s f g h)))
+rest_scalars a m None l s f g e k h = middle_scalars a m l s f g k h
+rest_scalars a m (Some p) l s f g e k h =
+    (refl, small p.frame e.frame, (refl, small p.frame_size e.frame_size, (refl, small p.frames e.frames, middle_scalars a m l s f g k h)))
 
-scalars_with : (a : Allowance) (m : Option MultiplexingBuffer) (p : Option Framing) (s : StreamPartView) → FitsAllowance a → FitsMultiplexing m
-    → FitsFraming p → FitsStream s → AreScalars (stream_members a m p s)
+scalars_with : (a : Allowance) (m : Option MultiplexingBuffer) (p : Option Framing) (l : Option ℕ) (s : StreamPartView) → FitsAllowance a → FitsMultiplexing m
+    → FitsFraming p → IfSome l Fits → FitsStream s → AreScalars (stream_members a m p l s)
 unfolding key_text
-scalars_with (Groups units packets) m p s f g e h =
-    hex_scalars s.descriptors (stream_rest (Groups units packets) m p s) (rest_scalars (Groups units packets) m p s f g e h)
-scalars_with (Pace burst pace) m p s f g e h =
-    (refl, small burst f.0, hex_scalars s.descriptors (stream_rest (Pace burst pace) m p s) (rest_scalars (Pace burst pace) m p s f g e h))
+scalars_with (Groups units packets) m p l s f g e k h =
+    hex_scalars s.descriptors (stream_rest (Groups units packets) m p l s) (rest_scalars (Groups units packets) m p l s f g e k h)
+scalars_with (Pace burst pace) m p l s f g e k h =
+    (refl, small burst f.0, hex_scalars s.descriptors (stream_rest (Pace burst pace) m p l s) (rest_scalars (Pace burst pace) m p l s f g e k h))
 
-middle_sorted : (a : Allowance) (m : Option MultiplexingBuffer) (s : StreamPartView) → members_are_sorted (stream_middle a m s) ≡ true
-middle_sorted (Groups units packets) None s =
-    rw (list_after (codes "rx") s.shared_with (stream_last s) refl refl, list_sorted s.shared_with (stream_last s) refl refl)
-middle_sorted (Groups units packets) (Some m) s =
-    rw (list_after (codes "rx") s.shared_with (stream_last s) refl refl, list_sorted s.shared_with (stream_last s) refl refl)
-middle_sorted (Pace burst pace) None s =
-    rw (list_after (codes "rx") s.shared_with (stream_last s) refl refl, list_sorted s.shared_with (stream_last s) refl refl)
-middle_sorted (Pace burst pace) (Some m) s =
-    rw (list_after (codes "rx") s.shared_with (stream_last s) refl refl, list_sorted s.shared_with (stream_last s) refl refl)
+-- in order from its leak on, whatever is before it
+drain_sorted : (m : Option MultiplexingBuffer) (s : StreamPartView) → members_are_sorted (stream_drain m s) ≡ true
+drain_sorted None s = rw (list_after (codes "rx") s.shared_with (stream_last s) refl refl, list_sorted s.shared_with (stream_last s) refl refl)
+drain_sorted (Some m) s = rw (list_after (codes "rx") s.shared_with (stream_last s) refl refl, list_sorted s.shared_with (stream_last s) refl refl)
 
-rest_sorted : (a : Allowance) (m : Option MultiplexingBuffer) (p : Option Framing) (s : StreamPartView) → members_are_sorted (stream_rest a m p s) ≡ true
-rest_sorted a m None s = middle_sorted a m s
-rest_sorted (Groups units packets) m (Some p) s = middle_sorted (Groups units packets) m s
-rest_sorted (Pace burst pace) m (Some p) s = middle_sorted (Pace burst pace) m s
+place_sorted : (m : Option MultiplexingBuffer) (l : Option ℕ) (s : StreamPartView) → members_are_sorted (stream_place m l s) ≡ true
+place_sorted None None s = drain_sorted None s
+place_sorted None (Some n) s = drain_sorted None s
+place_sorted (Some m) None s = drain_sorted (Some m) s
+place_sorted (Some m) (Some n) s = drain_sorted (Some m) s
 
-after_descriptors : (a : Allowance) (m : Option MultiplexingBuffer) (p : Option Framing) (s : StreamPartView) → is_before (codes "descriptors") (stream_rest a m p s) ≡ true
-after_descriptors a m (Some p) s = refl
-after_descriptors (Groups units packets) m None s = refl
-after_descriptors (Pace burst pace) m None s = refl
+middle_sorted : (a : Allowance) (m : Option MultiplexingBuffer) (l : Option ℕ) (s : StreamPartView) → members_are_sorted (stream_middle a m l s) ≡ true
+middle_sorted (Groups units packets) None l s = place_sorted None l s
+middle_sorted (Groups units packets) (Some m) l s = place_sorted (Some m) l s
+middle_sorted (Pace burst pace) None l s = place_sorted None l s
+middle_sorted (Pace burst pace) (Some m) l s = place_sorted (Some m) l s
 
-after_burst : (a : Allowance) (m : Option MultiplexingBuffer) (p : Option Framing) (s : StreamPartView) → is_before (codes "burst_packets") (stream_rest a m p s) ≡ true
-after_burst a m (Some p) s = refl
-after_burst (Groups units packets) m None s = refl
-after_burst (Pace burst pace) m None s = refl
+rest_sorted : (a : Allowance) (m : Option MultiplexingBuffer) (p : Option Framing) (l : Option ℕ) (s : StreamPartView) → members_are_sorted (stream_rest a m p l s) ≡ true
+rest_sorted a m None l s = middle_sorted a m l s
+rest_sorted (Groups units packets) m (Some p) l s = middle_sorted (Groups units packets) m l s
+rest_sorted (Pace burst pace) m (Some p) l s = middle_sorted (Pace burst pace) m l s
 
-sorted_with : (a : Allowance) (m : Option MultiplexingBuffer) (p : Option Framing) (s : StreamPartView) → members_are_sorted (stream_members a m p s) ≡ true
-sorted_with (Groups units packets) m p s =
-    hex_sorted s.descriptors (stream_rest (Groups units packets) m p s) (after_descriptors (Groups units packets) m p s) (rest_sorted (Groups units packets) m p s)
-sorted_with (Pace burst pace) m p s =
+after_descriptors : (a : Allowance) (m : Option MultiplexingBuffer) (p : Option Framing) (l : Option ℕ) (s : StreamPartView) → is_before (codes "descriptors") (stream_rest a m p l s) ≡ true
+after_descriptors a m (Some p) l s = refl
+after_descriptors (Groups units packets) m None l s = refl
+after_descriptors (Pace burst pace) m None l s = refl
+
+after_burst : (a : Allowance) (m : Option MultiplexingBuffer) (p : Option Framing) (l : Option ℕ) (s : StreamPartView) → is_before (codes "burst_packets") (stream_rest a m p l s) ≡ true
+after_burst a m (Some p) l s = refl
+after_burst (Groups units packets) m None l s = refl
+after_burst (Pace burst pace) m None l s = refl
+
+sorted_with : (a : Allowance) (m : Option MultiplexingBuffer) (p : Option Framing) (l : Option ℕ) (s : StreamPartView) → members_are_sorted (stream_members a m p l s) ≡ true
+sorted_with (Groups units packets) m p l s =
+    hex_sorted s.descriptors (stream_rest (Groups units packets) m p l s) (after_descriptors (Groups units packets) m p l s) (rest_sorted (Groups units packets) m p l s)
+sorted_with (Pace burst pace) m p l s =
     rw (
-      hex_after (codes "burst_packets") s.descriptors (stream_rest (Pace burst pace) m p s) refl (after_burst (Pace burst pace) m p s),
-      hex_sorted s.descriptors (stream_rest (Pace burst pace) m p s) (after_descriptors (Pace burst pace) m p s) (rest_sorted (Pace burst pace) m p s),
+      hex_after (codes "burst_packets") s.descriptors (stream_rest (Pace burst pace) m p l s) refl (after_burst (Pace burst pace) m p l s),
+      hex_sorted s.descriptors (stream_rest (Pace burst pace) m p l s) (after_descriptors (Pace burst pace) m p l s) (rest_sorted (Pace burst pace) m p l s),
     )
 
--- the lines after its access units, and all
-middle_lines : (a : Allowance) (m : Option MultiplexingBuffer) (s : StreamPartView) → scalar_lines (stream_middle a m s)
+-- the lines from its leak on, those after its access units, and all
+drain_lines : (m : Option MultiplexingBuffer) (s : StreamPartView) → scalar_lines (stream_drain m s)
+    ≡ number_lines (leak_numbers m) ++ (number_lines (drain_numbers s) ++ (list_line (codes "shared_with") s.shared_with ++ number_lines (last_numbers s)))
+drain_lines None s = rw (list_lines s.shared_with (stream_last s)) (simp (append_assoc, append-nil))
+drain_lines (Some m) s = rw (list_lines s.shared_with (stream_last s)) (simp (append_assoc, append-nil))
+
+limit_lines : (m : Option MultiplexingBuffer) (l : Option ℕ) (s : StreamPartView) → scalar_lines (with_numbers (limit_numbers l) (stream_drain m s))
+    ≡ number_lines (limit_numbers l) ++ scalar_lines (stream_drain m s)
+limit_lines m None s = refl
+limit_lines m (Some n) s = simp (append_assoc, append-nil)
+
+middle_lines : (a : Allowance) (m : Option MultiplexingBuffer) (l : Option ℕ) (s : StreamPartView) → scalar_lines (stream_middle a m l s)
     ≡ number_lines (group_numbers a) ++ (number_lines (time_numbers s) ++ (number_lines (size_numbers m) ++ (number_lines (pace_numbers a)
-    ++ (number_lines (place_numbers s) ++ (number_lines (leak_numbers m) ++ (number_lines (drain_numbers s)
-    ++ (list_line (codes "shared_with") s.shared_with ++ number_lines (last_numbers s))))))))
-middle_lines (Groups units packets) None s = rw (list_lines s.shared_with (stream_last s)) (simp (append_assoc, append-nil))
-middle_lines (Groups units packets) (Some m) s = rw (list_lines s.shared_with (stream_last s)) (simp (append_assoc, append-nil))
-middle_lines (Pace burst pace) None s = rw (list_lines s.shared_with (stream_last s)) (simp (append_assoc, append-nil))
-middle_lines (Pace burst pace) (Some m) s = rw (list_lines s.shared_with (stream_last s)) (simp (append_assoc, append-nil))
+    ++ (number_lines (place_numbers s) ++ (number_lines (limit_numbers l) ++ scalar_lines (stream_drain m s))))))
+middle_lines (Groups units packets) None l s = rw (limit_lines None l s) (simp (append_assoc, append-nil))
+middle_lines (Groups units packets) (Some m) l s = rw (limit_lines (Some m) l s) (simp (append_assoc, append-nil))
+middle_lines (Pace burst pace) None l s = rw (limit_lines None l s) (simp (append_assoc, append-nil))
+middle_lines (Pace burst pace) (Some m) l s = rw (limit_lines (Some m) l s) (simp (append_assoc, append-nil))
 
-rest_lines : (a : Allowance) (m : Option MultiplexingBuffer) (p : Option Framing) (s : StreamPartView)
-    → scalar_lines (stream_rest a m p s) ≡ number_lines (frame_numbers p) ++ scalar_lines (stream_middle a m s)
-rest_lines a m None s = refl
-rest_lines a m (Some p) s = simp (append_assoc, append-nil)
+rest_lines : (a : Allowance) (m : Option MultiplexingBuffer) (p : Option Framing) (l : Option ℕ) (s : StreamPartView)
+    → scalar_lines (stream_rest a m p l s) ≡ number_lines (frame_numbers p) ++ scalar_lines (stream_middle a m l s)
+rest_lines a m None l s = refl
+rest_lines a m (Some p) l s = simp (append_assoc, append-nil)
 
-lines_with : (a : Allowance) (m : Option MultiplexingBuffer) (p : Option Framing) (s : StreamPartView) → scalar_lines (stream_members a m p s)
+lines_with : (a : Allowance) (m : Option MultiplexingBuffer) (p : Option Framing) (l : Option ℕ) (s : StreamPartView) → scalar_lines (stream_members a m p l s)
     ≡ number_lines (burst_numbers a) ++ (hex_line (codes "descriptors") s.descriptors
-    ++ (number_lines (frame_numbers p) ++ scalar_lines (stream_middle a m s)))
-lines_with (Groups units packets) m p s =
-    rw (hex_lines s.descriptors (stream_rest (Groups units packets) m p s), rest_lines (Groups units packets) m p s) refl
-lines_with (Pace burst pace) m p s =
-    rw (hex_lines s.descriptors (stream_rest (Pace burst pace) m p s), rest_lines (Pace burst pace) m p s) (simp (append_assoc, append-nil))
+    ++ (number_lines (frame_numbers p) ++ scalar_lines (stream_middle a m l s)))
+lines_with (Groups units packets) m p l s =
+    rw (hex_lines s.descriptors (stream_rest (Groups units packets) m p l s), rest_lines (Groups units packets) m p l s) refl
+lines_with (Pace burst pace) m p l s =
+    rw (hex_lines s.descriptors (stream_rest (Pace burst pace) m p l s), rest_lines (Pace burst pace) m p l s) (simp (append_assoc, append-nil))
 
 stream_lines : (s : StreamPartView) → element_lines (codes "stream") (stream_table s) ≡ stream_text s
-stream_lines s = rw (lines_with s.allowance s.multiplexing s.framing s, middle_lines s.allowance s.multiplexing s) (simp append_assoc)
+stream_lines s =
+    rw (
+      lines_with s.allowance s.multiplexing s.framing s.pts_limit s,
+      middle_lines s.allowance s.multiplexing s.pts_limit s,
+      drain_lines s.multiplexing s,
+    ) (simp append_assoc)
 
 -- a private table
 table_scalars : (t : TablePartView) → FitsTable t → AreScalars (table_table t)
@@ -284,8 +315,8 @@ stream_tables : (ss : List StreamPartView) → All FitsStream ss → AreTables (
 stream_tables [] h = tt
 stream_tables (s ∷ ss) h =
     let e = each FitsStream s ss h in
-    let scalars = scalars_with s.allowance s.multiplexing s.framing s e.0.allowance e.0.multiplexing e.0.framing e.0 in
-    (scalars, sorted_with s.allowance s.multiplexing s.framing s, stream_tables ss e.1)
+    let scalars = scalars_with s.allowance s.multiplexing s.framing s.pts_limit s e.0.allowance e.0.multiplexing e.0.framing e.0.pts_limit e.0 in
+    (scalars, sorted_with s.allowance s.multiplexing s.framing s.pts_limit s, stream_tables ss e.1)
 
 events_lines : (es : List EventPartView) → flat_map (element_lines (codes "event")) (map event_table es) ≡ flat_map event_text es
 events_lines [] = refl

@@ -51,6 +51,7 @@ pub record StreamPartView : Type 0 where
   pub interval : ℕ
   pub size : ℕ
   pub lead : ℕ
+  pub pts_limit : Option ℕ
   pub rx : ℕ
   pub main : ℕ
   pub descriptors : List ℕ
@@ -114,6 +115,7 @@ stream_view s = record {
   interval = s.interval;
   size = s.size;
   lead = s.lead;
+  pts_limit = s.pts_limit;
   rx = s.rx;
   main = s.main;
   descriptors = s.descriptors.now;

@@ -7,7 +7,7 @@ use Rattle.unit_timing.specs.declared.framing.Framing.{Framing}
 use Rattle.unit_timing.specs.declared.multiplexing_buffer.MultiplexingBuffer.{MultiplexingBuffer}
 use Rattle.job_text.specs.DescriptionParts.{EventPartView, HeadingView, NetworkPartView, ProgramPartView, StreamPartView, TablePartView}
 use Rattle.job_text.specs.KeyLines.{with_numbers, with_hex, with_list, digits_of}
-use Rattle.job_text.specs.Fields.{program_numbers, burst_numbers, frame_numbers, group_numbers, time_numbers, size_numbers, pace_numbers, place_numbers, leak_numbers, drain_numbers, last_numbers, table_numbers}
+use Rattle.job_text.specs.Fields.{program_numbers, burst_numbers, frame_numbers, group_numbers, time_numbers, size_numbers, pace_numbers, place_numbers, leak_numbers, limit_numbers, drain_numbers, last_numbers, table_numbers}
 
 -- tables as the elements of an array
 abbrev pub elements_of : List Members → Items
@@ -49,26 +49,28 @@ program_table p =
 abbrev pub stream_last : StreamPartView → Members
 stream_last s = with_numbers (last_numbers s) no_members
 
-abbrev pub stream_place : Option MultiplexingBuffer → StreamPartView → Members
-stream_place m s =
-    with_numbers (place_numbers s)
-    (with_numbers (leak_numbers m)
-    (with_numbers (drain_numbers s) (with_list (codes "shared_with") s.shared_with (stream_last s))))
+abbrev pub stream_drain : Option MultiplexingBuffer → StreamPartView → Members
+stream_drain m s =
+    with_numbers (leak_numbers m)
+    (with_numbers (drain_numbers s) (with_list (codes "shared_with") s.shared_with (stream_last s)))
 
-abbrev pub stream_middle : Allowance → Option MultiplexingBuffer → StreamPartView → Members
-stream_middle a m s =
+abbrev pub stream_place : Option MultiplexingBuffer → Option ℕ → StreamPartView → Members
+stream_place m l s = with_numbers (place_numbers s) (with_numbers (limit_numbers l) (stream_drain m s))
+
+abbrev pub stream_middle : Allowance → Option MultiplexingBuffer → Option ℕ → StreamPartView → Members
+stream_middle a m l s =
     with_numbers (group_numbers a)
     (with_numbers (time_numbers s)
-    (with_numbers (size_numbers m) (with_numbers (pace_numbers a) (stream_place m s))))
+    (with_numbers (size_numbers m) (with_numbers (pace_numbers a) (stream_place m l s))))
 
-abbrev pub stream_rest : Allowance → Option MultiplexingBuffer → Option Framing → StreamPartView → Members
-stream_rest a m f s = with_numbers (frame_numbers f) (stream_middle a m s)
+abbrev pub stream_rest : Allowance → Option MultiplexingBuffer → Option Framing → Option ℕ → StreamPartView → Members
+stream_rest a m f l s = with_numbers (frame_numbers f) (stream_middle a m l s)
 
-abbrev pub stream_members : Allowance → Option MultiplexingBuffer → Option Framing → StreamPartView → Members
-stream_members a m f s = with_numbers (burst_numbers a) (with_hex (codes "descriptors") s.descriptors (stream_rest a m f s))
+abbrev pub stream_members : Allowance → Option MultiplexingBuffer → Option Framing → Option ℕ → StreamPartView → Members
+stream_members a m f l s = with_numbers (burst_numbers a) (with_hex (codes "descriptors") s.descriptors (stream_rest a m f l s))
 
 abbrev pub stream_table : StreamPartView → Members
-stream_table s = stream_members s.allowance s.multiplexing s.framing s
+stream_table s = stream_members s.allowance s.multiplexing s.framing s.pts_limit s
 
 abbrev pub table_table : TablePartView → Members
 table_table t =

@@ -53,6 +53,11 @@ pace_numbers (Pace burst pace) = (codes "pace", pace) ∷ []
 abbrev pub place_numbers : StreamPartView → List (List ℕ × ℕ)
 place_numbers s = (codes "pid", s.pid) ∷ (codes "program", s.program) ∷ []
 
+-- the limit of PTS after its program
+abbrev pub limit_numbers : Option ℕ → List (List ℕ × ℕ)
+limit_numbers None = []
+limit_numbers (Some n) = (codes "pts_limit", n) ∷ []
+
 abbrev pub leak_numbers : Option MultiplexingBuffer → List (List ℕ × ℕ)
 leak_numbers None = []
 leak_numbers (Some m) = (codes "rbx", m.rbx) ∷ []

@@ -65,6 +65,7 @@ pub record FitsStream (s : StreamPartView) : Type 0 where
   pub stream_id : Fits s.stream_id
   pub interval : Fits s.interval
   pub lead : Fits s.lead
+  pub pts_limit : IfSome s.pts_limit Fits
   pub main : Fits s.main
   pub pid : Fits s.pid
   pub program : Fits s.program

@@ -3,7 +3,7 @@
 ghost use Rattle.std.specs.Prelude.{◌≡◌, ◌++◌, OnOk, codes, string_bytes};
 ghost use Rattle.job_text.specs.DescriptionParts.{stream_view};
 ghost use Rattle.job_text.specs.Fields.{burst_numbers, frame_numbers, group_numbers};
-ghost use Rattle.job_text.specs.Fields.{size_numbers, pace_numbers, leak_numbers};
+ghost use Rattle.job_text.specs.Fields.{size_numbers, pace_numbers, leak_numbers, limit_numbers};
 ghost use Rattle.job_text.specs.KeyLines.{hex_line, number_lines};
 ghost use Rattle.job_text.specs.Texts.{stream_text, stream_front, stream_times, stream_place, stream_end};
 
@@ -29,6 +29,8 @@ pub struct StreamPart<'a> {
     pub size: u32,
     /// How long before its decoding time a unit may be sent, in units of 90 kHz.
     pub lead: u32,
+    /// How long after its decoding a unit may be presented, in units of 90 kHz; a second if the description does not say it.
+    pub pts_limit: Option<u32>,
     /// The rate at which its transport buffer is emptied, in bits a second.
     pub rx: u32,
     /// Its main buffer, in bytes; its elementary stream buffer where it has a multiplexing buffer.
@@ -47,7 +49,7 @@ pub struct StreamPart<'a> {
 
 impl StreamPart<'_> {
     /// Appends an empty line, `[[stream]]`, and its lines: every key, but `descriptors` and `shared_with` only if there
-    /// are any, `rbx` and `mb` only if it has a multiplexing buffer, `frames`, `frame` and `frame_size` only if it has a
+    /// are any, `pts_limit` only if it has one, `rbx` and `mb` only if it has a multiplexing buffer, `frames`, `frame` and `frame_size` only if it has a
     /// framing, and the keys of its packets by groups or by pace.
     pub fn write_text<A: Allocator + Clone>(&self, text: &mut String<A>) -> Result<(), AllocError>
         ensures { OnOk result (string_bytes text.new ≡ string_bytes text.old ++ stream_text (stream_view self.now)) }
@@ -157,6 +159,17 @@ impl StreamPart<'_> {
         }
     }
 
+    // The line of its limit, if it has one.
+    fn write_limit<A: Allocator>(&self, text: &mut String<A>) -> Result<(), AllocError>
+        ensures { OnOk result (string_bytes text.new ≡ string_bytes text.old
+            ++ number_lines (limit_numbers self.now.pts_limit)) }
+    {
+        match self.pts_limit {
+            None => Ok(()),
+            Some(limit) => write_number(text, "pts_limit", limit as u64),
+        }
+    }
+
     // The lines from `id` to `main`, the size of its multiplexing buffer, and its pace.
     fn write_times<A: Allocator>(&self, text: &mut String<A>) -> Result<(), AllocError>
         ensures { OnOk result (string_bytes text.new ≡ string_bytes text.old ++ stream_times (stream_view self.now)) }
@@ -179,6 +192,7 @@ impl StreamPart<'_> {
         let place = [("pid", self.pid as u64), ("program", self.program as u64)];
         let drain = [("rx", self.rx as u64)];
         write_numbers(text, &place)?;
+        self.write_limit(text)?;
         self.write_leak(text)?;
         write_numbers(text, &drain)
     }

@@ -18,6 +18,7 @@ use Rattle.mux_core.specs.WholeJobs.{or_cause, unit_refused, cause_after, first_
 use Rattle.mux_core.specs.declared.multiplexing.MuxError.{MuxError}
 use Rattle.mux_core.proofs.KnownRanges.{parameters_known}
 use Rattle.mux_core.proofs.UnitCounts.{own_units, units_append}
+use Rattle.es_units.specs.ApartUnits.{apart_dts}
 use Rattle.es_units.specs.CarriedUnits.{RoleView, Ignored, Start, Continuation, Interruption, CarriedUnit, role_of, continuation, is_cut, is_split, with_more, whole_unit, units_from, units_in, unit_with, carried_units, wire_units}
 use Rattle.es_units.specs.MadeDts.{made_dts, pts_of, with_dts}
 use Rattle.es_units.specs.Laws.{UnitsAreKept, TakenOneByOne, Declares as LaneDeclares}
@@ -69,7 +70,7 @@ still_have_bytes (d ∷ ds) (u ∷ us) all =
 
 sources_have_bytes : (made : Bool) (pid : ℕ) (findings : List FindingView) → All HasBytes (map (λ w. w.unit) (source_of made pid findings))
 unfolding source_of
-sources_have_bytes false pid findings = have_bytes pid findings
+sources_have_bytes false pid findings = still_have_bytes (apart_dts 0 (carried_units pid findings)) (carried_units pid findings) (have_bytes pid findings)
 sources_have_bytes true pid findings = still_have_bytes (made_dts (pts_of (carried_units pid findings))) (carried_units pid findings) (have_bytes pid findings)
 
 -- 2. The units of a stream keep what it declares
@@ -78,9 +79,9 @@ found_kept : UnitsAreKept → (made : Bool) (line : Scheduled) (findings : List 
     AreFound made findings pid us → Declares line.description s us → Kept (owned_stream line k s) us
 found_kept law made line findings pid k s us found n =
     let m = found.moved in
-    let declares : LaneDeclares (owned_stream line k s) us = record { interval = n.interval; size = n.size; lead = n.lead; allowance = n.allowance } in
+    let declares : LaneDeclares (owned_stream line k s) us = record { interval = n.interval; size = n.size; pts = n.pts; lead = n.lead; allowance = n.allowance } in
     subst (λ (x : List AccessUnit). Kept (owned_stream line k s) x) (sym m.are)
-    (law (owned_stream line k s) found.base (map (λ w. w.unit) (source_of made pid findings)) m.sound (sources_have_bytes made pid findings)
+    (law (owned_stream line k s) m.limit found.base (map (λ w. w.unit) (source_of made pid findings)) m.sound (sources_have_bytes made pid findings)
     (subst (λ (x : List AccessUnit). LaneDeclares (owned_stream line k s) x) m.are declares))
 
 pub all_kept : UnitsAreKept → (made : Bool) (line : Scheduled) (findings : List FindingView) (units : List (ℕ × AccessUnit)) → IsInRange line.description →

@@ -16,7 +16,7 @@ use Rattle.stream_jobs.specs.declared.program_clock.ProgramClock.TheVariants.{Re
 use Rattle.stream_jobs.specs.JobPrograms.{JobProgramView, clock_in}
 use Rattle.stream_jobs.specs.JobTables.{JobTableView}
 use Rattle.stream_jobs.specs.JobStreams.{TimedStreamView, WireStreamView}
-use Rattle.stream_jobs.specs.Moments.{is_long_map, earliest, first_dts, first_dts_of, firsts, is_on_clock, stamps_of, base_for, base_of, wire_of, stamps_refusal, with_moments, moved_stream, moved_by, moved_streams}
+use Rattle.stream_jobs.specs.Moments.{is_long_map, earliest, first_dts, first_dts_of, firsts, is_on_clock, stamps_of, base_for, base_of, wire_of, stamps_refusal, with_moments, moved_stream, pts_limit_of, moved_by, moved_streams}
 use Rattle.stream_jobs.specs.ProgramClocks.{is_same_clock}
 use Rattle.stream_jobs.proofs.Steps.{granted, same_value, each_all}
 use Rattle.laws_job.specs.FirstUnits.{head_stamp, stamps_beside, BeginsNear}
@@ -147,7 +147,7 @@ unfolding moved_by moved_stream with_moments base_of
 stream_late findings due programs streams s t range here is =
     let stamps : List ℕ = stamps_beside programs streams s in
     let base = base_for due stamps in
-    let timed = granted (option_map (stamps_refusal findings s.pid) (first_fault base None 0 (wire_of s))) (Ok (with_moments base s)) t is in
+    let timed = granted (option_map (stamps_refusal findings s.pid) (first_fault (pts_limit_of s.stream_type s.descriptors) base None 0 (wire_of s))) (Ok (with_moments base s)) t is in
     let same : with_moments base s ≡ t = same_value (with_moments base s) t timed in
     let least = min_of programs (head_stamp stamps % 2 ^ 33 + 2 ^ 32) (2 ^ 32) here.0.0 s streams here.0.1 in
     let from = first_due due stamps (first_dts s.units) range.1 least here.1 (some_stamps programs here.0.0 s streams here.0.1) in

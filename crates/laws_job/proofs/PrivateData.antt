@@ -12,6 +12,7 @@ use Rattle.pes_packet.proofs.Sixteen.{marks_have_sixteen}
 use Rattle.description.specs.Described.{Described, DescribedStream}
 use Rattle.demux.specs.Laws.{has_pid}
 use Rattle.demux.specs.Views.{FindingView, WhatView, IsDuplicate, BreaksCounter, IsScrambled, IsTruncated, IsSection, IsBadSection, IsPes, IsBadPes, IsBadPacket, IsErrored}
+use Rattle.es_units.specs.ApartUnits.{apart_dts}
 use Rattle.es_units.specs.CarriedUnits.{CarriedUnit, RoleView, carried_units, Ignored, Start, Continuation, Interruption, continuation, first_packet, is_access_point, is_cut, is_split, is_unstamped, pes_role, role_of, role_of_what, unit_with, units_from, units_in, with_more}
 use Rattle.es_units.specs.MadeDts.{made_dts, pts_of, with_dts}
 use Rattle.es_units.specs.Stamps.{dts_at, moved, unit_at}
@@ -102,7 +103,7 @@ with_made (d ∷ ds) (u ∷ us) all =
 
 sources : (made : Bool) (pid : ℕ) (fs : List FindingView) → All Carried (source_of made pid fs)
 unfolding source_of
-sources false pid fs = all_units (is_split pid fs) pid fs
+sources false pid fs = with_made (apart_dts 0 (carried_units pid fs)) (carried_units pid fs) (all_units (is_split pid fs) pid fs)
 sources true pid fs = with_made (made_dts (pts_of (carried_units pid fs))) (carried_units pid fs) (all_units (is_split pid fs) pid fs)
 
 -- 3. At moments of a run

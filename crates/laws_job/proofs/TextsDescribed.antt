@@ -23,7 +23,8 @@ use Rattle.description.specs.declared.fault.DescError.TheVariants.{Refused}
 use Rattle.description.proofs.Counts.{AllAccept, all_accept, if_none, map_none, no_fault, or_none}
 use Rattle.job_text.specs.DescriptionParts.{EventPartView, HeadingView, NetworkPartView, ProgramPartView, StreamPartView, TablePartView}
 use Rattle.job_text.specs.Documents.{document, elements_of, event_table, network_table, program_table, stream_table, table_table, stream_members, stream_rest, with_table, with_tables}
-use Rattle.job_text.specs.KeyLines.{with_hex, with_list}
+use Rattle.job_text.specs.Fields.{limit_numbers}
+use Rattle.job_text.specs.KeyLines.{with_hex, with_list, with_numbers}
 use Rattle.job_text.specs.Laws.{TextsAreRead, FitsHeading, FitsEvent, FitsNetwork, FitsProgram, FitsStream, FitsTable}
 use Rattle.job_text.specs.Texts.{event_text, heading_text, network_if_any, program_text, stream_text, table_text}
 use Rattle.laws_job.specs.DeclaredBuffers.{HasBuffersOf}
@@ -42,81 +43,85 @@ past_list : (key k : List ℕ) (ns : List ℕ) (more : Members) → IsBehind key
 past_list key k [] more behind = refl
 past_list key k (n ∷ ns) more behind = behind _ more
 
+past_limit : (k : List ℕ) (l : Option ℕ) (more : Members) → IsBehind (codes "pts_limit") k → get_member k (with_numbers (limit_numbers l) more) ≡ get_member k more
+past_limit k None more behind = refl
+past_limit k (Some n) more behind = behind _ more
+
 -- its leak
 abbrev leak_value : Option MultiplexingBuffer → Option Data
 leak_value None = None
 leak_value (Some m) = Some (integer (pos m.rbx))
 
-rest_leak : (a : Allowance) (m : Option MultiplexingBuffer) (f : Option Framing) (s : StreamPartView) → get_member (codes "rbx") (stream_rest a m f s) ≡ leak_value m
-rest_leak (Groups u p) None None s = past_list (codes "shared_with") (codes "rbx") s.shared_with _ (λ d ms. refl)
-rest_leak (Groups u p) (Some m) None s = refl
-rest_leak (Groups u p) None (Some f) s = past_list (codes "shared_with") (codes "rbx") s.shared_with _ (λ d ms. refl)
-rest_leak (Groups u p) (Some m) (Some f) s = refl
-rest_leak (Pace u p) None None s = past_list (codes "shared_with") (codes "rbx") s.shared_with _ (λ d ms. refl)
-rest_leak (Pace u p) (Some m) None s = refl
-rest_leak (Pace u p) None (Some f) s = past_list (codes "shared_with") (codes "rbx") s.shared_with _ (λ d ms. refl)
-rest_leak (Pace u p) (Some m) (Some f) s = refl
+rest_leak : (a : Allowance) (m : Option MultiplexingBuffer) (f : Option Framing) (l : Option ℕ) (s : StreamPartView) → get_member (codes "rbx") (stream_rest a m f l s) ≡ leak_value m
+rest_leak (Groups u p) None None l s = past_limit (codes "rbx") l _ (λ d ms. refl) ∙ past_list (codes "shared_with") (codes "rbx") s.shared_with _ (λ d ms. refl)
+rest_leak (Groups u p) (Some m) None l s = past_limit (codes "rbx") l _ (λ d ms. refl)
+rest_leak (Groups u p) None (Some f) l s = past_limit (codes "rbx") l _ (λ d ms. refl) ∙ past_list (codes "shared_with") (codes "rbx") s.shared_with _ (λ d ms. refl)
+rest_leak (Groups u p) (Some m) (Some f) l s = past_limit (codes "rbx") l _ (λ d ms. refl)
+rest_leak (Pace u p) None None l s = past_limit (codes "rbx") l _ (λ d ms. refl) ∙ past_list (codes "shared_with") (codes "rbx") s.shared_with _ (λ d ms. refl)
+rest_leak (Pace u p) (Some m) None l s = past_limit (codes "rbx") l _ (λ d ms. refl)
+rest_leak (Pace u p) None (Some f) l s = past_limit (codes "rbx") l _ (λ d ms. refl) ∙ past_list (codes "shared_with") (codes "rbx") s.shared_with _ (λ d ms. refl)
+rest_leak (Pace u p) (Some m) (Some f) l s = past_limit (codes "rbx") l _ (λ d ms. refl)
 
-pub leak_at : (a : Allowance) (m : Option MultiplexingBuffer) (f : Option Framing) (s : StreamPartView) → get_member (codes "rbx") (stream_members a m f s) ≡ leak_value m
-leak_at (Groups u p) m f s = past_hex (codes "descriptors") (codes "rbx") s.descriptors _ (λ d ms. refl) ∙ rest_leak (Groups u p) m f s
-leak_at (Pace u p) m f s = past_hex (codes "descriptors") (codes "rbx") s.descriptors _ (λ d ms. refl) ∙ rest_leak (Pace u p) m f s
+pub leak_at : (a : Allowance) (m : Option MultiplexingBuffer) (f : Option Framing) (l : Option ℕ) (s : StreamPartView) → get_member (codes "rbx") (stream_members a m f l s) ≡ leak_value m
+leak_at (Groups u p) m f l s = past_hex (codes "descriptors") (codes "rbx") s.descriptors _ (λ d ms. refl) ∙ rest_leak (Groups u p) m f l s
+leak_at (Pace u p) m f l s = past_hex (codes "descriptors") (codes "rbx") s.descriptors _ (λ d ms. refl) ∙ rest_leak (Pace u p) m f l s
 
 -- the size of its multiplexing buffer
 abbrev size_value : Option MultiplexingBuffer → Option Data
 size_value None = None
 size_value (Some m) = Some (integer (pos m.size))
 
-rest_size : (a : Allowance) (m : Option MultiplexingBuffer) (f : Option Framing) (s : StreamPartView) → get_member (codes "mb") (stream_rest a m f s) ≡ size_value m
-rest_size (Groups u p) None None s = past_list (codes "shared_with") (codes "mb") s.shared_with _ (λ d ms. refl)
-rest_size (Groups u p) (Some m) None s = refl
-rest_size (Groups u p) None (Some f) s = past_list (codes "shared_with") (codes "mb") s.shared_with _ (λ d ms. refl)
-rest_size (Groups u p) (Some m) (Some f) s = refl
-rest_size (Pace u p) None None s = past_list (codes "shared_with") (codes "mb") s.shared_with _ (λ d ms. refl)
-rest_size (Pace u p) (Some m) None s = refl
-rest_size (Pace u p) None (Some f) s = past_list (codes "shared_with") (codes "mb") s.shared_with _ (λ d ms. refl)
-rest_size (Pace u p) (Some m) (Some f) s = refl
+rest_size : (a : Allowance) (m : Option MultiplexingBuffer) (f : Option Framing) (l : Option ℕ) (s : StreamPartView) → get_member (codes "mb") (stream_rest a m f l s) ≡ size_value m
+rest_size (Groups u p) None None l s = past_limit (codes "mb") l _ (λ d ms. refl) ∙ past_list (codes "shared_with") (codes "mb") s.shared_with _ (λ d ms. refl)
+rest_size (Groups u p) (Some m) None l s = refl
+rest_size (Groups u p) None (Some f) l s = past_limit (codes "mb") l _ (λ d ms. refl) ∙ past_list (codes "shared_with") (codes "mb") s.shared_with _ (λ d ms. refl)
+rest_size (Groups u p) (Some m) (Some f) l s = refl
+rest_size (Pace u p) None None l s = past_limit (codes "mb") l _ (λ d ms. refl) ∙ past_list (codes "shared_with") (codes "mb") s.shared_with _ (λ d ms. refl)
+rest_size (Pace u p) (Some m) None l s = refl
+rest_size (Pace u p) None (Some f) l s = past_limit (codes "mb") l _ (λ d ms. refl) ∙ past_list (codes "shared_with") (codes "mb") s.shared_with _ (λ d ms. refl)
+rest_size (Pace u p) (Some m) (Some f) l s = refl
 
-pub size_at : (a : Allowance) (m : Option MultiplexingBuffer) (f : Option Framing) (s : StreamPartView) → get_member (codes "mb") (stream_members a m f s) ≡ size_value m
-size_at (Groups u p) m f s = past_hex (codes "descriptors") (codes "mb") s.descriptors _ (λ d ms. refl) ∙ rest_size (Groups u p) m f s
-size_at (Pace u p) m f s = past_hex (codes "descriptors") (codes "mb") s.descriptors _ (λ d ms. refl) ∙ rest_size (Pace u p) m f s
+pub size_at : (a : Allowance) (m : Option MultiplexingBuffer) (f : Option Framing) (l : Option ℕ) (s : StreamPartView) → get_member (codes "mb") (stream_members a m f l s) ≡ size_value m
+size_at (Groups u p) m f l s = past_hex (codes "descriptors") (codes "mb") s.descriptors _ (λ d ms. refl) ∙ rest_size (Groups u p) m f l s
+size_at (Pace u p) m f l s = past_hex (codes "descriptors") (codes "mb") s.descriptors _ (λ d ms. refl) ∙ rest_size (Pace u p) m f l s
 
 -- its access units: a key of theirs
 abbrev frame_value : (Framing → ℕ) → Option Framing → Option Data
 frame_value of None = None
 frame_value of (Some f) = Some (integer (pos (of f)))
 
-rest_frames : (a : Allowance) (m : Option MultiplexingBuffer) (f : Option Framing) (s : StreamPartView) → get_member (codes "frames") (stream_rest a m f s) ≡ frame_value (λ f. f.frames) f
-rest_frames (Groups u p) None None s = past_list (codes "shared_with") (codes "frames") s.shared_with _ (λ d ms. refl)
-rest_frames (Groups u p) (Some m) None s = past_list (codes "shared_with") (codes "frames") s.shared_with _ (λ d ms. refl)
-rest_frames (Pace u p) None None s = past_list (codes "shared_with") (codes "frames") s.shared_with _ (λ d ms. refl)
-rest_frames (Pace u p) (Some m) None s = past_list (codes "shared_with") (codes "frames") s.shared_with _ (λ d ms. refl)
-rest_frames a m (Some f) s = refl
+rest_frames : (a : Allowance) (m : Option MultiplexingBuffer) (f : Option Framing) (l : Option ℕ) (s : StreamPartView) → get_member (codes "frames") (stream_rest a m f l s) ≡ frame_value (λ f. f.frames) f
+rest_frames (Groups u p) None None l s = past_limit (codes "frames") l _ (λ d ms. refl) ∙ past_list (codes "shared_with") (codes "frames") s.shared_with _ (λ d ms. refl)
+rest_frames (Groups u p) (Some m) None l s = past_limit (codes "frames") l _ (λ d ms. refl) ∙ past_list (codes "shared_with") (codes "frames") s.shared_with _ (λ d ms. refl)
+rest_frames (Pace u p) None None l s = past_limit (codes "frames") l _ (λ d ms. refl) ∙ past_list (codes "shared_with") (codes "frames") s.shared_with _ (λ d ms. refl)
+rest_frames (Pace u p) (Some m) None l s = past_limit (codes "frames") l _ (λ d ms. refl) ∙ past_list (codes "shared_with") (codes "frames") s.shared_with _ (λ d ms. refl)
+rest_frames a m (Some f) l s = refl
 
-pub frames_at : (a : Allowance) (m : Option MultiplexingBuffer) (f : Option Framing) (s : StreamPartView) → get_member (codes "frames") (stream_members a m f s) ≡ frame_value (λ f. f.frames) f
-frames_at (Groups u p) m f s = past_hex (codes "descriptors") (codes "frames") s.descriptors _ (λ d ms. refl) ∙ rest_frames (Groups u p) m f s
-frames_at (Pace u p) m f s = past_hex (codes "descriptors") (codes "frames") s.descriptors _ (λ d ms. refl) ∙ rest_frames (Pace u p) m f s
+pub frames_at : (a : Allowance) (m : Option MultiplexingBuffer) (f : Option Framing) (l : Option ℕ) (s : StreamPartView) → get_member (codes "frames") (stream_members a m f l s) ≡ frame_value (λ f. f.frames) f
+frames_at (Groups u p) m f l s = past_hex (codes "descriptors") (codes "frames") s.descriptors _ (λ d ms. refl) ∙ rest_frames (Groups u p) m f l s
+frames_at (Pace u p) m f l s = past_hex (codes "descriptors") (codes "frames") s.descriptors _ (λ d ms. refl) ∙ rest_frames (Pace u p) m f l s
 
-rest_frame : (a : Allowance) (m : Option MultiplexingBuffer) (f : Option Framing) (s : StreamPartView) → get_member (codes "frame") (stream_rest a m f s) ≡ frame_value (λ f. f.frame) f
-rest_frame (Groups u p) None None s = past_list (codes "shared_with") (codes "frame") s.shared_with _ (λ d ms. refl)
-rest_frame (Groups u p) (Some m) None s = past_list (codes "shared_with") (codes "frame") s.shared_with _ (λ d ms. refl)
-rest_frame (Pace u p) None None s = past_list (codes "shared_with") (codes "frame") s.shared_with _ (λ d ms. refl)
-rest_frame (Pace u p) (Some m) None s = past_list (codes "shared_with") (codes "frame") s.shared_with _ (λ d ms. refl)
-rest_frame a m (Some f) s = refl
+rest_frame : (a : Allowance) (m : Option MultiplexingBuffer) (f : Option Framing) (l : Option ℕ) (s : StreamPartView) → get_member (codes "frame") (stream_rest a m f l s) ≡ frame_value (λ f. f.frame) f
+rest_frame (Groups u p) None None l s = past_limit (codes "frame") l _ (λ d ms. refl) ∙ past_list (codes "shared_with") (codes "frame") s.shared_with _ (λ d ms. refl)
+rest_frame (Groups u p) (Some m) None l s = past_limit (codes "frame") l _ (λ d ms. refl) ∙ past_list (codes "shared_with") (codes "frame") s.shared_with _ (λ d ms. refl)
+rest_frame (Pace u p) None None l s = past_limit (codes "frame") l _ (λ d ms. refl) ∙ past_list (codes "shared_with") (codes "frame") s.shared_with _ (λ d ms. refl)
+rest_frame (Pace u p) (Some m) None l s = past_limit (codes "frame") l _ (λ d ms. refl) ∙ past_list (codes "shared_with") (codes "frame") s.shared_with _ (λ d ms. refl)
+rest_frame a m (Some f) l s = refl
 
-pub frame_at : (a : Allowance) (m : Option MultiplexingBuffer) (f : Option Framing) (s : StreamPartView) → get_member (codes "frame") (stream_members a m f s) ≡ frame_value (λ f. f.frame) f
-frame_at (Groups u p) m f s = past_hex (codes "descriptors") (codes "frame") s.descriptors _ (λ d ms. refl) ∙ rest_frame (Groups u p) m f s
-frame_at (Pace u p) m f s = past_hex (codes "descriptors") (codes "frame") s.descriptors _ (λ d ms. refl) ∙ rest_frame (Pace u p) m f s
+pub frame_at : (a : Allowance) (m : Option MultiplexingBuffer) (f : Option Framing) (l : Option ℕ) (s : StreamPartView) → get_member (codes "frame") (stream_members a m f l s) ≡ frame_value (λ f. f.frame) f
+frame_at (Groups u p) m f l s = past_hex (codes "descriptors") (codes "frame") s.descriptors _ (λ d ms. refl) ∙ rest_frame (Groups u p) m f l s
+frame_at (Pace u p) m f l s = past_hex (codes "descriptors") (codes "frame") s.descriptors _ (λ d ms. refl) ∙ rest_frame (Pace u p) m f l s
 
-rest_frame_size : (a : Allowance) (m : Option MultiplexingBuffer) (f : Option Framing) (s : StreamPartView) → get_member (codes "frame_size") (stream_rest a m f s) ≡ frame_value (λ f. f.frame_size) f
-rest_frame_size (Groups u p) None None s = past_list (codes "shared_with") (codes "frame_size") s.shared_with _ (λ d ms. refl)
-rest_frame_size (Groups u p) (Some m) None s = past_list (codes "shared_with") (codes "frame_size") s.shared_with _ (λ d ms. refl)
-rest_frame_size (Pace u p) None None s = past_list (codes "shared_with") (codes "frame_size") s.shared_with _ (λ d ms. refl)
-rest_frame_size (Pace u p) (Some m) None s = past_list (codes "shared_with") (codes "frame_size") s.shared_with _ (λ d ms. refl)
-rest_frame_size a m (Some f) s = refl
+rest_frame_size : (a : Allowance) (m : Option MultiplexingBuffer) (f : Option Framing) (l : Option ℕ) (s : StreamPartView) → get_member (codes "frame_size") (stream_rest a m f l s) ≡ frame_value (λ f. f.frame_size) f
+rest_frame_size (Groups u p) None None l s = past_limit (codes "frame_size") l _ (λ d ms. refl) ∙ past_list (codes "shared_with") (codes "frame_size") s.shared_with _ (λ d ms. refl)
+rest_frame_size (Groups u p) (Some m) None l s = past_limit (codes "frame_size") l _ (λ d ms. refl) ∙ past_list (codes "shared_with") (codes "frame_size") s.shared_with _ (λ d ms. refl)
+rest_frame_size (Pace u p) None None l s = past_limit (codes "frame_size") l _ (λ d ms. refl) ∙ past_list (codes "shared_with") (codes "frame_size") s.shared_with _ (λ d ms. refl)
+rest_frame_size (Pace u p) (Some m) None l s = past_limit (codes "frame_size") l _ (λ d ms. refl) ∙ past_list (codes "shared_with") (codes "frame_size") s.shared_with _ (λ d ms. refl)
+rest_frame_size a m (Some f) l s = refl
 
-pub frame_size_at : (a : Allowance) (m : Option MultiplexingBuffer) (f : Option Framing) (s : StreamPartView) → get_member (codes "frame_size") (stream_members a m f s) ≡ frame_value (λ f. f.frame_size) f
-frame_size_at (Groups u p) m f s = past_hex (codes "descriptors") (codes "frame_size") s.descriptors _ (λ d ms. refl) ∙ rest_frame_size (Groups u p) m f s
-frame_size_at (Pace u p) m f s = past_hex (codes "descriptors") (codes "frame_size") s.descriptors _ (λ d ms. refl) ∙ rest_frame_size (Pace u p) m f s
+pub frame_size_at : (a : Allowance) (m : Option MultiplexingBuffer) (f : Option Framing) (l : Option ℕ) (s : StreamPartView) → get_member (codes "frame_size") (stream_members a m f l s) ≡ frame_value (λ f. f.frame_size) f
+frame_size_at (Groups u p) m f l s = past_hex (codes "descriptors") (codes "frame_size") s.descriptors _ (λ d ms. refl) ∙ rest_frame_size (Groups u p) m f l s
+frame_size_at (Pace u p) m f l s = past_hex (codes "descriptors") (codes "frame_size") s.descriptors _ (λ d ms. refl) ∙ rest_frame_size (Pace u p) m f l s
 
 -- ---- what is read of them
 
@@ -247,10 +252,11 @@ stream_has p r s x y z =
     let a : Allowance = p.allowance in
     let m : Option MultiplexingBuffer = p.multiplexing in
     let f : Option Framing = p.framing in
+    let l : Option ℕ = p.pts_limit in
     let d : Data = table (stream_table p) in
     record {
-      multiplexing = buffer_same d m (leak_at a m f p) (size_at a m f p) r s;
-      framing = framing_same d f (frames_at a m f p) (frame_at a m f p) (frame_size_at a m f p) x y z;
+      multiplexing = buffer_same d m (leak_at a m f l p) (size_at a m f l p) r s;
+      framing = framing_same d f (frames_at a m f l p) (frame_at a m f l p) (frame_size_at a m f l p) x y z;
     }
 
 each_has : (ps : List StreamPartView) → KeysTaken (map table (map stream_table ps)) → (k : ℕ) (s : DescribedStream) (p : StreamPartView)

@@ -16,6 +16,7 @@ use Rattle.mux_core.specs.FramesKept.{FramesKept}
 use Rattle.mux_core.specs.WholeJobs.{plan_schedule, first_refused, capacity_for, job_history, output_of}
 use Rattle.laws_run.specs.GivenBack.{GivenBack}
 use Rattle.laws_run.specs.Clean.{IsClean}
+use Rattle.es_units.specs.ApartUnits.{apart_wire_units}
 use Rattle.es_units.specs.CarriedUnits.{wire_units}
 use Rattle.clock27.specs.Units.{slot_units_at_1bps}
 use Rattle.laws_pid.specs.Laws.{all_found}
@@ -47,8 +48,8 @@ pub record AreThose (wire us : List AccessUnit) : Type 0 where
 
 -- what holds of the bytes of a job
 pub record RoundTrip (schedule : Scheduled) (findings : List FindingView) (units : List (ℕ × AccessUnit)) (n : ℕ) (bytes : List ℕ) : Type 0 where
-  -- the units of each stream are those that were found on its PID
-  pub same : (k : ℕ) (s : DescribedStream) → slice_get schedule.description.streams k ≡ Some s → AreThose (wire_units s.pid findings) (units_of k units)
+  -- the units of each stream are those that were found on its PID, each of a data stream with a DTS of its own
+  pub same : (k : ℕ) (s : DescribedStream) → slice_get schedule.description.streams k ≡ Some s → AreThose (apart_wire_units s.pid findings) (units_of k units)
   -- the bytes give them back: each that was sent whole with its stamps on the wire and its bytes
   pub given_back : GivenBack schedule (λ k. units_of k units) n bytes
   -- nothing is wrong with them
@@ -82,9 +83,17 @@ abbrev pub AllDue : ℕ → ℕ → List AccessUnit → Type 0
 AllDue rate n us = All (λ u. u.dts * rate ≤ n * slot_units_at_1bps) us
 
 -- the units of a stream, whose clock shows `base` at moment 0 if that of the description shows base0, are found again: all of them and
--- no other
+-- no other. Where no two of a data stream in a row are due at one moment, they are just those of the wire (es_units `ApartStay`); else all
+-- but DTS is (`ApartKeep`), and of a row with one DTS each is decoded before the next (`RowRises`)
 abbrev pub FoundAgainLaw : Type 0
 FoundAgainLaw = (d : Described) (p : Planned) (findings : List FindingView) (units : List (ℕ × AccessUnit)) (n k : ℕ) (s : DescribedStream) (base : ℕ) →
+    IsInRange d → IsServing d p → AreUnits false findings d units → n ≤ 2 ^ 40 → slice_get d.streams k ≡ Some s →
+    AreMoved (apart_wire_units s.pid findings) base (units_of k units) → AllDue d.rate n (units_of k units) →
+    wire_units s.pid (all_found (output_of false (schedule_for d p) (job_history units n))) ≡ map (later_by (d.base0 + 2 ^ 33 - base)) (apart_wire_units s.pid findings)
+
+-- if no two units in a row that were found have one DTS, they are found again as they are
+abbrev pub OwnAgainLaw : Type 0
+OwnAgainLaw = (d : Described) (p : Planned) (findings : List FindingView) (units : List (ℕ × AccessUnit)) (n k : ℕ) (s : DescribedStream) (base : ℕ) →
     IsInRange d → IsServing d p → AreUnits false findings d units → n ≤ 2 ^ 40 → slice_get d.streams k ≡ Some s →
     AreMoved (wire_units s.pid findings) base (units_of k units) → AllDue d.rate n (units_of k units) →
     wire_units s.pid (all_found (output_of false (schedule_for d p) (job_history units n))) ≡ map (later_by (d.base0 + 2 ^ 33 - base)) (wire_units s.pid findings)
@@ -97,5 +106,5 @@ IsOnWire u = (u.dts < 2 ^ 33) × (u.pts < 2 ^ 33)
 abbrev pub SameAgainLaw : Type 0
 SameAgainLaw = (d : Described) (p : Planned) (findings : List FindingView) (units : List (ℕ × AccessUnit)) (n k : ℕ) (s : DescribedStream) →
     IsInRange d → IsServing d p → AreUnits false findings d units → n ≤ 2 ^ 40 → slice_get d.streams k ≡ Some s →
-    AreMoved (wire_units s.pid findings) d.base0 (units_of k units) → AllDue d.rate n (units_of k units) → All IsOnWire (wire_units s.pid findings) →
-    wire_units s.pid (all_found (output_of false (schedule_for d p) (job_history units n))) ≡ wire_units s.pid findings
+    AreMoved (apart_wire_units s.pid findings) d.base0 (units_of k units) → AllDue d.rate n (units_of k units) → All IsOnWire (apart_wire_units s.pid findings) →
+    wire_units s.pid (all_found (output_of false (schedule_for d p) (job_history units n))) ≡ apart_wire_units s.pid findings

@@ -1,5 +1,5 @@
 //! Jobs made of a stream, multiplexed and demultiplexed. Each function does nothing: its contract is the law.
-ghost use Rattle.laws_job.specs.Laws.{AcceptedLaw, CarriedLaw, FoundAgainLaw, SameAgainLaw};
+ghost use Rattle.laws_job.specs.Laws.{AcceptedLaw, CarriedLaw, FoundAgainLaw, OwnAgainLaw, SameAgainLaw};
 ghost use Rattle.laws_job.specs.DeclaredBuffers.{DeclaredLaw, BuffersKeptLaw};
 ghost use Rattle.laws_job.specs.FirstUnits.{FirstUnitsLaw, TablesFirstLaw};
 ghost use Rattle.laws_job.specs.JoinedLaws.{JoinedAcceptedLaw, JoinedAgainLaw};
@@ -40,10 +40,12 @@ pub fn declared()
 
 /// States that if the run ends no earlier than the DTS of each unit of a stream, what a demultiplexer finds in these
 /// bytes, with their end, are all these units and no other: on the stream's PID the units are those of the input, in
-/// order, their marks and bytes the same and their stamps later by one constant, modulo 2^33. If that constant is 0 they
-/// are the input's.
+/// order, their marks and bytes the same and their stamps later by one constant, modulo 2^33; where units of a data stream
+/// in a row have one DTS, all but the last are decoded a little earlier, and if no two have one DTS it is their own (`own`). If
+/// that constant is 0 they are the input's.
 pub fn found_again()
     ensures moved { FoundAgainLaw }
+    ensures own { OwnAgainLaw }
     ensures same { SameAgainLaw }
 {
     carried();

@@ -11,7 +11,7 @@ use Rattle.unit_timing.specs.declared.framing.Framing.{Framing}
 use Rattle.unit_timing.specs.declared.multiplexing_buffer.MultiplexingBuffer.{MultiplexingBuffer}
 use Rattle.demux.specs.Views.{FindingView}
 use Rattle.job_text.specs.DescriptionParts.{EventPartView, HeadingView, NetworkPartView, ProgramPartView, StreamPartView, TablePartView}
-use Rattle.job_text.specs.Fields.{burst_numbers, drain_numbers, first_numbers, frame_numbers, group_numbers, last_numbers, leak_numbers, pace_numbers, place_numbers, program_numbers, size_numbers, table_numbers, time_numbers}
+use Rattle.job_text.specs.Fields.{burst_numbers, drain_numbers, first_numbers, frame_numbers, group_numbers, last_numbers, leak_numbers, limit_numbers, pace_numbers, place_numbers, program_numbers, size_numbers, table_numbers, time_numbers}
 use Rattle.job_text.specs.KeyLines.{digits_of, header, hex_line, items_of, items_text, key_line, list_line, number_line, number_lines, table_header, value_text}
 use Rattle.job_text.specs.Texts.{event_back, event_names, event_numbers, event_text, heading_text, network_if_any, program_front, program_service, program_text, stream_end, stream_front, stream_place, stream_text, stream_times, table_back, table_front, table_text}
 use Rattle.stream_programs.specs.NetworkInformation.{stream_network}
@@ -192,6 +192,10 @@ leak_passes : (m : Option MultiplexingBuffer) → Passes (number_lines (leak_num
 leak_passes None = none_passes
 leak_passes (Some m) = numbers_pass (leak_numbers (Some m)) ((λ rest. refl), (refl, tt))
 
+limit_passes : (l : Option ℕ) → Passes (number_lines (limit_numbers l))
+limit_passes None = none_passes
+limit_passes (Some n) = numbers_pass (limit_numbers (Some n)) ((λ rest. refl), (refl, tt))
+
 stream_passes : (s : StreamPartView) → Passes (stream_text s)
 stream_passes s =
     let groups = both_pass (number_lines (frame_numbers s.framing)) (number_lines (group_numbers s.allowance)) (frames_pass s.framing) (groups_pass s.allowance) in
@@ -204,8 +208,9 @@ stream_passes s =
     let middle = both_pass (number_lines (time_numbers s)) _ times pace in
     let drain = numbers_pass (drain_numbers s) ((λ rest. refl), (refl, tt)) in
     let leak = both_pass (number_lines (leak_numbers s.multiplexing)) (number_lines (drain_numbers s)) (leak_passes s.multiplexing) drain in
+    let limit = both_pass (number_lines (limit_numbers s.pts_limit)) _ (limit_passes s.pts_limit) leak in
     let pids = numbers_pass (place_numbers s) ((λ rest. refl), (refl, ((λ rest. refl), (refl, tt)))) in
-    let place = both_pass (number_lines (place_numbers s)) _ pids leak in
+    let place = both_pass (number_lines (place_numbers s)) _ pids limit in
     let last = numbers_pass (last_numbers s) ((λ rest. refl), (refl, ((λ rest. refl), (refl, tt)))) in
     let shared = both_pass (list_line (codes "shared_with") s.shared_with) (number_lines (last_numbers s)) (list_passes s.shared_with) last in
     let back = both_pass (stream_place s) (stream_end s) place shared in

@@ -26,7 +26,7 @@ use Rattle.job_run.specs.JobArguments.{JobArgumentsView}
 use Rattle.job_run.specs.Outcomes.{IsWritten}
 use Rattle.job_run.specs.SeveralInputs.{GivesIn, GivesJobIn, InputsLead, JoinedLead, NamedStream, all_findings, all_joined, input_or_line, packets_input, stream_input, stream_inputs, with_first}
 use Rattle.job_run.specs.StreamFiles.{FilesLead, HasRead, IsStop, PerformsFiles, told_under}
-use Rattle.job_run.specs.Streams.{findings_of}
+use Rattle.job_run.specs.Streams.{findings_for}
 use Rattle.tsjob_cli.specs.Arguments.{arguments_in}
 use Rattle.tsjob_cli.specs.FileWords.{file_arguments, file_words, option_words, unless_streamed}
 use Rattle.tsmux_cli.specs.declared.request.MuxOptions.{MuxOptions}
@@ -88,12 +88,12 @@ its_input (Ok x) m e = let same : x ≡ m = cc in ap (λ (y : JobInputView). Ok 
 its_input (Err refusal) m e = absurd cc
 
 of_packets : (w : JobOptionsView) (bytes : List ℕ) (p : Option OtherPackets) (m : JobInputView) → packets_input w bytes p ≡ Ok m →
-    job_input w (length (carried bytes) / 188) (findings_of (carried bytes)) ≡ Ok m
+    job_input w (length (carried bytes) / 188) (findings_for w bytes) ≡ Ok m
 unfolding packets_input
 of_packets w bytes (Some packets) m e = absurd cc
-of_packets w bytes None m e = its_input (job_input w (length (carried bytes) / 188) (findings_of (carried bytes))) m e
+of_packets w bytes None m e = its_input (job_input w (length (carried bytes) / 188) (findings_for w bytes)) m e
 
-its_findings : (w : JobOptionsView) (bytes : List ℕ) (m : JobInputView) → stream_input w bytes ≡ Ok m → TakesInput w (findings_of (carried bytes)) m
+its_findings : (w : JobOptionsView) (bytes : List ℕ) (m : JobInputView) → stream_input w bytes ≡ Ok m → TakesInput w (findings_for w bytes) m
 its_findings w bytes m e = record { count = length (carried bytes) / 188; is = of_packets w bytes (other_packets bytes) m e }
 
 record FirstOf (r : Result JobInputView (List ℕ)) (rest : Result (List JobInputView) (List ℕ)) (ms : List JobInputView) : Type 0 where
@@ -113,12 +113,12 @@ first_of_all number name (Ok m) (Ok more) ms e =
     let same : m ∷ more ≡ ms = cc in record { first = m; first_is = refl; more = more; more_are = refl; are = same }
 
 takes_each : (w : JobOptionsView) (number : ℕ) (streams : List NamedStream) (ms : List JobInputView) → stream_inputs w number streams ≡ Ok ms →
-    AllZip (TakesInput w) (all_findings streams) ms
+    AllZip (TakesInput w) (all_findings w streams) ms
 unfolding stream_inputs
 takes_each w number [] ms e = let same : [] ≡ ms = cc in subst (AllZip (TakesInput w) []) same tt
 takes_each w number (s ∷ streams) ms e =
     let all = first_of_all number s.name (stream_input w s.bytes) (stream_inputs w (number + 1) streams) ms e in
-    subst (λ (l : List JobInputView). AllZip (TakesInput w) (all_findings (s ∷ streams)) l) all.are
+    subst (λ (l : List JobInputView). AllZip (TakesInput w) (all_findings w (s ∷ streams)) l) all.are
     (its_findings w s.bytes all.first all.first_is, takes_each w (number + 1) streams all.more all.more_are)
 
 -- 3. What `tsjob` wrote
@@ -126,7 +126,7 @@ takes_each w number (s ∷ streams) ms e =
 record JoinedOf (a : JobArgumentsView) (streams : List NamedStream) (ms : List JobInputView) (o : Outcome) : Type 0 where
   joined : JoinedInputsView
   is : all_joined ms ≡ Ok joined
-  gives : GivesIn a.subcommand a.options (all_findings streams) joined o.output
+  gives : GivesIn a.subcommand a.options (all_findings a.options streams) joined o.output
 
 joined_by : (a : JobArgumentsView) (streams : List NamedStream) (ms : List JobInputView) (o : Outcome) (r : Result JoinedInputsView JobRefusal) →
     all_joined ms ≡ r →
@@ -201,10 +201,10 @@ through : JoinedAcceptedLaw → JoinedAgainLaw →
     file_arguments words ≡ Some a → MuxesAll o output read_again packets faults status → (streams : List NamedStream) →
     AllZip (HasRead files) (file_words words) streams →
     (ms : List JobInputView) → stream_inputs a.options 0 streams ≡ Ok ms → (j : JoinedInputsView) → all_joined ms ≡ Ok j →
-    GivesJobIn a.options (all_findings streams) j output →
+    GivesJobIn a.options (all_findings a.options streams) j output →
     FilesGoThrough a o files (file_words words) output packets faults status
 through accepted again words a o files output read_again packets faults status asked m streams streams_are ms ms_are j j_is job =
-    let inputs = all_findings streams in
+    let inputs = all_findings a.options streams in
     let takes = takes_each a.options 0 streams ms ms_are in
     let ranges = text_in_range job.description job.text job.job.read in
     let read = joined_is_read words a inputs ms j output asked takes j_is job in
@@ -241,7 +241,7 @@ the_file_pipe accepted again words a o files output input job told job_status re
     let led = led_to a files names output job told job_status w.reads.performs w.ended w.empty w.output_is in
     let read = streams_by a files names led.outcome led.leads (subst (λ (xs : List ℕ). 0 < length xs) (sym led.same) w.some) in
     let all = read.of in
-    let gives = subst (λ (word : Subcommand). GivesIn word a.options (all_findings read.streams) all.of.joined output) w.whole
-    (subst (λ (xs : List ℕ). GivesIn a.subcommand a.options (all_findings read.streams) all.of.joined xs) led.same all.of.gives) in
+    let gives = subst (λ (word : Subcommand). GivesIn word a.options (all_findings a.options read.streams) all.of.joined output) w.whole
+    (subst (λ (xs : List ℕ). GivesIn a.subcommand a.options (all_findings a.options read.streams) all.of.joined xs) led.same all.of.gives) in
     through accepted again words a o files output read_again packets faults status w.asked m read.streams read.read all.inputs all.are all.of.joined
     all.of.is gives

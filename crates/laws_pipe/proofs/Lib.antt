@@ -11,4 +11,6 @@ pub mod JoinedInformation
 pub mod JoinedConstants
 pub mod JoinedUnitsAgain
 pub mod JoinedRuns
+pub mod RisingUnits
+pub mod MarkedUnits
 pub mod StreamedUnits

@@ -26,7 +26,7 @@ use Rattle.job_run.specs.declared.job_arguments.Subcommand.{Subcommand}
 use Rattle.job_run.specs.JobArguments.{JobArgumentsView}
 use Rattle.tsjob_cli.specs.Arguments.{arguments_in}
 use Rattle.job_run.specs.Outcomes.{BytesLead, Gives, GivesJob, InputLeads, Leads}
-use Rattle.job_run.specs.Streams.{findings_of, notes_of}
+use Rattle.job_run.specs.Streams.{findings_for, notes_of}
 use Rattle.tsmux_cli.specs.declared.request.MuxOptions.{MuxOptions}
 use Rattle.tsmux_cli.specs.MuxJobs.{MuxJobView, mux_job_of}
 use Rattle.tsmux_cli.specs.Multiplexing.{IsKept, KeepsPromises, KeptUnlessRefused, cause_of, multiplexed, packets_of, unless_refused, with_job}
@@ -81,14 +81,14 @@ taken (Some xs) (Some ys) bytes output b a e =
 -- the stream led to a job
 pub record GivenOf (a : JobArgumentsView) (bytes output : List ℕ) : Type 0 where
   pub input : JobInputView
-  pub input_is : job_input a.options (length (carried bytes) / 188) (findings_of (carried bytes)) ≡ Ok input
-  pub gives : Gives a.subcommand a.options (findings_of (carried bytes)) input output
+  pub input_is : job_input a.options (length (carried bytes) / 188) (findings_for a.options bytes) ≡ Ok input
+  pub gives : Gives a.subcommand a.options (findings_for a.options bytes) input output
 
 pub none_written : (o : Outcome) (line : List ℕ) → o ≡ reported line → 0 < length o.output → ⊥
 none_written o line e some = let none : length o.output ≡ 0 = ap (λ (x : Outcome). length x.output) e in absurd (omega (arith, none, some))
 
 given_by : (a : JobArgumentsView) (bytes : List ℕ) (o : Outcome) (r : Result JobInputView JobRefusal) →
-    job_input a.options (length (carried bytes) / 188) (findings_of (carried bytes)) ≡ r → InputLeads a (notes_of bytes) (findings_of (carried bytes)) r o → 0 < length o.output →
+    job_input a.options (length (carried bytes) / 188) (findings_for a.options bytes) ≡ r → InputLeads a (notes_of bytes) (findings_for a.options bytes) r o → 0 < length o.output →
     GivenOf a bytes o.output
 given_by a bytes o (Err refusal) e leads some = absurd (none_written o _ leads some)
 given_by a bytes o (Ok m) e (inl given) some = record { input = m; input_is = e; gives = given.gives }
@@ -96,7 +96,7 @@ given_by a bytes o (Ok m) e (inr refused) some = absurd (none_written o _ refuse
 
 given_of : (a : JobArgumentsView) (bytes : List ℕ) (o : Outcome) (p : Option OtherPackets) → BytesLead a bytes p o → 0 < length o.output → GivenOf a bytes o.output
 given_of a bytes o (Some packets) leads some = absurd (none_written o _ leads some)
-given_of a bytes o None leads some = given_by a bytes o (job_input a.options (length (carried bytes) / 188) (findings_of (carried bytes))) refl leads some
+given_of a bytes o None leads some = given_by a bytes o (job_input a.options (length (carried bytes) / 188) (findings_for a.options bytes)) refl leads some
 
 pub given_by_run : (a : JobArgumentsView) (bytes output : List ℕ) (stream job told : Device) (status : ℕ) → stream.before.bytes ≡ Some bytes → Ends (Leads a) stream job told status →
     job.before.bytes ≡ Some [] → job.after.bytes ≡ Some output → 0 < length output → GivenOf a bytes output
@@ -142,15 +142,15 @@ muxed o output j job packets faults status m read none =
 
 through : AcceptedLaw → FoundAgainLaw → (words : List Text) (a : JobArgumentsView) (o : MuxOptions) (bytes output : List ℕ) (job_again packets faults : Device) (status : ℕ) →
     arguments_in words ≡ Some a → MuxesAll o output job_again packets faults status → (input : JobInputView) →
-    job_input a.options (length (carried bytes) / 188) (findings_of (carried bytes)) ≡ Ok input → GivesJob a.options (findings_of (carried bytes)) input output →
+    job_input a.options (length (carried bytes) / 188) (findings_for a.options bytes) ≡ Ok input → GivesJob a.options (findings_for a.options bytes) input output →
     GoesThrough a o bytes output packets faults status
 through accepted again words a o bytes output job_again packets faults status asked m input input_is job =
     let ranges = text_in_range job.description job.text job.job.read in
-    let from = moved_of a.options (length (carried bytes) / 188) (findings_of (carried bytes)) input input_is in
-    let read = written_is_read words a from.id (findings_of (carried bytes)) input output asked from.information_is job in
-    let none = none_refused accepted a.options.make_dts (findings_of (carried bytes)) o (as_mux_job job) refl m.all_slots ranges job.found in
+    let from = moved_of a.options (length (carried bytes) / 188) (findings_for a.options bytes) input input_is in
+    let read = written_is_read words a from.id (findings_for a.options bytes) input output asked from.information_is job in
+    let none = none_refused accepted a.options.make_dts (findings_for a.options bytes) o (as_mux_job job) refl m.all_slots ranges job.found in
     let done = muxed o output (as_mux_job job) job_again packets faults status m read none in
-    let constants = constants_of a.options (length (carried bytes) / 188) (findings_of (carried bytes)) input input_is in
+    let constants = constants_of a.options (length (carried bytes) / 188) (findings_for a.options bytes) input input_is in
     record {
       input = input;
       input_is = input_is;
@@ -162,13 +162,13 @@ through accepted again words a o bytes output job_again packets faults status as
       kept = done.kept;
       time = λ clock. job.description.base0 + 2 ^ 33 - constants.constant clock;
       units = λ own bytes_out short k s is.
-          units_again again (findings_of (carried bytes)) o (as_mux_job job) (constants.constant (clock_in input.programs s.program)) refl m.all_slots bytes_out ranges job.serving
-          (subst (λ (made : Bool). AreUnits made (findings_of (carried bytes)) job.description job.units) own job.found) short k s is
-          (moved_units a.options (findings_of (carried bytes)) job.description input job.units constants own job.agree job.job.merged k s is);
+          units_again again (findings_for a.options bytes) o (as_mux_job job) (constants.constant (clock_in input.programs s.program)) refl m.all_slots bytes_out ranges job.serving
+          (subst (λ (made : Bool). AreUnits made (findings_for a.options bytes) job.description job.units) own job.found) short k s is
+          (moved_units a.options (findings_for a.options bytes) job.description input job.units constants own job.agree job.job.merged k s is);
     }
 
 pub the_pipe : AcceptedLaw → FoundAgainLaw → ThePipe
 the_pipe accepted again words a o bytes output stream job told job_status job_again packets faults status w m =
     let given = given_by_run a bytes output stream job told job_status w.known w.ends w.empty w.output_is w.some in
     through accepted again words a o bytes output job_again packets faults status w.asked m given.input given.input_is
-    (subst (λ (word : Subcommand). Gives word a.options (findings_of (carried bytes)) given.input output) w.whole given.gives)
+    (subst (λ (word : Subcommand). Gives word a.options (findings_for a.options bytes) given.input output) w.whole given.gives)

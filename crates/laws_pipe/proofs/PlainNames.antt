@@ -26,7 +26,7 @@ use Rattle.stream_jobs.specs.Information.{named_service, network_found, network_
 use Rattle.word_faults.specs.GivenOptions.{given_options}
 use Rattle.tsjob_cli.specs.FileMark.{has_mark}
 use Rattle.job_run.specs.JobArguments.{JobArgumentsView}
-use Rattle.tsjob_cli.specs.Arguments.{arguments_in, arguments_of, lead_in, limit_in, options_in, programs_in, rate_in, stream_of, values_of, without_in}
+use Rattle.tsjob_cli.specs.Arguments.{aligned_in, arguments_in, arguments_of, lead_in, limit_in, options_in, programs_in, rate_in, stream_of, values_of, without_in}
 use Rattle.tsjob_cli.specs.Options.{options}
 use Rattle.tsjob_cli.specs.Subcommands.{subcommand_of}
 use Rattle.option_lists.specs.JobValues.{base_of, declare_by_of, is_of_time, start_of}
@@ -177,7 +177,8 @@ rows_plain rows a e =
     let buffers = given_some (buffer_list (first_of (codes "buffers") rows)) _ a without.1.1 in
     let network = given_some (network_if_given (first_of (codes "network") rows)) _ a buffers.1.1 in
     let names = given_some (name_list (first_of (codes "name") rows)) _ a network.1.1 in
-    subst (λ (x : JobArgumentsView). PlainOptions x.options) (same_value _ a names.1.1)
+    let aligned = given_some (aligned_in rows) _ a names.1.1 in
+    subst (λ (x : JobArgumentsView). PlainOptions x.options) (same_value _ a aligned.1.1)
     (record {
       start = values_plain rows values.0 values.1.0;
       network = network_plain (first_of (codes "network") rows) network.0 network.1.0;

@@ -12,16 +12,23 @@ use Rattle.description.proofs.Pids.{pid_positions, pids_apart}
 use Rattle.description.specs.Tables.{table_count}
 use Rattle.demux.specs.Views.{FindingView}
 use Rattle.packet_sync.specs.Slips.{carried}
-use Rattle.es_units.specs.CarriedUnits.{wire_units}
+use Rattle.es_units.specs.ApartUnits.{apart_wire_units, has_same}
+use Rattle.es_units.specs.CarriedUnits.{CarriedUnit, carried_units, wire_units}
 use Rattle.es_units.specs.Stamps.{distance, dts_at, moved, unit_at}
-use Rattle.es_feed.specs.EachStream.{AreFirst, fed_stream, have_fault, one_by_one}
-use Rattle.es_feed.specs.Feeding.{FedStreamView}
+use Rattle.es_feed.specs.EachStream.{AreFirst, fed_stream, have_fault, one_by_one, RiseFrom, found_of_all}
+use Rattle.es_feed.specs.Feeding.{Fed, FedStreamView}
 use Rattle.es_feed.specs.StreamFeeding.{fed_of}
+use Rattle.es_units.proofs.ApartUnits.{apart_stay}
+use Rattle.es_feed.proofs.EachStream.{by_one_constant, each_rises}
 use Rattle.es_feed.proofs.MovedApart.{fed_apart}
 use Rattle.es_feed.specs.MovedApart.{AreWhole, after_time}
-use Rattle.es_feed.specs.FedLines.{fed_records}
+use Rattle.es_feed.specs.FedLines.{fed_records, have_refusal}
 use Rattle.es_feed.specs.Passing.{EndsStream}
+use Rattle.es_feed.proofs.WatchedStreams.{clear_is_fed, refusal_told}
 use Rattle.es_units.specs.Merging.{AreMerged}
+use Rattle.given_marks.specs.Marking.{MarkingView, all_marked}
+use Rattle.stream_jobs.specs.AskedMarks.{marking_of}
+use Rattle.stream_jobs.specs.JobOptions.{JobOptionsView}
 use Rattle.stream_jobs.specs.ClockConstants.{HasConstants, IsMovedBy, clock_of}
 use Rattle.stream_jobs.specs.FoundUnits.{AreMoved, source_of}
 use Rattle.stream_jobs.specs.JobInput.{JobInputView}
@@ -33,10 +40,12 @@ use Rattle.job_run.specs.declared.job_arguments.Subcommand.{Subcommand}
 use Rattle.job_run.specs.declared.job_arguments.Subcommand.TheVariants.{Units}
 use Rattle.job_run.specs.JobArguments.{JobArgumentsView}
 use Rattle.job_run.specs.Outcomes.{Gives, GivesUnits}
-use Rattle.job_run.specs.Streams.{findings_of}
-use Rattle.tsjob_cli.specs.StreamedUnits.{GoesBy, earliest, feed_of, maps_of, pids_of, streams_from}
-use Rattle.laws_pipe.specs.StreamedUnits.{AreAlike, AreLaterByOne, TheSameUnits}
+use Rattle.job_run.specs.Streams.{findings_for, findings_of}
+use Rattle.tsjob_cli.specs.StreamedUnits.{GoesBy, earliest, feed_of, maps_of, marking_by, pids_of, streams_from}
+use Rattle.laws_pipe.specs.StreamedUnits.{AreAlike, AreLaterByOne, AreMarkedAlike, TheSameUnits}
+use Rattle.laws_pipe.proofs.MarkedUnits.{alone_alike, wire_alike}
 use Rattle.laws_pipe.proofs.PipedRuns.{GivenOf, given_by_run, taken}
+use Rattle.laws_pipe.proofs.RisingUnits.{none_same}
 
 -- 1. The streams of a description, before their first unit
 
@@ -99,9 +108,9 @@ first_streams d ranges = record {
 -- 2. What was fed
 
 -- all that the bytes feed, and nothing of it is told
-record FedBy (d : Described) (bytes output : List ℕ) : Type 0 where
-  silent : have_fault (fed_of (feed_of d) bytes) ≡ false
-  output_is : output ≡ fed_records (fed_of (feed_of d) bytes)
+record FedBy (w : JobOptionsView) (d : Described) (bytes output : List ℕ) : Type 0 where
+  silent : have_fault (fed_of (feed_of w d) bytes) ≡ false
+  output_is : output ≡ fed_records (fed_of (feed_of w d) bytes)
 
 not_one : (status : ℕ) → status ≡ 0 → status ≡ 1 → ⊥
 not_one status good one = omega (arith, good, one)
@@ -123,23 +132,25 @@ all_came (Some xs) (Some ys) bytes came known reads ends =
     let split : xs ≡ came ++ ys = reads in
     sym (append-nil came) ∙ ap (λ (rest : List ℕ). came ++ rest) (sym none) ∙ sym split ∙ all
 
-ended : (d : Described) (bytes output : List ℕ) (stream records faults : Device) → stream.before.bytes ≡ Some bytes → records.before.bytes ≡ Some [] → records.after.bytes ≡ Some output →
-    EndsStream (feed_of d) (pids_of d) stream records faults 0 → FedBy d bytes output
-ended d bytes output stream records faults known empty output_is e =
+ended : (w : JobOptionsView) (d : Described) (bytes output : List ℕ) (stream records faults : Device) → stream.before.bytes ≡ Some bytes → records.before.bytes ≡ Some [] → records.after.bytes ≡ Some output →
+    EndsStream (feed_of w d) (pids_of d) stream records faults 0 → FedBy w d bytes output
+ended w d bytes output stream records faults known empty output_is e =
     let p = e.passes in
-    let came : p.came ≡ bytes = all_came stream.before.bytes stream.after.bytes bytes p.came known p.passes.read p.ends in
     let quiet : e.faulty ≡ false = not_faulty e.faulty 0 refl e.status_is in
+    let none : have_fault p.fed ≡ false = sym p.faulty_is ∙ quiet in
+    let came : p.came ≡ bytes = all_came stream.before.bytes stream.after.bytes bytes p.came known p.passes.read (at_end (IsAtEnd stream.after.bytes) p.fed none p.ends) in
+    let all : p.fed ≡ fed_of (feed_of d) p.came = clear_is_fed (feed_of d) p.came p.fed p.fed_is none in
     record {
-      silent = ap (λ (b : List ℕ). have_fault (fed_of (feed_of d) b)) (sym came) ∙ sym p.faulty_is ∙ quiet;
-      output_is = sym (taken records.before.bytes records.after.bytes (fed_records (fed_of (feed_of d) p.came)) output empty output_is p.passes.written)
-          ∙ ap (λ (b : List ℕ). fed_records (fed_of (feed_of d) b)) came;
+      silent = ap (λ (b : List ℕ). have_fault (fed_of (feed_of w d) b)) (sym came) ∙ sym p.faulty_is ∙ quiet;
+      output_is = sym (taken records.before.bytes records.after.bytes (fed_records (fed_of (feed_of w d) p.came)) output empty output_is p.passes.written)
+          ∙ ap (λ (b : List ℕ). fed_records (fed_of (feed_of w d) b)) came;
     }
 
-gone : (d : Described) (bytes output : List ℕ) (stream records faults : Device) → stream.before.bytes ≡ Some bytes → records.before.bytes ≡ Some [] → records.after.bytes ≡ Some output →
-    GoesBy d stream records faults 0 → FedBy d bytes output
-gone d bytes output stream records faults known empty output_is (inl (inl e)) = ended d bytes output stream records faults known empty output_is e
-gone d bytes output stream records faults known empty output_is (inl (inr stops)) = absurd (not_three 0 refl stops.status_is)
-gone d bytes output stream records faults known empty output_is (inr lacks) = absurd (not_three 0 refl lacks.status_is)
+gone : (w : JobOptionsView) (d : Described) (bytes output : List ℕ) (stream records faults : Device) → stream.before.bytes ≡ Some bytes → records.before.bytes ≡ Some [] → records.after.bytes ≡ Some output →
+    GoesBy w d stream records faults 0 → FedBy w d bytes output
+gone w d bytes output stream records faults known empty output_is (inl (inl e)) = ended w d bytes output stream records faults known empty output_is e
+gone w d bytes output stream records faults known empty output_is (inl (inr stops)) = absurd (not_three 0 refl stops.status_is)
+gone w d bytes output stream records faults known empty output_is (inr lacks) = absurd (not_three 0 refl lacks.status_is)
 
 -- 3. One stream, by both
 
@@ -155,8 +166,8 @@ some_at [] k below = absurd (let no : ⊥ = omega (arith, below) in no)
 some_at (x ∷ xs) zero below = (x, refl)
 some_at (x ∷ xs) (suc k) below = let less : k < length xs = omega (arith, below) in some_at xs k less
 
-both_at : (a : JobArgumentsView) (d : Described) (findings : List FindingView) (input : JobInputView) (k : ℕ) → AreAlike a d findings input → k < length d.streams → Both d input k
-both_at a d findings input k alike below =
+both_at : (a : JobArgumentsView) (w : JobOptionsView) (d : Described) (bytes : List ℕ) (input : JobInputView) (k : ℕ) → AreAlike a w d bytes input → k < length d.streams → Both d input k
+both_at a w d bytes input k alike below =
     let s = some_at d.streams k below in
     let count : length d.streams ≡ length input.streams =
     sym (length-map d.streams (λ s. s.pid)) ∙ ap (length {A = ℕ}) alike.pids ∙ length-map input.streams (λ t. t.pid) in
@@ -176,17 +187,53 @@ at_place P xs i x all at =
 
 -- 4. All are moved by the constant of their clock
 
-with_own : (findings : List FindingView) (base : ℕ) (t : TimedStreamView) → IsMovedBy false findings base t → AreMoved (wire_units t.pid findings) base t.units
-unfolding source_of
-with_own findings base t moved = moved
+-- the units of a stream are due one after another, so none has another DTS than its own
+stream_stays : (d : Described) (bytes : List ℕ) (k : ℕ) (s : FedStreamView) → IsInRange d → have_fault (fed_of (feed_of d) bytes) ≡ false →
+    slice_get (streams_from 0 d.streams) k ≡ Some s → one_by_one s.units.pid (found_of_all bytes) ≡ true →
+    apart_wire_units s.units.pid (found_of_all bytes) ≡ wire_units s.units.pid (found_of_all bytes)
+stream_stays d bytes k s ranges silent at alone =
+    let streams = streams_from 0 d.streams in
+    let us = carried_units s.units.pid (found_of_all bytes) in
+    let m = by_one_constant earliest (maps_of d) streams bytes (omega arith) (first_streams d ranges) silent in
+    let rise = each_rises earliest k (maps_of d) streams bytes (first_streams d ranges) (slice_get_within streams k s at) in
+    let none : has_same us ≡ false = none_same m.base us (subst (λ (l : List AccessUnit). RiseFrom None l) (m.moved_by k s at alone) rise) in
+    ap (λ (l : List CarriedUnit). map (λ (u : CarriedUnit). u.unit) l) (apart_stay us none)
 
-by_one : (a : JobArgumentsView) (d : Described) (findings : List FindingView) (input : JobInputView) (k : ℕ) (t : TimedStreamView) (constants : HasConstants a.options findings input)
-    (alike : AreAlike a d findings input) → slice_get input.streams k ≡ Some t → AreMoved (wire_units t.pid findings) (constants.constant alike.clock) t.units
-by_one a d findings input k t constants alike is =
+-- those of the streams of a job
+Stay : List FindingView → JobInputView → Type 0
+Stay findings input = (k : ℕ) (t : TimedStreamView) → slice_get input.streams k ≡ Some t → apart_wire_units t.pid findings ≡ wire_units t.pid findings
+
+stay : (a : JobArgumentsView) (d : Described) (bytes : List ℕ) (input : JobInputView) → IsInRange d → have_fault (fed_of (feed_of d) bytes) ≡ false →
+    AreAlike a d (findings_of (carried bytes)) input → Stay (findings_of (carried bytes)) input
+unfolding Stay
+stay a d bytes input ranges silent alike k t is =
+    let findings = findings_of (carried bytes) in
+    let count : length d.streams ≡ length input.streams =
+    sym (length-map d.streams (λ s. s.pid)) ∙ ap (length {A = ℕ}) alike.pids ∙ length-map input.streams (λ t. t.pid) in
+    let below : k < length d.streams = let within = slice_get_within input.streams k t is in omega (arith, within, count) in
+    let b = both_at a d findings input k alike below in
+    let own : b.timed ≡ t = same_Some b.timed t (sym b.timed_is ∙ is) in
+    let pid : b.described.pid ≡ t.pid = b.pid ∙ ap (λ (x : TimedStreamView). x.pid) own in
+    let number : 0 + k ≡ k = omega arith in
+    let place : slice_get (streams_from 0 d.streams) k ≡ Some (fed_stream k b.described.pid) =
+    fed_at 0 k d.streams b.described b.described_is ∙ ap (λ (n : ℕ). Some (fed_stream n b.described.pid)) number in
+    let alone : one_by_one t.pid findings ≡ true = at_place (λ t. one_by_one t.pid findings ≡ true) input.streams k t alike.alone is in
+    subst (λ (p : ℕ). apart_wire_units p findings ≡ wire_units p findings) pid
+    (stream_stays d bytes k (fed_stream k b.described.pid) ranges silent place (subst (λ (p : ℕ). one_by_one p findings ≡ true) (sym pid) alone))
+
+with_own : (findings : List FindingView) (base : ℕ) (t : TimedStreamView) → apart_wire_units t.pid findings ≡ wire_units t.pid findings →
+    IsMovedBy false findings base t → AreMoved (wire_units t.pid findings) base t.units
+unfolding source_of
+with_own findings base t stays moved = subst (λ (wire : List AccessUnit). AreMoved wire base t.units) stays moved
+
+by_one : (a : JobArgumentsView) (w : JobOptionsView) (d : Described) (bytes : List ℕ) (input : JobInputView) (k : ℕ) (t : TimedStreamView) (constants : HasConstants a.options (findings_for a.options bytes) input)
+    (alike : AreAlike a w d bytes input) → slice_get input.streams k ≡ Some t → AreMoved (wire_units t.pid (findings_for a.options bytes)) (constants.constant alike.clock) t.units
+by_one a w d bytes input k t constants alike is =
+    let findings = findings_for a.options bytes in
     let one = at_place (λ t. IsMovedBy a.options.make_dts findings (constants.constant (clock_of input.programs t)) t) input.streams k t constants.streams is in
     let clock = at_place (λ t. clock_of input.programs t ≡ alike.clock) input.streams k t alike.one_clock is in
     let same = subst (λ (c : ProgramClock). IsMovedBy a.options.make_dts findings (constants.constant c) t) clock one in
-    with_own findings (constants.constant alike.clock) t
+    with_own findings (constants.constant alike.clock) t (stays k t is)
     (subst (λ (made : Bool). IsMovedBy made findings (constants.constant alike.clock) t) alike.own same)
 
 -- 5. So those that are fed are whole, and begin near one another
@@ -197,11 +244,11 @@ record JobStream (input : JobInputView) (k pid : ℕ) : Type 0 where
   at : slice_get input.streams k ≡ Some stream
   pid_is : stream.pid ≡ pid
 
-job_stream : (a : JobArgumentsView) (d : Described) (findings : List FindingView) (input : JobInputView) (k : ℕ) (s : FedStreamView) → AreAlike a d findings input →
+job_stream : (a : JobArgumentsView) (w : JobOptionsView) (d : Described) (bytes : List ℕ) (input : JobInputView) (k : ℕ) (s : FedStreamView) → AreAlike a w d bytes input →
     slice_get (streams_from 0 d.streams) k ≡ Some s → JobStream input k s.units.pid
-job_stream a d findings input k s alike at =
+job_stream a w d bytes input k s alike at =
     let x = described_at 0 k d.streams s at in
-    let b = both_at a d findings input k alike (slice_get_within d.streams k x.stream x.at) in
+    let b = both_at a w d bytes input k alike (slice_get_within d.streams k x.stream x.at) in
     let same : b.described ≡ x.stream = same_Some b.described x.stream (sym b.described_is ∙ x.at) in
     record {
       stream = b.timed;
@@ -217,66 +264,94 @@ near_on_wire : (base apart : ℕ) (u v : AccessUnit) → (unit_at base None u).d
 unfolding unit_at dts_at
 near_on_wire base apart u v near = near
 
-whole_streams : (a : JobArgumentsView) (d : Described) (findings : List FindingView) (input : JobInputView) (constants : HasConstants a.options findings input)
-    (alike : AreAlike a d findings input) → AreWhole (constants.constant alike.clock) earliest (streams_from 0 d.streams) findings
-whole_streams a d findings input constants alike =
+-- what the whole stream and the stream that comes are marked by
+abbrev whole_marking : JobArgumentsView → List ℕ → MarkingView
+whole_marking a bytes = marking_of a.options (findings_of (carried bytes))
+
+abbrev streamed_findings : JobOptionsView → Described → List ℕ → List FindingView
+streamed_findings w d bytes = all_marked (marking_by w d) (findings_of (carried bytes))
+
+marks_of : (a : JobArgumentsView) (w : JobOptionsView) (d : Described) (bytes : List ℕ) (input : JobInputView) (k : ℕ) (t : TimedStreamView) → AreAlike a w d bytes input →
+    slice_get input.streams k ≡ Some t → AreMarkedAlike (whole_marking a bytes) (marking_by w d) t.pid
+marks_of a w d bytes input k t alike at =
+    at_place (λ t. AreMarkedAlike (whole_marking a bytes) (marking_by w d) t.pid) input.streams k t alike.marks at
+
+same_wire : (a : JobArgumentsView) (w : JobOptionsView) (d : Described) (bytes : List ℕ) (input : JobInputView) (k : ℕ) (t : TimedStreamView) → AreAlike a w d bytes input →
+    slice_get input.streams k ≡ Some t → wire_units t.pid (findings_for a.options bytes) ≡ wire_units t.pid (streamed_findings w d bytes)
+same_wire a w d bytes input k t alike at =
+    wire_alike (whole_marking a bytes) (marking_by w d) t.pid (findings_of (carried bytes)) (marks_of a w d bytes input k t alike at)
+
+same_alone : (a : JobArgumentsView) (w : JobOptionsView) (d : Described) (bytes : List ℕ) (input : JobInputView) (k : ℕ) (t : TimedStreamView) → AreAlike a w d bytes input →
+    slice_get input.streams k ≡ Some t → one_by_one t.pid (streamed_findings w d bytes) ≡ true
+same_alone a w d bytes input k t alike at =
+    sym (alone_alike (whole_marking a bytes) (marking_by w d) t.pid (findings_of (carried bytes)) (marks_of a w d bytes input k t alike at))
+    ∙ at_place (λ t. one_by_one t.pid (findings_for a.options bytes) ≡ true) input.streams k t alike.alone at
+
+whole_streams : (a : JobArgumentsView) (w : JobOptionsView) (d : Described) (bytes : List ℕ) (input : JobInputView) (constants : HasConstants a.options (findings_for a.options bytes) input)
+    (alike : AreAlike a w d bytes input) → AreWhole (constants.constant alike.clock) earliest (streams_from 0 d.streams) (streamed_findings w d bytes)
+whole_streams a w d bytes input constants alike =
     let base = constants.constant alike.clock in
+    let whole = findings_for a.options bytes in
+    let streamed = streamed_findings w d bytes in
     record {
       alone = λ k s at.
-          let x = job_stream a d findings input k s alike at in
-          subst (λ (p : ℕ). one_by_one p findings ≡ true) x.pid_is (at_place (λ t. one_by_one t.pid findings ≡ true) input.streams k x.stream alike.alone x.at);
+          let x = job_stream a w d bytes input k s alike at in
+          subst (λ (p : ℕ). one_by_one p streamed ≡ true) x.pid_is (same_alone a w d bytes input k x.stream alike x.at);
       near = λ j k s t at_s at_t u v us vs here there.
-          let x = job_stream a d findings input j s alike at_s in
-          let y = job_stream a d findings input k t alike at_t in
-          let one = first_moved base (wire_units x.stream.pid findings) x.stream.units u us (by_one a d findings input j x.stream constants alike x.at).are
-          (ap (λ (p : ℕ). wire_units p findings) x.pid_is ∙ here) in
-          let other = first_moved base (wire_units y.stream.pid findings) y.stream.units v vs (by_one a d findings input k y.stream constants alike y.at).are
-          (ap (λ (p : ℕ). wire_units p findings) y.pid_is ∙ there) in
+          let x = job_stream a w d bytes input j s alike at_s in
+          let y = job_stream a w d bytes input k t alike at_t in
+          let one = first_moved base (wire_units x.stream.pid whole) x.stream.units u us (by_one a w d bytes input j x.stream constants alike x.at).are
+          (same_wire a w d bytes input j x.stream alike x.at ∙ ap (λ (p : ℕ). wire_units p streamed) x.pid_is ∙ here) in
+          let other = first_moved base (wire_units y.stream.pid whole) y.stream.units v vs (by_one a w d bytes input k y.stream constants alike y.at).are
+          (same_wire a w d bytes input k y.stream alike y.at ∙ ap (λ (p : ℕ). wire_units p streamed) y.pid_is ∙ there) in
           near_on_wire base earliest u v (alike.near j k x.stream y.stream (unit_at base None u) (unit_at base None v) x.at y.at one other);
     }
 
 -- 6. Both
 
-alike_units : (a : JobArgumentsView) (d : Described) (bytes : List ℕ) (input : JobInputView) (units : List (ℕ × AccessUnit)) → HasConstants a.options (findings_of (carried bytes)) input → IsInRange d →
-    have_fault (fed_of (feed_of d) bytes) ≡ false → AreMerged (map (λ t. t.units) input.streams) units → AreAlike a d (findings_of (carried bytes)) input →
-    AreLaterByOne (length d.streams) (fed_of (feed_of d) bytes) units
-alike_units a d bytes input units constants ranges silent merged alike =
-    let findings = findings_of (carried bytes) in
+alike_units : (a : JobArgumentsView) (w : JobOptionsView) (d : Described) (bytes : List ℕ) (input : JobInputView) (units : List (ℕ × AccessUnit)) → HasConstants a.options (findings_for a.options bytes) input →
+    IsInRange d → have_fault (fed_of (feed_of w d) bytes) ≡ false → AreMerged (map (λ t. t.units) input.streams) units → AreAlike a w d bytes input →
+    AreLaterByOne (length d.streams) (fed_of (feed_of w d) bytes) units
+alike_units a w d bytes input units constants ranges silent merged alike =
+    let whole = findings_for a.options bytes in
+    let streamed = streamed_findings w d bytes in
     let base = constants.constant alike.clock in
-    let apart = fed_apart earliest base (maps_of d) (streams_from 0 d.streams) bytes (omega arith) (first_streams d ranges) silent
-    (whole_streams a d findings input constants alike) in
+    let apart = fed_apart earliest base (marking_by w d) (maps_of d) (streams_from 0 d.streams) bytes (omega arith) (first_streams d ranges) silent
+    (whole_streams a w d bytes input constants alike) in
     record {
       here = apart.here;
       there = apart.there;
       are = λ k below.
-          let b = both_at a d findings input k alike below in
+          let b = both_at a w d bytes input k alike below in
           let t = b.timed in
           let number : 0 + k ≡ k = omega arith in
           let place : slice_get (streams_from 0 d.streams) k ≡ Some (fed_stream k b.described.pid) =
           fed_at 0 k d.streams b.described b.described_is ∙ ap (λ (n : ℕ). Some (fed_stream n b.described.pid)) number in
-          let timed : t.units ≡ moved base None (wire_units t.pid findings) = (by_one a d findings input k t constants alike b.timed_is).are in
-          let whole : units_of k units ≡ moved base None (wire_units b.described.pid findings) =
+          let timed : t.units ≡ moved base None (wire_units t.pid whole) = (by_one a w d bytes input k t constants alike b.timed_is).are in
+          let wire : wire_units t.pid whole ≡ wire_units b.described.pid streamed =
+          same_wire a w d bytes input k t alike b.timed_is ∙ ap (λ (p : ℕ). wire_units p streamed) (sym b.pid) in
+          let same : units_of k units ≡ moved base None (wire_units b.described.pid streamed) =
           merged.each k t.units (slice_get-map (λ t. t.units) input.streams k ∙ ap (option_map (λ t. t.units)) b.timed_is)
-          ∙ timed ∙ ap (λ (p : ℕ). moved base None (wire_units p findings)) (sym b.pid) in
-          apart.are k (fed_stream k b.described.pid) place ∙ sym (ap (λ (us : List AccessUnit). map (after_time apart.there) us) whole);
+          ∙ timed ∙ ap (λ (us : List AccessUnit). moved base None us) wire in
+          apart.are k (fed_stream k b.described.pid) place ∙ sym (ap (λ (us : List AccessUnit). map (after_time apart.there) us) same);
     }
 
 given_units : (a : JobArgumentsView) (bytes output : List ℕ) (g : GivenOf a bytes output) → a.subcommand ≡ Units → GivesUnits g.input output
-given_units a bytes output g units = subst (λ (word : Subcommand). Gives word a.options (findings_of (carried bytes)) g.input output) units g.gives
+given_units a bytes output g units = subst (λ (word : Subcommand). Gives word a.options (findings_for a.options bytes) g.input output) units g.gives
 
 pub the_same_units : TheSameUnits
-the_same_units words a d bytes whole streamed one records told status other passed silent ranges w s =
+the_same_units words a v d bytes whole streamed one records told status other passed silent ranges w s =
     let given = given_by_run a bytes whole one records told status w.known w.ends w.empty w.output_is w.some in
     let units = given_units a bytes whole given w.units in
-    let fed = gone d bytes streamed other passed silent s.known s.empty s.output_is s.goes in
-    let constants = constants_of a.options (length (carried bytes) / 188) (findings_of (carried bytes)) given.input given.input_is in
+    let fed = gone v d bytes streamed other passed silent s.known s.empty s.output_is s.goes in
+    let constants = constants_of a.options (length (carried bytes) / 188) (findings_for a.options bytes) given.input given.input_is in
     record {
       input = given.input;
       input_is = given.input_is;
       units = units.units;
       merged = units.merged;
       whole_is = units.is;
-      fed = fed_of (feed_of d) bytes;
+      fed = fed_of (feed_of v d) bytes;
       streamed_is = fed.output_is;
-      same = λ alike. alike_units a d bytes given.input units.units constants ranges fed.silent units.merged alike;
+      same = λ alike. alike_units a v d bytes given.input units.units constants ranges fed.silent units.merged alike;
     }

@@ -8,6 +8,7 @@ use Rattle.description.specs.Ranges.{IsInRange}
 use Rattle.demux.specs.Views.{FindingView}
 use Rattle.slot_plan.specs.Conditions.{IsServing}
 use Rattle.mux_core.specs.WholeJobs.{job_history, output_of}
+use Rattle.es_units.specs.ApartUnits.{apart_wire_units}
 use Rattle.es_units.specs.CarriedUnits.{wire_units}
 use Rattle.es_units.specs.Merging.{AreMerged}
 use Rattle.stream_jobs.specs.ClockConstants.{HasConstants, IsMovedBy, clock_of}
@@ -69,13 +70,13 @@ all_due o j k all ranges short =
 
 -- those of a stream are moved by the constant of the clock of its program
 those_moved : (findings : List FindingView) (programs : List JobProgramView) (constant : ProgramClock → ℕ) (s : DescribedStream) (us : List AccessUnit) (t : TimedStreamView) → IsEntry s t →
-    us ≡ t.units → IsMovedBy false findings (constant (clock_of programs t)) t → AreMoved (wire_units s.pid findings) (constant (clock_in programs s.program)) us
+    us ≡ t.units → IsMovedBy false findings (constant (clock_of programs t)) t → AreMoved (apart_wire_units s.pid findings) (constant (clock_in programs s.program)) us
 unfolding source_of
 those_moved findings programs constant s us t entry same moved = rw (same, entry.pid, entry.program) moved
 
 pub moved_units : (options : JobOptionsView) (findings : List FindingView) (d : Described) (input : JobInputView) (units : List (ℕ × AccessUnit)) (constants : HasConstants options findings input) →
     options.make_dts ≡ false → AllAgree d input → AreMerged (map (λ t. t.units) input.streams) units → (k : ℕ) (s : DescribedStream) → slice_get d.streams k ≡ Some s →
-    AreMoved (wire_units s.pid findings) (constants.constant (clock_in input.programs s.program)) (units_of k units)
+    AreMoved (apart_wire_units s.pid findings) (constants.constant (clock_in input.programs s.program)) (units_of k units)
 moved_units options findings d input units constants own agree merged k s is =
     let stands = stands_for d input units (λ t. IsMovedBy options.make_dts findings (constants.constant (clock_of input.programs t)) t) agree merged constants.streams k s is in
     let moved = subst (λ (made : Bool). IsMovedBy made findings (constants.constant (clock_of input.programs stands.stream)) stands.stream) own stands.holds in
@@ -93,8 +94,8 @@ slots_within o j all = omega (arith, all_slots o j all)
 
 pub units_again : FoundAgainLaw → (findings : List FindingView) (o : MuxOptions) (j : MuxJobView) (base : ℕ) → j.second ≡ None → o.slots ≡ None → o.hex ≡ false → IsInRange j.description →
     IsServing j.description j.plan → AreUnits false findings j.description j.units → greatest_dts j.units ≤ 2 ^ 40 →
-    (k : ℕ) (s : DescribedStream) → slice_get j.description.streams k ≡ Some s → AreMoved (wire_units s.pid findings) base (units_of k j.units) →
-    AreLater (j.description.base0 + 2 ^ 33 - base) (wire_units s.pid findings) (wire_units s.pid (findings_of (packets_of o j)))
+    (k : ℕ) (s : DescribedStream) → slice_get j.description.streams k ≡ Some s → AreMoved (apart_wire_units s.pid findings) base (units_of k j.units) →
+    AreLater (j.description.base0 + 2 ^ 33 - base) (apart_wire_units s.pid findings) (wire_units s.pid (findings_of (packets_of o j)))
 units_again law findings o j base second all bytes ranges serving are short k s is moved =
     ap (λ (xs : List ℕ). wire_units s.pid (findings_of xs)) (packets_are o j second bytes)
     ∙ law j.description j.plan findings j.units (slots_of o j) k s base ranges serving are (slots_within o j all) is moved (all_due o j k all ranges short)

@@ -67,7 +67,7 @@ unit_fits : (line : Scheduled) (k : ℕ) (s : DescribedStream) (u : AccessUnit) 
 unit_fits line k s u range is = record {
   size = omega (arith, is.0.most, range.most_size, private_most (is_some u.marks.private_data) u.marks.long u.marks.random_access);
   dts = omega (arith, is.0.last);
-  pts = omega (arith, is.0.last, is.0.soon);
+  pts = omega (arith, is.0.last, is.0.soon, range.most_pts_limit);
   marked = λ none. absurd (omega (arith, none, is.0.some));
   sixteen = is.1;
 }

@@ -5,6 +5,7 @@ use Rattle.clap.specs.Words.{Text}
 use Rattle.description.specs.Described.{DescribedStream}
 use Rattle.pes_packet.specs.AccessUnits.{AccessUnit}
 use Rattle.demux.specs.Views.{FindingView}
+use Rattle.es_units.specs.ApartUnits.{apart_wire_units}
 use Rattle.es_units.specs.CarriedUnits.{wire_units}
 use Rattle.stream_jobs.specs.JobInput.{JobInputView, job_input}
 use Rattle.stream_jobs.specs.JobOptions.{JobOptionsView}
@@ -58,9 +59,9 @@ pub record WritesJobOfFiles (words : List Text) (a : JobArgumentsView) (files : 
   pub output_is : job.after.bytes ≡ Some output
   pub some : 0 < length output
 
--- the units that are found of a stream in the input where it was found, on the PID that it had there
+-- the units that are found of a stream in the input where it was found, on the PID that it had there, each of a data stream with a DTS of its own
 abbrev pub wire_units_in : List (List FindingView) → Origin → List AccessUnit
-wire_units_in inputs from = wire_units from.pid (findings_in inputs from.input)
+wire_units_in inputs from = apart_wire_units from.pid (findings_in inputs from.input)
 
 -- what goes through both
 pub record FilesGoThrough (a : JobArgumentsView) (o : MuxOptions) (files : Files) (names : List Text) (output : List ℕ)
@@ -73,7 +74,7 @@ pub record FilesGoThrough (a : JobArgumentsView) (o : MuxOptions) (files : Files
   pub inputs_are : stream_inputs a.options 0 streams ≡ Ok inputs
   pub joined : JoinedInputsView
   pub joined_is : all_joined inputs ≡ Ok joined
-  pub job : GivesJobIn a.options (all_findings streams) joined output
+  pub job : GivesJobIn a.options (all_findings a.options streams) joined output
   -- `mux` read that job, refused nothing and told nothing
   pub read : mux_job_of false output ≡ Ok (as_joined_job job)
   pub good : status ≡ 0
@@ -81,13 +82,13 @@ pub record FilesGoThrough (a : JobArgumentsView) (o : MuxOptions) (files : Files
   -- it wrote its packets, which keep every promise
   pub written : Takes packets (packets_of o (as_joined_job job))
   pub kept : IsKept o (as_joined_job job)
-  -- each stream was found in one of the inputs; and in the packets a demultiplexer finds its units that it finds on its PID there, later by the time
-  -- of the clock by which it counts there
+  -- each stream was found in one of the inputs; and in the packets a demultiplexer finds its units that it finds on its PID there, with the marks that
+  -- are asked for, later by the time of the clock by which it counts there
   pub origins : length joined.origins ≡ length job.description.streams
   pub time : ℕ → ProgramClock → ℕ
   pub units : a.options.make_dts ≡ false → o.hex ≡ false → greatest_dts job.units ≤ 2 ^ 40 →
       (k : ℕ) (s : DescribedStream) (from : Origin) → slice_get job.description.streams k ≡ Some s → slice_get joined.origins k ≡ Some from →
-      AreLater (time from.input from.clock) (wire_units_in (all_findings streams) from) (wire_units s.pid (findings_of (packets_of o (as_joined_job job))))
+      AreLater (time from.input from.clock) (wire_units_in (all_findings a.options streams) from) (wire_units s.pid (findings_of (packets_of o (as_joined_job job))))
 
 abbrev pub TheFilePipe : Type 0
 TheFilePipe = (words : List Text) (a : JobArgumentsView) (o : MuxOptions) (files : Files) (output : List ℕ) (input job told : Device) (job_status : ℕ)

@@ -5,6 +5,7 @@ use Rattle.pes_packet.specs.AccessUnits.{AccessUnit}
 use Rattle.description.specs.Described.{DescribedStream}
 use Rattle.demux.specs.Views.{FindingView}
 use Rattle.packet_sync.specs.Slips.{carried}
+use Rattle.es_units.specs.ApartUnits.{apart_wire_units}
 use Rattle.es_units.specs.CarriedUnits.{wire_units}
 use Rattle.stream_jobs.specs.Information.{information_of}
 use Rattle.stream_jobs.specs.JobInput.{JobInputView, job_input}
@@ -19,7 +20,7 @@ use Rattle.job_run.specs.declared.job_arguments.Subcommand.TheVariants.{Whole}
 use Rattle.job_run.specs.JobArguments.{JobArgumentsView}
 use Rattle.tsjob_cli.specs.Arguments.{arguments_in}
 use Rattle.job_run.specs.Outcomes.{GivesJob, Leads}
-use Rattle.job_run.specs.Streams.{findings_of}
+use Rattle.job_run.specs.Streams.{findings_for, findings_of}
 use Rattle.tsmux_cli.specs.declared.request.MuxOptions.{MuxOptions}
 use Rattle.tsmux_cli.specs.MuxJobs.{MuxJobView, greatest_dts, mux_job_of}
 use Rattle.tsmux_cli.specs.Multiplexing.{IsKept, Muxes, packets_of}
@@ -62,8 +63,8 @@ AreLater time before after = after ≡ map (later_by time) before
 pub record GoesThrough (a : JobArgumentsView) (o : MuxOptions) (bytes output : List ℕ) (packets faults : Device) (status : ℕ) : Type 0 where
   -- what of the stream a job is made of, and the job that `tsjob` wrote
   pub input : JobInputView
-  pub input_is : job_input a.options (length (carried bytes) / 188) (findings_of (carried bytes)) ≡ Ok input
-  pub job : GivesJob a.options (findings_of (carried bytes)) input output
+  pub input_is : job_input a.options (length (carried bytes) / 188) (findings_for a.options bytes) ≡ Ok input
+  pub job : GivesJob a.options (findings_for a.options bytes) input output
   -- `mux` read that job, refused nothing and told nothing
   pub read : mux_job_of false output ≡ Ok (as_mux_job job)
   pub good : status ≡ 0
@@ -71,11 +72,12 @@ pub record GoesThrough (a : JobArgumentsView) (o : MuxOptions) (bytes output : L
   -- it wrote its packets, which keep every promise
   pub written : Takes packets (packets_of o (as_mux_job job))
   pub kept : IsKept o (as_mux_job job)
-  -- and in them a demultiplexer finds the units of each of its streams that it finds in the input, later by the time of the clock of its program there
+  -- and in them a demultiplexer finds the units of each of its streams that it finds in the input, with the marks that are asked for, each of a data
+  -- stream with a DTS of its own, later by the time of the clock of its program there
   pub time : ProgramClock → ℕ
   pub units : a.options.make_dts ≡ false → o.hex ≡ false → greatest_dts job.units ≤ 2 ^ 40 →
       (k : ℕ) (s : DescribedStream) → slice_get job.description.streams k ≡ Some s →
-      AreLater (time (clock_in input.programs s.program)) (wire_units s.pid (findings_of (carried bytes))) (wire_units s.pid (findings_of (packets_of o (as_mux_job job))))
+      AreLater (time (clock_in input.programs s.program)) (apart_wire_units s.pid (findings_for a.options bytes)) (wire_units s.pid (findings_of (packets_of o (as_mux_job job))))
 
 abbrev pub ThePipe : Type 0
 ThePipe = (words : List Text) (a : JobArgumentsView) (o : MuxOptions) (bytes output : List ℕ) (stream job told : Device) (job_status : ℕ) (job_again packets faults : Device) (status : ℕ) →

@@ -5,7 +5,6 @@ use Rattle.pes_packet.specs.AccessUnits.{AccessUnit}
 use Rattle.pes_packet.specs.Units.{units_of}
 use Rattle.description.specs.Described.{Described}
 use Rattle.description.specs.Ranges.{IsInRange}
-use Rattle.demux.specs.Views.{FindingView}
 use Rattle.packet_sync.specs.Slips.{carried}
 use Rattle.es_units.specs.Merging.{AreMerged}
 use Rattle.es_feed.specs.EachStream.{one_by_one, units_fed}
@@ -13,8 +12,11 @@ use Rattle.es_feed.specs.Feeding.{Fed}
 use Rattle.es_feed.specs.MovedApart.{after_time}
 use Rattle.es_feed.specs.FedLines.{fed_records}
 use Rattle.es_feed.specs.Records.{records_of}
+use Rattle.given_marks.specs.Marking.{MarkingView, is_aligned, type_of}
+use Rattle.stream_jobs.specs.AskedMarks.{marking_of}
 use Rattle.stream_jobs.specs.ClockConstants.{clock_of}
 use Rattle.stream_jobs.specs.JobInput.{JobInputView, job_input}
+use Rattle.stream_jobs.specs.JobOptions.{JobOptionsView}
 use Rattle.stream_jobs.specs.JobStreams.{TimedStreamView}
 use Rattle.stream_jobs.specs.declared.program_clock.ProgramClock.{ProgramClock}
 use Rattle.devices.specs.Devices.{Device}
@@ -22,9 +24,9 @@ use Rattle.devices.specs.Runs.{Ends}
 use Rattle.job_run.specs.declared.job_arguments.Subcommand.TheVariants.{Units}
 use Rattle.job_run.specs.JobArguments.{JobArgumentsView}
 use Rattle.job_run.specs.Outcomes.{Leads}
-use Rattle.job_run.specs.Streams.{findings_of}
+use Rattle.job_run.specs.Streams.{findings_for, findings_of}
 use Rattle.tsjob_cli.specs.Arguments.{arguments_in}
-use Rattle.tsjob_cli.specs.StreamedUnits.{GoesBy, earliest}
+use Rattle.tsjob_cli.specs.StreamedUnits.{GoesBy, earliest, marking_by}
 
 -- ---- both runs
 
@@ -38,24 +40,31 @@ pub record WritesUnits (words : List Text) (a : JobArgumentsView) (bytes output 
   pub output_is : records.after.bytes ≡ Some output
   pub some : 0 < length output
 
--- over these bytes it went by a description, to their end and with nothing to tell; its writer, which held nothing, has these records
-pub record StreamsUnits (d : Described) (bytes output : List ℕ) (stream records faults : Device) : Type 0 where
+-- over these bytes it went by options and a description, to their end and with nothing to tell; its writer, which held nothing, has these records
+pub record StreamsUnits (w : JobOptionsView) (d : Described) (bytes output : List ℕ) (stream records faults : Device) : Type 0 where
   pub known : stream.before.bytes ≡ Some bytes
-  pub goes : GoesBy d stream records faults 0
+  pub goes : GoesBy w d stream records faults 0
   pub empty : records.before.bytes ≡ Some []
   pub output_is : records.after.bytes ≡ Some output
 
 -- ---- what they wrote
 
+-- of a PID both ask for the same marks: of the same stream_type, if access points are marked at all, and aligned or not
+pub record AreMarkedAlike (whole streamed : MarkingView) (pid : ℕ) : Type 0 where
+  pub typed : type_of pid whole.access ≡ type_of pid streamed.access
+  pub aligned : is_aligned whole.aligned (Some pid) ≡ is_aligned streamed.aligned (Some pid)
+
 -- the description is of the streams of the job, in their order
-pub record AreAlike (a : JobArgumentsView) (d : Described) (findings : List FindingView) (input : JobInputView) : Type 0 where
+pub record AreAlike (a : JobArgumentsView) (w : JobOptionsView) (d : Described) (bytes : List ℕ) (input : JobInputView) : Type 0 where
   pub pids : map (λ s. s.pid) d.streams ≡ map (λ t. t.pid) input.streams
   -- the DTS are the stream's own, and the programs of the streams are on one clock
   pub own : a.options.make_dts ≡ false
   pub clock : ProgramClock
   pub one_clock : All (λ t. clock_of input.programs t ≡ clock) input.streams
   -- each unit is one PES packet that nothing interrupts
-  pub alone : All (λ t. one_by_one t.pid findings ≡ true) input.streams
+  pub alone : All (λ t. one_by_one t.pid (findings_for a.options bytes) ≡ true) input.streams
+  -- the same marks are asked for
+  pub marks : All (λ t. AreMarkedAlike (marking_of a.options (findings_of (carried bytes))) (marking_by w d) t.pid) input.streams
   -- the first unit of a stream is due no later than three seconds after the first one of another
   pub near : (j k : ℕ) (s t : TimedStreamView) (u v : AccessUnit) → slice_get input.streams j ≡ Some s → slice_get input.streams k ≡ Some t →
       slice_get s.units 0 ≡ Some u → slice_get t.units 0 ≡ Some v → u.dts ≤ v.dts + earliest
@@ -66,18 +75,18 @@ pub record AreLaterByOne (count : ℕ) (fed : List Fed) (units : List (ℕ × Ac
   pub there : ℕ
   pub are : (k : ℕ) → k < count → map (after_time here) (units_fed k fed) ≡ map (after_time there) (units_of k units)
 
-pub record WriteTheSame (a : JobArgumentsView) (d : Described) (bytes whole streamed : List ℕ) : Type 0 where
+pub record WriteTheSame (a : JobArgumentsView) (w : JobOptionsView) (d : Described) (bytes whole streamed : List ℕ) : Type 0 where
   -- what of the stream a job is made of, and its units, whose records `tsjob units` wrote
   pub input : JobInputView
-  pub input_is : job_input a.options (length (carried bytes) / 188) (findings_of (carried bytes)) ≡ Ok input
+  pub input_is : job_input a.options (length (carried bytes) / 188) (findings_for a.options bytes) ≡ Ok input
   pub units : List (ℕ × AccessUnit)
   pub merged : AreMerged (map (λ t. t.units) input.streams) units
   pub whole_is : whole ≡ records_of units
   -- what was fed, whose records `tsjob units --stream` wrote
   pub fed : List Fed
   pub streamed_is : streamed ≡ fed_records fed
-  pub same : AreAlike a d (findings_of (carried bytes)) input → AreLaterByOne (length d.streams) fed units
+  pub same : AreAlike a w d bytes input → AreLaterByOne (length d.streams) fed units
 
 abbrev pub TheSameUnits : Type 0
-TheSameUnits = (words : List Text) (a : JobArgumentsView) (d : Described) (bytes whole streamed : List ℕ) (one records told : Device) (status : ℕ) (other passed silent : Device) → IsInRange d →
-    WritesUnits words a bytes whole one records told status → StreamsUnits d bytes streamed other passed silent → WriteTheSame a d bytes whole streamed
+TheSameUnits = (words : List Text) (a : JobArgumentsView) (w : JobOptionsView) (d : Described) (bytes whole streamed : List ℕ) (one records told : Device) (status : ℕ) (other passed silent : Device) → IsInRange d →
+    WritesUnits words a bytes whole one records told status → StreamsUnits w d bytes streamed other passed silent → WriteTheSame a w d bytes whole streamed

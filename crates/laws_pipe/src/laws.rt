@@ -14,7 +14,8 @@ pub fn written_is_read()
 /// over these bytes, `mux` refused nothing and reported nothing: its status is 0, and it wrote the packets of that job's
 /// units, which keep every promise. Where the DTS are the stream's own, what a demultiplexer finds in these packets on the PID
 /// of each stream of the job are all units that it finds there in the input, and no other: in order, their bytes the same,
-/// their stamps later by a constant, modulo 2^33, which is one for all programs of a clock of the input.
+/// with the marks that are asked for, their stamps later by a constant, modulo 2^33, which is one for all programs of a clock
+/// of the input.
 ///
 /// A device that fails, or memory that runs out, ends either program earlier, with status 3. The writer held nothing
 /// before, and its bytes are known; the last sentence is of jobs whose units are due within 2^40 units of 90 kHz.
@@ -53,7 +54,8 @@ pub fn joined_goes_through()
 /// --stream` went by a description of the job's streams over the same bytes to their end and reported nothing.
 ///
 /// This is so for a job whose DTS are the stream's own and whose programs are on one clock, if its streams begin within
-/// three seconds of one another, and each of their units is one PES packet that nothing interrupts.
+/// three seconds of one another, each of their units is one PES packet that nothing interrupts, and both ways ask for the
+/// same marks.
 pub fn streamed_as_whole()
     ensures { TheSameUnits }
 {}

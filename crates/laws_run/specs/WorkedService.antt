@@ -15,6 +15,7 @@ worked_stream = record {
   interval = 5415;
   size = 100;
   lead = 7000;
+  pts_limit = 90000;
   rx = 2000000;
   main = 512;
   tag = None;

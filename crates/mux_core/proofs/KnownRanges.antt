@@ -38,6 +38,7 @@ parameters_fit d s ranges r = record {
   base0 = ranges.base0;
   stream_id = unit_id s.stream_id r.stream_id;
   size = size_fits s.stream_id s.size r.stream_id r.most_size r.bounded_size;
+  pts_limit = r.most_pts_limit;
   rows = rows_some s r;
 }
 

@@ -65,9 +65,9 @@ within d capacity h k u None e = absurd (let no : ⊥ = cc in no)
 within d capacity h k u (Some s) e =
     let l = owned_stream d k s in
     let us = h.units k in
-    let own = (feed_or_none (own_cause s.size (min_next_dts_of l us) u)
+    let own = (feed_or_none (own_cause s.size s.pts_limit (min_next_dts_of l us) u)
     (or_feed_cause (time_cause (is_late l h.slots u) u.dts) (room_cause (is_full l h.slots capacity us) (over_cause l us u))) e).0 in
-    let facts = own_facts s.size (min_next_dts_of l us) u own in
+    let facts = own_facts s.size s.pts_limit (min_next_dts_of l us) u own in
     and_true _ _ (le-leb 1 (length u.bytes) facts.some) (le-leb (length u.bytes) s.size (omega (arith, facts.most)))
 
 both_none : (a b : Option MuxError) → or_cause a b ≡ None → (a ≡ None) × (b ≡ None)

@@ -56,7 +56,7 @@ cause_same_in d capacity other fed entry None one two = refl
 cause_same_in d capacity other fed entry (Some s) one two =
     let l = owned_stream d entry.0 s in
     let us = units_of entry.0 fed in
-    ap (λ (full : Bool). first_cause l.parameters.size (min_next_dts_of l us) (is_late l 0 entry.1) full (over_cause l us entry.1) entry.1)
+    ap (λ (full : Bool). first_cause l.parameters.size l.parameters.pts_limit (min_next_dts_of l us) (is_late l 0 entry.1) full (over_cause l us entry.1) entry.1)
     (not_full l 0 capacity us one ∙ sym (not_full l 0 other us two))
 
 refused_same : (d : Scheduled) (capacity other : ℕ) (fed rest : List (ℕ × AccessUnit)) →

@@ -31,6 +31,7 @@ parameters_of d s = record {
   base0 = d.base0;
   lead = s.lead;
   interval = s.interval;
+  pts_limit = s.pts_limit;
   size = s.size;
   allowance = s.allowance;
 }

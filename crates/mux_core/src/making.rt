@@ -134,6 +134,7 @@ fn parameters_of(description: &Description, stream: &StreamDescription) -> Strea
         stream_id: stream.stream_id,
         lead: stream.lead,
         interval: stream.interval,
+        pts_limit: stream.pts_limit,
         size: stream.size,
         allowance: stream.allowance,
     }

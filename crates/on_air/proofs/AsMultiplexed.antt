@@ -140,7 +140,7 @@ taken_more run a units entry so tick = record {
 pub some_bytes : (d : Scheduled) (other : ℕ) (units : List (ℕ × AccessUnit)) (entry : ℕ × AccessUnit) → cause_after d other units entry ≡ None → is_tick entry ≡ false
 some_bytes d other units entry none =
     let found = stream_of d other units entry (slice_get d.description.streams entry.0) none in
-    let own = own_facts _ _ entry.1 (or_none _ _ found.cause).0 in
+    let own = own_facts _ _ _ entry.1 (or_none _ _ found.cause).0 in
     no_tick entry own.some
 
 not_empty : {V : Type 0} (xs : List V) (x : V) → xs ++ (x ∷ []) ≡ [] → ⊥

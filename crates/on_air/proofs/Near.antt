@@ -115,10 +115,10 @@ own_four false false true bad = tt
 own_four false false false true = tt
 own_four false false false false = tt
 
-own_itself : (largest soonest : ℕ) (u : AccessUnit) → IsOwn (own_cause largest soonest u)
+own_itself : (largest limit soonest : ℕ) (u : AccessUnit) → IsOwn (own_cause largest limit soonest u)
 unfolding own_cause
-own_itself largest soonest u =
-    own_four (length u.bytes == 0) (nat_lt largest (length u.bytes + marks_size u.marks)) (nat_lt u.dts soonest) (is_bad_pts u.dts u.pts)
+own_itself largest limit soonest u =
+    own_four (length u.bytes == 0) (nat_lt largest (length u.bytes + marks_size u.marks)) (nat_lt u.dts soonest) (is_bad_pts limit u.dts u.pts)
 
 own_far : (far : Bool) → IsOwn (if far then Some TooFar else None)
 own_far true = tt
@@ -146,8 +146,8 @@ own_unit l slots capacity us u late full =
     let room : IsOwn (room_cause (is_full l slots capacity us) over) =
     subst (λ (b : Bool). IsOwn (room_cause b over)) (sym full)
     (own_room over (own_packets l.parameters.allowance (is_over l.parameters.allowance (map (timed l) us) (timed l u)))) in
-    own_or (own_cause l.parameters.size (min_next_dts_of l us) u) (or_cause (time_cause (is_late l slots u) u.dts) (room_cause (is_full l slots capacity us) over))
-    (own_itself l.parameters.size (min_next_dts_of l us) u)
+    own_or (own_cause l.parameters.size l.parameters.pts_limit (min_next_dts_of l us) u) (or_cause (time_cause (is_late l slots u) u.dts) (room_cause (is_full l slots capacity us) over))
+    (own_itself l.parameters.size l.parameters.pts_limit (min_next_dts_of l us) u)
     (own_or (time_cause (is_late l slots u) u.dts) (room_cause (is_full l slots capacity us) over) time room)
 
 -- ---- a record that is near

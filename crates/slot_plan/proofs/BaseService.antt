@@ -16,6 +16,7 @@ base_stream = record {
   interval = 2160;
   size = 576;
   lead = 1600;
+  pts_limit = 90000;
   rx = 2000000;
   main = 3584;
   tag = None;

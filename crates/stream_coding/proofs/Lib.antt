@@ -1,5 +1,6 @@
 pub mod StructureSearch
 pub mod RbspBytes
+pub mod SeiPlaces
 pub mod Elements
 pub mod ScalingLists
 mod FrameWalks

@@ -7,10 +7,10 @@ use Rattle.std.specs.Str.{bytes_eq}
 use Rattle.stream_coding.specs.Rbsp.{rbsp_bytes}
 
 -- where 00 00 03 stands at the front, and where it does not
-all_prevented : (a b c : ℕ) → bytes_eq (a ∷ b ∷ c ∷ []) (0 ∷ 0 ∷ 3 ∷ []) ≡ true → (a ∷ b ∷ c ∷ []) ≡ (0 ∷ 0 ∷ 3 ∷ [])
+pub all_prevented : (a b c : ℕ) → bytes_eq (a ∷ b ∷ c ∷ []) (0 ∷ 0 ∷ 3 ∷ []) ≡ true → (a ∷ b ∷ c ∷ []) ≡ (0 ∷ 0 ∷ 3 ∷ [])
 all_prevented a b c is = let d = bytes_eq-Decides (a ∷ b ∷ c ∷ []) (0 ∷ 0 ∷ 3 ∷ []) in search (rules)
 
-prevention : (bytes : List ℕ) → bytes_eq (take 3 bytes) (0 ∷ 0 ∷ 3 ∷ []) ≡ true → rbsp_bytes bytes ≡ 0 ∷ 0 ∷ rbsp_bytes (drop 3 bytes)
+pub prevention : (bytes : List ℕ) → bytes_eq (take 3 bytes) (0 ∷ 0 ∷ 3 ∷ []) ≡ true → rbsp_bytes bytes ≡ 0 ∷ 0 ∷ rbsp_bytes (drop 3 bytes)
 unfolding rbsp_bytes
 prevention [] is = absurd cc
 prevention (a ∷ []) is = absurd (let no : false ≡ true = search rules in cc)
@@ -21,7 +21,7 @@ prevention (a ∷ b ∷ c ∷ rest) is =
     let second : b ≡ 0 = cc in
     rw is (ap₂ (λ (x y : ℕ). x ∷ y ∷ rbsp_bytes rest) first second)
 
-no_prevention : (a : ℕ) (rest : List ℕ) → bytes_eq (take 3 (a ∷ rest)) (0 ∷ 0 ∷ 3 ∷ []) ≡ false → rbsp_bytes (a ∷ rest) ≡ a ∷ rbsp_bytes rest
+pub no_prevention : (a : ℕ) (rest : List ℕ) → bytes_eq (take 3 (a ∷ rest)) (0 ∷ 0 ∷ 3 ∷ []) ≡ false → rbsp_bytes (a ∷ rest) ≡ a ∷ rbsp_bytes rest
 unfolding rbsp_bytes
 no_prevention a [] is = refl
 no_prevention a (b ∷ []) is = refl

@@ -11,3 +11,5 @@ pub mod FrameHeaders
 pub mod Frames
 pub mod FrameWalks
 pub mod Stays
+pub mod AccessPoints
+pub mod Sei

@@ -1,9 +1,11 @@
--- Where the structures of a coded stream begin that say its level, its video buffer, or how many channels it has.
-use Rattle.std.specs.Prelude.{ℕ, ◌/◌, ◌%◌, ◌==◌, ◌&&◌, nat_lt, if◌then◌else◌, Option, None, Some, List, [], ◌∷◌, take, drop}
+-- Where the structures of a coded stream begin that say its level, its video buffer, how many channels it has, or that a decoder may
+-- begin there.
+use Rattle.std.specs.Prelude.{ℕ, ◌/◌, ◌%◌, ◌==◌, ◌&&◌, nat_lt, Bool, if◌then◌else◌, Option, None, Some, List, [], ◌∷◌, take, drop, is_some}
 use Rattle.std.specs.Option.{option_and_then, option_or, option_map_or}
 use Rattle.std.specs.Str.{bytes_eq}
+use Rattle.stream_coding.specs.Sei.{has_recovery_point}
 use Rattle.stream_coding.specs.declared.structures.Structure.{Structure}
-use Rattle.stream_coding.specs.declared.structures.Structure.TheVariants.{SequenceHeader, SequenceExtension, AvcParameters, HevcParameters, AdtsHeader}
+use Rattle.stream_coding.specs.declared.structures.Structure.TheVariants.{SequenceHeader, SequenceExtension, PictureHeader, AvcParameters, IdrSlice, RecoveryPoint, HevcParameters, IrapSlice, AdtsHeader}
 
 -- 1. What is at the front of bytes
 
@@ -15,6 +17,11 @@ after_start_code bytes = if bytes_eq (take 3 bytes) (0 ∷ 0 ∷ 1 ∷ []) then 
 unfoldable pub sequence_header : List ℕ → Option (List ℕ)
 sequence_header [] = None
 sequence_header (code ∷ rest) = if code == 0xB3 then Some rest else None
+
+-- of a picture header (6.2.3) what follows the start code's value 0x00
+unfoldable pub picture_header : List ℕ → Option (List ℕ)
+picture_header [] = None
+picture_header (code ∷ rest) = if code == 0x00 then Some rest else None
 
 -- of a sequence extension (6.2.2.3) what follows the start code's value 0xB5: extension_start_code_identifier, 1 in 4 bits, is the
 -- first of it
@@ -31,10 +38,26 @@ unfoldable pub avc_parameters : List ℕ → Option (List ℕ)
 avc_parameters [] = None
 avc_parameters (header ∷ rest) = if header % 32 == 7 then Some rest else None
 
+-- of a slice of an IDR picture what follows that byte; its nal_unit_type is 5 (table 7-1)
+unfoldable pub idr_slice : List ℕ → Option (List ℕ)
+idr_slice [] = None
+idr_slice (header ∷ rest) = if header % 32 == 5 then Some rest else None
+
+-- of SEI messages, nal_unit_type 6, what follows that byte, if one of them is a recovery point
+unfoldable pub recovery_point : List ℕ → Option (List ℕ)
+recovery_point [] = None
+recovery_point (header ∷ rest) = if header % 32 == 6 && has_recovery_point rest then Some rest else None
+
 -- of a sequence parameter set of layer 0 (ISO/IEC 23008-2, 7.3.1.2) what follows two bytes with nal_unit_type 33 and nuh_layer_id 0
 unfoldable pub hevc_parameters : List ℕ → Option (List ℕ)
 hevc_parameters (first ∷ second ∷ rest) = if first == 0x42 && nat_lt second 8 then Some rest else None
 hevc_parameters _ = None
+
+-- of a slice of an IRAP picture of layer 0 what follows these two bytes: forbidden_zero_bit, nal_unit_type 16 to 23 in 6 bits (table
+-- 7-1), nuh_layer_id 0 in 6 bits, nuh_temporal_id_plus1
+unfoldable pub irap_slice : List ℕ → Option (List ℕ)
+irap_slice (first ∷ second ∷ rest) = if first / 16 == 2 && first % 2 == 0 && nat_lt second 8 then Some rest else None
+irap_slice _ = None
 
 -- of an ADTS header (ISO/IEC 13818-7, 6.2) what follows its first two bytes: the syncword, twelve ones, ID, layer 00, and
 -- protection_absent, which comes with it
@@ -46,8 +69,12 @@ adts_header _ = None
 unfoldable pub at_front : Structure → List ℕ → Option (List ℕ)
 at_front SequenceHeader bytes = option_and_then sequence_header (after_start_code bytes)
 at_front SequenceExtension bytes = option_and_then sequence_extension (after_start_code bytes)
+at_front PictureHeader bytes = option_and_then picture_header (after_start_code bytes)
 at_front AvcParameters bytes = option_and_then avc_parameters (after_start_code bytes)
+at_front IdrSlice bytes = option_and_then idr_slice (after_start_code bytes)
+at_front RecoveryPoint bytes = option_and_then recovery_point (after_start_code bytes)
 at_front HevcParameters bytes = option_and_then hevc_parameters (after_start_code bytes)
+at_front IrapSlice bytes = option_and_then irap_slice (after_start_code bytes)
 at_front AdtsHeader bytes = adts_header bytes
 
 -- 2. What is found in a unit
@@ -56,6 +83,9 @@ at_front AdtsHeader bytes = adts_header bytes
 unfoldable pub found_in : Structure → List ℕ → Option (List ℕ)
 found_in structure [] = None
 found_in structure (b ∷ bs) = option_or (at_front structure (b ∷ bs)) (found_in structure bs)
+
+abbrev pub has : Structure → List ℕ → Bool
+has structure unit = is_some (found_in structure unit)
 
 -- no bytes where it begins nowhere
 abbrev pub bytes_of : Structure → List ℕ → List ℕ

@@ -4,11 +4,13 @@
 //! structures of `specs/Structures`: its profile, level, video buffer or number of channels (`specs/Sequences`, `Avc`,
 //! `Hevc`, `Adts`); the buffers are those of the standards (`specs/Video`, `Buffers`). The frames of units of sound are
 //! counted by their headers (`specs/FrameHeaders`, `Frames`), or found as the bytes of a unit come (`specs/FrameWalks`).
+//! The units at which a decoder may begin are those of `specs/AccessPoints`.
 //! `specs/Stays` says how long a byte of a stream may stay in a decoder.
 #![tactic(auto)]
 
 mod ac3;
 mod ac3_frames;
+mod access_points;
 mod adts;
 mod avc;
 mod avc_vui;
@@ -23,12 +25,14 @@ mod jpeg2000;
 mod layers;
 mod pcm;
 mod rbsp;
+mod sei;
 mod sequences;
 mod stays;
 mod structures;
 mod video_buffers;
 
 pub use ac3::is_ac3;
+pub use access_points::is_access_point;
 pub use buffers::{
     Buffers, PidBuffers, buffers_of, coding_holding, given_buffers, joined_buffers_of,
     multiplexing_of,

@@ -1,7 +1,9 @@
-//! The structures of a coded stream that say its level, its video buffer, or how many channels it has.
+//! The structures of a coded stream that say its level, its video buffer, how many channels it has, or where a decoder may begin.
 
 ghost use Rattle.std.specs.Prelude.{◌≡◌, option_map};
 ghost use Rattle.stream_coding.specs.Structures as spec;
+
+use crate::sei::has_recovery_point;
 
 /// What is looked for in a unit.
 #[derive(Clone, Copy)]
@@ -10,10 +12,18 @@ pub(crate) enum Structure {
     SequenceHeader,
     /// The sequence extension of ISO/IEC 13818-2 video.
     SequenceExtension,
+    /// The picture header of ISO/IEC 11172-2 and 13818-2 video.
+    PictureHeader,
     /// The sequence parameter set of ISO/IEC 14496-10 video.
     AvcParameters,
+    /// A slice of an IDR picture of ISO/IEC 14496-10 video.
+    IdrSlice,
+    /// SEI messages of ISO/IEC 14496-10 video with a recovery point.
+    RecoveryPoint,
     /// The sequence parameter set of ISO/IEC 23008-2 video.
     HevcParameters,
+    /// A slice of an IRAP picture of ISO/IEC 23008-2 video.
+    IrapSlice,
     /// The header of a frame of ISO/IEC 13818-7 audio.
     AdtsHeader,
 }
@@ -34,6 +44,17 @@ fn sequence_header(bytes: &[u8]) -> Option<&[u8]>
     match bytes {
         [] => None,
         [code, rest @ ..] => if *code == 0xb3 { Some(rest) } else { None },
+    }
+}
+
+// The bytes after the start code of a picture header.
+#[tactic(auto, unfolding(crate::specs::Structures::picture_header))]
+fn picture_header(bytes: &[u8]) -> Option<&[u8]>
+    ensures { option_map (λ rest. rest.now) result ≡ spec.picture_header bytes.now }
+{
+    match bytes {
+        [] => None,
+        [code, rest @ ..] => if *code == 0x00 { Some(rest) } else { None },
     }
 }
 
@@ -74,6 +95,34 @@ fn avc_parameters(bytes: &[u8]) -> Option<&[u8]>
     }
 }
 
+// The bytes of a slice of an IDR picture.
+#[tactic(auto, unfolding(crate::specs::Structures::idr_slice))]
+fn idr_slice(bytes: &[u8]) -> Option<&[u8]>
+    ensures { option_map (λ rest. rest.now) result ≡ spec.idr_slice bytes.now }
+{
+    match bytes {
+        [] => None,
+        [header, rest @ ..] => if *header % 32 == 5 { Some(rest) } else { None },
+    }
+}
+
+// The bytes of SEI messages with a recovery point.
+#[tactic(auto, unfolding(crate::specs::Structures::recovery_point))]
+fn recovery_point(bytes: &[u8]) -> Option<&[u8]>
+    ensures { option_map (λ rest. rest.now) result ≡ spec.recovery_point bytes.now }
+{
+    match bytes {
+        [] => None,
+        [header, rest @ ..] => {
+            if *header % 32 == 6 && has_recovery_point(rest) {
+                Some(rest)
+            } else {
+                None
+            }
+        }
+    }
+}
+
 // The bytes of a sequence parameter set of ISO/IEC 23008-2.
 #[tactic(auto, unfolding(crate::specs::Structures::hevc_parameters))]
 fn hevc_parameters(bytes: &[u8]) -> Option<&[u8]>
@@ -82,6 +131,23 @@ fn hevc_parameters(bytes: &[u8]) -> Option<&[u8]>
     match bytes {
         [first, second, rest @ ..] => {
             if *first == 0x42 && *second < 8 {
+                Some(rest)
+            } else {
+                None
+            }
+        }
+        _ => None,
+    }
+}
+
+// The bytes of a slice of an IRAP picture.
+#[tactic(auto, unfolding(crate::specs::Structures::irap_slice))]
+fn irap_slice(bytes: &[u8]) -> Option<&[u8]>
+    ensures { option_map (λ rest. rest.now) result ≡ spec.irap_slice bytes.now }
+{
+    match bytes {
+        [first, second, rest @ ..] => {
+            if *first / 16 == 2 && *first % 2 == 0 && *second < 8 {
                 Some(rest)
             } else {
                 None
@@ -116,8 +182,12 @@ fn at_front(structure: Structure, bytes: &[u8]) -> Option<&[u8]>
     match structure {
         Structure::SequenceHeader => sequence_header(after_start_code(bytes)?),
         Structure::SequenceExtension => sequence_extension(after_start_code(bytes)?),
+        Structure::PictureHeader => picture_header(after_start_code(bytes)?),
         Structure::AvcParameters => avc_parameters(after_start_code(bytes)?),
+        Structure::IdrSlice => idr_slice(after_start_code(bytes)?),
+        Structure::RecoveryPoint => recovery_point(after_start_code(bytes)?),
         Structure::HevcParameters => hevc_parameters(after_start_code(bytes)?),
+        Structure::IrapSlice => irap_slice(after_start_code(bytes)?),
         Structure::AdtsHeader => adts_header(bytes),
     }
 }
@@ -135,6 +205,16 @@ fn found_in(structure: Structure, unit: &[u8]) -> Option<&[u8]>
         left = rest;
     }
     None
+}
+
+/// Returns whether a unit has a structure of this kind.
+pub(crate) fn has(structure: Structure, unit: &[u8]) -> bool
+    ensures { result ≡ spec.has structure unit.now }
+{
+    match found_in(structure, unit) {
+        Some(_) => true,
+        None => false,
+    }
 }
 
 /// Returns the bytes of the first structure of this kind in a unit, without its beginning; none where there is none.

@@ -5,6 +5,7 @@ use Rattle.std.proofs.lemmas.List.{append_assoc, append-nil}
 use Rattle.std.proofs.lemmas.List.Elements.{All-nil, All-cons, All-append}
 use Rattle.demux.specs.Views.{FindingView}
 use Rattle.stream_programs.specs.Streams.{FoundStreamView}
+use Rattle.es_units.specs.ApartUnits.{apart_units}
 use Rattle.es_units.specs.CarriedUnits.{CarriedUnit, carried_units}
 use Rattle.es_units.specs.MadeDts.{made_units}
 use Rattle.stream_coding.specs.Codings.{is_ac3}
@@ -34,7 +35,8 @@ unless_carried P (Some why) w holds = All-nil P
 stamped_units : (made : Bool) (pid : _) (findings : List FindingView) (us : List CarriedUnit) →
     with_stamps made pid (carried_units pid findings) ≡ Ok us → us ≡ source_of made pid findings
 unfolding with_stamps source_of
-stamped_units false pid findings us is = cc
+stamped_units false pid findings us is =
+    sym (ok_same (apart_units (carried_units pid findings)) us (Ok (apart_units (carried_units pid findings))) refl is)
 stamped_units true pid findings us is =
     sym (ok_same (made_units (carried_units pid findings)) us (Ok (made_units (carried_units pid findings))) refl
     (granted (dts_refusal pid (carried_units pid findings)) (Ok (made_units (carried_units pid findings))) us is))

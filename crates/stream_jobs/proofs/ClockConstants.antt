@@ -17,7 +17,7 @@ use Rattle.stream_jobs.specs.JobOptions.{JobOptionsView}
 use Rattle.stream_jobs.specs.JobPrograms.{JobProgramView, clock_in}
 use Rattle.stream_jobs.specs.Jobs.{IsCarried}
 use Rattle.stream_jobs.specs.JobStreams.{TimedStreamView, WireStreamView}
-use Rattle.stream_jobs.specs.Moments.{base_for, base_of, base_of_first, earliest, first_base, first_dts_of, firsts, moved_by, moved_stream, moved_streams, stamps_of, stamps_refusal, wire_of, with_moments}
+use Rattle.stream_jobs.specs.Moments.{base_for, base_of, base_of_first, earliest, first_base, first_dts_of, firsts, moved_by, moved_stream, moved_streams, stamps_of, stamps_refusal, pts_limit_of, wire_of, with_moments}
 use Rattle.stream_jobs.proofs.MovedInputs.{moved_of}
 use Rattle.stream_jobs.proofs.Steps.{granted, not_against, comes, same_value, each_all}
 
@@ -38,7 +38,7 @@ with_its_moments : (findings : List FindingView) (due : ℕ) (programs : List Jo
 unfolding moved_by moved_stream
 with_its_moments findings due programs all s t is =
     let base = base_of due all (clock_in programs s.program) in
-    same_value (with_moments base s) t (granted (option_map (stamps_refusal findings s.pid) (first_fault base None 0 (wire_of s))) (Ok (with_moments base s)) t is)
+    same_value (with_moments base s) t (granted (option_map (stamps_refusal findings s.pid) (first_fault (pts_limit_of s.stream_type s.descriptors) base None 0 (wire_of s))) (Ok (with_moments base s)) t is)
 
 its_program : (findings : List FindingView) (due : ℕ) (programs : List JobProgramView) (all : List FirstDts) (s : WireStreamView) (t : TimedStreamView) →
     moved_by findings due programs all s ≡ Ok t → s.program ≡ t.program
@@ -50,13 +50,14 @@ one_moved : (made : Bool) (findings : List FindingView) (due : ℕ) (programs : 
 unfolding moved_by moved_stream with_moments base_of
 one_moved made findings due programs all s t carried is =
     let base = base_for due (stamps_of (clock_in programs s.program) all) in
-    let against = option_map (stamps_refusal findings s.pid) (first_fault base None 0 (wire_of s)) in
-    let none = no_value (stamps_refusal findings s.pid) (first_fault base None 0 (wire_of s)) (not_against against (Ok (with_moments base s)) t is) in
+    let against = option_map (stamps_refusal findings s.pid) (first_fault (pts_limit_of s.stream_type s.descriptors) base None 0 (wire_of s)) in
+    let none = no_value (stamps_refusal findings s.pid) (first_fault (pts_limit_of s.stream_type s.descriptors) base None 0 (wire_of s)) (not_against against (Ok (with_moments base s)) t is) in
     let wire : wire_of s ≡ map (λ u. u.unit) (source_of made s.pid findings) = ap (map (λ u. u.unit)) carried in
     subst (λ (x : TimedStreamView). IsMovedBy made findings (base_for due (stamps_of (clock_in programs x.program) all)) x)
     (with_its_moments findings due programs all s t is)
     (record {
       range = in_range due (stamps_of (clock_in programs s.program) all);
+      limit = pts_limit_of s.stream_type s.descriptors;
       sound = rw (sym wire) none;
       are = rw (sym wire) refl;
     })

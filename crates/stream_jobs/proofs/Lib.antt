@@ -5,6 +5,7 @@ mod Elements
 pub mod JobUnits
 mod AndThen
 mod JobInputs
+mod AskedMarks
 mod NewPlaces
 pub mod NewNumbersApart
 mod NewNumbersBecome

@@ -1,5 +1,5 @@
 -- Streams of whose units the moments alone are known, and with the bytes of these.
-use Rattle.std.proofs.Common.{◌≡◌, ◌∙◌, ◌<◌, ◌≤◌, ◌^◌, ℕ, Bool, true, false, None, List, map, Result, Ok, Err, IfOk, All, length, refl, sym, ap, subst}
+use Rattle.std.proofs.Common.{◌≡◌, ◌∙◌, ◌<◌, ◌≤◌, ◌^◌, ℕ, Bool, true, false, None, List, map, Result, Ok, Err, IfOk, All, length, sym, ap, subst}
 use Rattle.pes_packet.specs.AccessUnits.{AccessUnit}
 use Rattle.demux.specs.Views.{FindingView}
 use Rattle.es_units.specs.CarriedUnits.{CarriedUnit, carried_units}
@@ -7,6 +7,7 @@ use Rattle.es_units.specs.MadeDts.{made_units}
 use Rattle.es_units.specs.Stamps.{first_fault, moved}
 use Rattle.es_units.specs.UnitMoments.{moment_of, units_at}
 use Rattle.es_units.specs.declared.unit_moments.UnitMoment.{UnitMoment}
+use Rattle.es_units.proofs.ApartUnits.{apart_contents}
 use Rattle.es_units.proofs.MadeDts.{made_contents}
 use Rattle.es_units.proofs.UnitMoments.{at_own, contents}
 use Rattle.stream_jobs.specs.declared.moved_streams.FirstDts.{FirstDts}
@@ -19,11 +20,11 @@ use Rattle.stream_jobs.specs.declared.refusal.JobError.{JobError}
 use Rattle.stream_jobs.specs.JobInput.{JobInputView}
 use Rattle.stream_jobs.specs.Jobs.{AreStreams, FitsQueue, IsCarried, IsMoved}
 use Rattle.stream_jobs.specs.JobStreams.{TimedStreamView, WireStreamView}
-use Rattle.stream_jobs.specs.Moments.{base_of, moved_by, moved_stream, wire_of, with_moments}
+use Rattle.stream_jobs.specs.Moments.{base_of, moved_by, moved_stream, pts_limit_of, wire_of, with_moments}
 
 source_contents : (made : Bool) (pid : ℕ) (findings : List FindingView) → contents (source_of made pid findings) ≡ contents (carried_units pid findings)
 unfolding source_of
-source_contents false pid findings = refl
+source_contents false pid findings = apart_contents (carried_units pid findings)
 source_contents true pid findings = made_contents (carried_units pid findings)
 
 -- with these at the moments of its units it is as if they were moved
@@ -48,7 +49,7 @@ head_of s ms = record {
 
 -- its units have those of the constant of its program's clock
 pub moved_leads : (made : Bool) (findings : List FindingView) (due base : ℕ) (programs : List JobProgramView) (all : List FirstDts) (s : WireStreamView) (ms : List UnitMoment) (h : StreamMomentsView) →
-    base ≡ base_of due all (clock_in programs s.program) → IsCarried made findings s → first_fault base None 0 (wire_of s) ≡ None → ms ≡ map moment_of (moved base None (wire_of s)) → h ≡ head_of s ms →
+    base ≡ base_of due all (clock_in programs s.program) → IsCarried made findings s → first_fault (pts_limit_of s.stream_type s.descriptors) base None 0 (wire_of s) ≡ None → ms ≡ map moment_of (moved base None (wire_of s)) → h ≡ head_of s ms →
     moved_by findings due programs all s ≡ Ok (timed_stream findings h)
 unfolding moved_by moved_stream with_moments with_units unless
 moved_leads made findings due base programs all s ms h based carried sound is head =
@@ -63,7 +64,7 @@ moved_leads made findings due base programs all s ms h based carried sound is he
     }) in r) (sym (at_source made s.pid base findings s.units ms carried is)))
 
 pub moved_is : (made : Bool) (findings : List FindingView) (base : ℕ) (s : WireStreamView) (ms : List UnitMoment) (h : StreamMomentsView) →
-    base < 2 ^ 33 → IsCarried made findings s → first_fault base None 0 (wire_of s) ≡ None → ms ≡ map moment_of (moved base None (wire_of s)) → h ≡ head_of s ms →
+    base < 2 ^ 33 → IsCarried made findings s → first_fault (pts_limit_of s.stream_type s.descriptors) base None 0 (wire_of s) ≡ None → ms ≡ map moment_of (moved base None (wire_of s)) → h ≡ head_of s ms →
     IsMoved made findings (timed_stream findings h)
 unfolding with_units
 moved_is made findings base s ms h range carried sound is head =
@@ -71,7 +72,8 @@ moved_is made findings base s ms h range carried sound is head =
       base = base;
       moved = record {
         range = range;
-        sound = subst (λ (us : List CarriedUnit). first_fault base None 0 (map (λ (u : CarriedUnit). u.unit) us) ≡ None) carried sound;
+        limit = pts_limit_of s.stream_type s.descriptors;
+        sound = subst (λ (us : List CarriedUnit). first_fault (pts_limit_of s.stream_type s.descriptors) base None 0 (map (λ (u : CarriedUnit). u.unit) us) ≡ None) carried sound;
         are = at_source made s.pid base findings s.units ms carried is ∙ ap (λ (us : List CarriedUnit). moved base None (map (λ (u : CarriedUnit). u.unit) us)) carried;
       };
     } in

@@ -2,22 +2,26 @@
 use Rattle.std.specs.Prelude.{◌≡◌, ◌≤◌, ◌<◌, ℕ, ◌^◌, Bool, true, false, None, List, map}
 use Rattle.pes_packet.specs.AccessUnits.{AccessUnit}
 use Rattle.demux.specs.Views.{FindingView}
+use Rattle.es_units.specs.ApartUnits.{apart_units}
 use Rattle.es_units.specs.CarriedUnits.{CarriedUnit, carried_units}
 use Rattle.es_units.specs.MadeDts.{made_units}
-use Rattle.es_units.specs.Declaration.{min_interval, max_unit_size, AllowsUnits}
+use Rattle.es_units.specs.Declaration.{min_interval, max_unit_size, max_pts_after, AllowsUnits}
 use Rattle.es_units.specs.Laws.{FirstDue}
 use Rattle.es_units.specs.Stamps.{moved, first_fault}
 use Rattle.description.specs.Described.{Described, DescribedStream}
 
--- units as on the wire, at the moments that they have where the clock shows `base` at moment 0
+-- units as on the wire, at the moments that they have where the clock shows `base` at moment 0, each presented within some limit after its
+-- DTS
 pub record AreMoved (wire : List AccessUnit) (base : ℕ) (us : List AccessUnit) : Type 0 where
   pub range : base < 2 ^ 33
-  pub sound : first_fault base None 0 wire ≡ None
+  pub limit : ℕ
+  pub sound : first_fault limit base None 0 wire ≡ None
   pub are : us ≡ moved base None wire
 
--- the units that are found of a PID, with DTS that are made from their PTS where that is asked for
+-- the units that are found of a PID, each of a data stream with a DTS of its own; or with DTS that are made from their PTS where that is
+-- asked for
 unfoldable pub source_of : Bool → ℕ → List FindingView → List CarriedUnit
-source_of false pid findings = carried_units pid findings
+source_of false pid findings = apart_units (carried_units pid findings)
 source_of true pid findings = made_units (carried_units pid findings)
 
 -- these at moments by one constant
@@ -29,5 +33,6 @@ pub record AreFound (made : Bool) (findings : List FindingView) (pid : ℕ) (us 
 pub record Declares (d : Described) (s : DescribedStream) (us : List AccessUnit) : Type 0 where
   pub interval : s.interval ≤ min_interval us
   pub size : max_unit_size us ≤ s.size
+  pub pts : max_pts_after us ≤ s.pts_limit
   pub lead : FirstDue s.lead us
   pub allowance : AllowsUnits s.allowance s.stream_id d.base0 us

@@ -68,7 +68,7 @@ change_warnings a named findings =
 unfoldable pub table_warnings : JobOptionsView → AssociationView → List Program → List FindingView → FoundProgramsView → List Warning
 table_warnings options a named findings found =
     (((change_warnings a named findings ++ map warnings.Table found.left_out) ++ stray_warnings options.without a findings)
-    ++ option_warnings options.programs options.without options.buffers options.names a found.streams)
+    ++ option_warnings options.programs options.without options.buffers options.names options.aligned a found.streams)
     ++ network_warnings options.network a.transport_stream_id findings
 
 -- and about streams that are not carried

@@ -10,7 +10,9 @@ use Rattle.stream_coding.specs.declared.buffers.PidBuffers.{PidBuffers}
 
 -- the rate in bits a second, if one is asked for; the moment of the first slot as its characters, if it is given; limits in ms and in units
 -- of 90 kHz; by what the packets of units are declared; whether DTS are made from PTS; whether a stream that can't be carried refuses the
--- input; what the system clock shows as the run begins; the network and the names of services in place of those of the stream; the programs that are taken, none for all; PIDs that are left out; and buffers in place of those by coding
+-- input; what the system clock shows as the run begins; the network and the names of services in place of those of the stream; the programs
+-- that are taken, none for all; PIDs that are left out; buffers in place of those by coding; whether units at which a decoder may begin are
+-- marked; and PIDs whose units are aligned
 pub record JobOptionsView : Type 0 where
   pub rate : Option ℕ
   pub start : Option (List ℕ)
@@ -25,6 +27,8 @@ pub record JobOptionsView : Type 0 where
   pub programs : List ℕ
   pub without : List ℕ
   pub buffers : List PidBuffers
+  pub mark_access : Bool
+  pub aligned : List ℕ
 
 unfoldable pub is_among : ℕ → List ℕ → Bool
 is_among number numbers = list_any (λ other. other == number) numbers

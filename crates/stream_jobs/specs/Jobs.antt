@@ -8,7 +8,7 @@ use Rattle.demux.specs.Views.{FindingView}
 use Rattle.description.specs.Described.{Described, DescribedEntry, DescribedProgram, DescribedStream, DescribedTable}
 use Rattle.unit_timing.specs.declared.allowance.Allowance.{Allowance}
 use Rattle.unit_timing.specs.declared.allowance.Allowance.TheVariants.{Groups, Pace}
-use Rattle.es_units.specs.Declaration.{min_interval, max_unit_size, group_packets, burst_packets}
+use Rattle.es_units.specs.Declaration.{min_interval, max_unit_size, max_pts_after, group_packets, burst_packets}
 use Rattle.es_units.specs.Merging.{AreMerged}
 use Rattle.stream_jobs.specs.JobPrograms.{JobProgramView}
 use Rattle.stream_jobs.specs.JobInput.{JobInputView}
@@ -137,8 +137,9 @@ unfoldable pub keeps : Described → DescribedStream → List AccessUnit → Boo
 keeps d s us =
     nat_le s.interval (min_interval us)
     && (nat_le (max_unit_size us) s.size
+    && (nat_le (max_pts_after us) s.pts_limit
     && (first_due s.lead us
-    && allows_units s.allowance s.stream_id d.base0 us))
+    && allows_units s.allowance s.stream_id d.base0 us)))
 
 -- the PID of the clock references of the first program that is not the declared one in its place
 unfoldable pub first_other_program : List DescribedProgram → List JobProgramView → Option ℕ

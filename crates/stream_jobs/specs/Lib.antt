@@ -18,6 +18,7 @@ pub mod WireStreams
 pub mod BufferWarnings
 pub mod JobInput
 pub mod InputDrafts
+pub mod AskedMarks
 pub mod TakenStreams
 pub mod Texts
 pub mod FoundUnits

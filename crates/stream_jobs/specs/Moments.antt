@@ -1,5 +1,5 @@
 -- The units of streams at the moments of a run.
-use Rattle.std.specs.Prelude.{ℕ, ◌+◌, ◌%◌, ◌^◌, nat_lt, ◌==◌, Bool, is_none, if◌then◌else◌, List, [], ◌∷◌, length, map, filter, sum_by, slice_get, unwrap_or, None, option_map, Result, Ok}
+use Rattle.std.specs.Prelude.{ℕ, ◌+◌, ◌*◌, ◌%◌, ◌^◌, nat_lt, ◌==◌, Bool, is_none, if◌then◌else◌, List, [], ◌∷◌, length, map, filter, sum_by, slice_get, unwrap_or, None, option_map, Result, Ok}
 use Rattle.std.specs.List.{list_any}
 use Rattle.pes_packet.specs.AccessUnits.{AccessUnit}
 use Rattle.demux.specs.Views.{FindingView}
@@ -11,6 +11,7 @@ use Rattle.stream_jobs.specs.declared.moved_streams.FirstDts.{FirstDts}
 use Rattle.stream_jobs.specs.declared.program_clock.ProgramClock.{ProgramClock}
 use Rattle.stream_jobs.specs.declared.refusal.JobRefusal.{JobRefusal}
 use Rattle.stream_jobs.specs.declared.refusal.JobRefusal.TheVariants as refusals
+use Rattle.stream_coding.specs.Stays.{longest_stay}
 use Rattle.stream_jobs.specs.Answers.{unless, each}
 use Rattle.stream_jobs.specs.JobPrograms.{JobProgramView, clock_in}
 use Rattle.stream_jobs.specs.JobTables.{JobTableView}
@@ -89,6 +90,10 @@ is_mended findings pid = is_none (dts_fault (pts_of (carried_units pid findings)
 unfoldable pub stamps_refusal : List FindingView → ℕ → ℕ × StampFault → JobRefusal
 stamps_refusal findings pid fault = refusals.Stamps (packet_of findings pid fault.0) pid fault.1 (is_mended findings pid)
 
+-- how long after its DTS a unit of the stream may be presented, in units of 90 kHz: as long as a byte may stay in its decoder
+abbrev pub pts_limit_of : ℕ → List ℕ → ℕ
+pts_limit_of stream_type descriptors = 90_000 * longest_stay stream_type descriptors
+
 abbrev pub wire_of : WireStreamView → List AccessUnit
 wire_of s = map (λ u. u.unit) s.units
 
@@ -106,7 +111,7 @@ with_moments base s = record {
 -- a stream with its units at moments by a constant
 unfoldable pub moved_stream : List FindingView → ℕ → WireStreamView → Result TimedStreamView JobRefusal
 moved_stream findings base s =
-    unless (option_map (stamps_refusal findings s.pid) (first_fault base None 0 (wire_of s))) (Ok (with_moments base s))
+    unless (option_map (stamps_refusal findings s.pid) (first_fault (pts_limit_of s.stream_type s.descriptors) base None 0 (wire_of s))) (Ok (with_moments base s))
 
 -- those of a clock have one constant
 unfoldable pub moved_by : List FindingView → ℕ → List JobProgramView → List FirstDts → WireStreamView → Result TimedStreamView JobRefusal

@@ -10,7 +10,7 @@ use Rattle.stream_jobs.specs.declared.refusal.JobRefusal.{JobRefusal}
 use Rattle.stream_jobs.specs.Declarations.{MeasuredView, UnitCountsView, buffers_refusal, is_declared, length_refusal, measured, unit_counts}
 use Rattle.stream_jobs.specs.JobOptions.{JobOptionsView}
 use Rattle.stream_jobs.specs.JobStreams.{TimedStreamView, WireStreamView}
-use Rattle.stream_jobs.specs.Moments.{first_dts, stamps_refusal, wire_of, with_moments}
+use Rattle.stream_jobs.specs.Moments.{first_dts, pts_limit_of, stamps_refusal, wire_of, with_moments}
 
 -- 1. Stamps that are no moments, whatever the clock shows as the run begins
 
@@ -24,7 +24,7 @@ IsOddBy odd Memory = ⊤
 IsOddBy odd (Refused why) = odd ≡ Some why
 
 unfoldable pub odd_stamps : List FindingView → WireStreamView → Option JobRefusal
-odd_stamps findings w = option_map (stamps_refusal findings w.pid) (first_fault (own_base w) None 0 (wire_of w))
+odd_stamps findings w = option_map (stamps_refusal findings w.pid) (first_fault (pts_limit_of w.stream_type w.descriptors) (own_base w) None 0 (wire_of w))
 
 -- 2. Units that nothing declares: too many, too large, or more than their buffers let in, even if the output is as fast as can be
 

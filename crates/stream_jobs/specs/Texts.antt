@@ -1,5 +1,7 @@
 -- The description of a job as text.
-use Rattle.std.specs.Prelude.{ℕ, ◌-◌, ◌^◌, min, None, List, ◌++◌, flat_map, zip}
+use Rattle.std.specs.Prelude.{ℕ, ◌-◌, ◌^◌, min, nat_le, if◌then◌else◌, Option, Some, None, List, ◌++◌, flat_map, zip}
+use Rattle.pes_packet.specs.AccessUnits.{AccessUnit}
+use Rattle.es_units.specs.Declaration.{max_pts_after}
 use Rattle.job_text.specs.DescriptionParts.{EventPartView, HeadingView, ProgramPartView, StreamPartView}
 use Rattle.job_text.specs.Texts.{event_text, heading_text, network_if_any, program_text, stream_text}
 use Rattle.stream_programs.specs.Services.{FoundServiceView}
@@ -10,6 +12,7 @@ use Rattle.stream_jobs.specs.JobInput.{JobInputView}
 use Rattle.stream_jobs.specs.JobOptions.{JobOptionsView}
 use Rattle.stream_jobs.specs.JobTables.{tables_text}
 use Rattle.stream_jobs.specs.JobStreams.{TimedStreamView}
+use Rattle.stream_jobs.specs.Moments.{pts_limit_of}
 
 -- 1. The head: at a rate in bits a second, a number of 32 bits
 
@@ -44,6 +47,10 @@ program_part pcr_limit p = program_with pcr_limit p.0 p.1
 
 -- 3. Streams
 
+-- the limit that a description has to say of units: where one is presented over a second after its DTS
+unfoldable pub declared_limit : ℕ → List ℕ → List AccessUnit → Option ℕ
+declared_limit stream_type descriptors us = if nat_le (max_pts_after us) 90_000 then None else Some (pts_limit_of stream_type descriptors)
+
 unfoldable pub stream_part : TimedStreamView × (UnitCountsView × StreamChoice) → StreamPartView
 stream_part s = record {
   program = s.0.program;
@@ -53,6 +60,7 @@ stream_part s = record {
   interval = s.1.0.needs.interval;
   size = s.1.0.needs.size;
   lead = s.1.1.choice.lead;
+  pts_limit = declared_limit s.0.stream_type s.0.descriptors s.0.units;
   rx = s.1.0.needs.rx;
   main = s.1.0.needs.main;
   descriptors = s.0.descriptors;

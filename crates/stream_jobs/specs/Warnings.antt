@@ -80,9 +80,11 @@ buffer_warning streams b = pid_option_warning streams b.pid
 unfoldable pub name_warning : AssociationView → ServiceNameView → List Warning
 name_warning a n = selection_warning a n.program
 
-unfoldable pub option_warnings : List ℕ → List ℕ → List PidBuffers → List ServiceNameView → AssociationView → List FoundStreamView → List Warning
-option_warnings programs without buffers names a streams =
-    ((flat_map (selection_warning a) programs ++ flat_map (pid_option_warning streams) without) ++ flat_map (buffer_warning streams) buffers) ++ flat_map (name_warning a) names
+unfoldable pub option_warnings : List ℕ → List ℕ → List PidBuffers → List ServiceNameView → List ℕ → AssociationView → List FoundStreamView → List Warning
+option_warnings programs without buffers names aligned a streams =
+    (((flat_map (selection_warning a) programs ++ flat_map (pid_option_warning streams) without) ++ flat_map (buffer_warning streams) buffers)
+    ++ flat_map (name_warning a) names)
+    ++ flat_map (pid_option_warning streams) aligned
 
 -- 6. The network of the stream, if no other is given: what its tables say that is not carried, and a name that can't be read
 

@@ -4,6 +4,7 @@ use Rattle.std.specs.List.{list_any}
 use Rattle.demux.specs.Views.{FindingView}
 use Rattle.stream_coding.specs.Codings.{is_ac3}
 use Rattle.stream_programs.specs.Streams.{FoundStreamView}
+use Rattle.es_units.specs.ApartUnits.{apart_units}
 use Rattle.es_units.specs.CarriedUnits.{CarriedUnit, carried_units}
 use Rattle.es_units.specs.MadeDts.{dts_fault, made_units, pts_of}
 use Rattle.es_units.specs.StreamIds.{first_other_at, written_id}
@@ -35,13 +36,14 @@ unfoldable pub common_id : ℕ → Bool → List CarriedUnit → Result ℕ JobR
 common_id pid ac3 [] = Err refusals.NoStream
 common_id pid ac3 (u ∷ us) = unless (other_id_refusal pid u.stream_id (u ∷ us)) (id_of ac3 u)
 
--- 2. The stamps: those of the stream, or DTS that are made from PTS
+-- 2. The stamps: those of the stream, where units of a data stream that are due at one moment have DTS of their own; or DTS that are made from
+-- PTS
 
 unfoldable pub dts_refusal : ℕ → List CarriedUnit → Option JobRefusal
 dts_refusal pid units = option_map (refusals.Dts pid) (dts_fault (pts_of units))
 
 unfoldable pub with_stamps : Bool → ℕ → List CarriedUnit → Result (List CarriedUnit) JobRefusal
-with_stamps false pid units = Ok units
+with_stamps false pid units = Ok (apart_units units)
 with_stamps true pid units = unless (dts_refusal pid units) (Ok (made_units units))
 
 -- 3. A stream

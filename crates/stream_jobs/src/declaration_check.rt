@@ -12,7 +12,7 @@ use crate::job_programs::JobProgram;
 use crate::job_stream::TimedStream;
 use crate::table_check::first_other_table;
 use description::{Description, ProgramDescription, StreamDescription};
-use es_units::{CountedPackets, UnitRuns, max_unit_size, min_interval};
+use es_units::{CountedPackets, UnitRuns, max_pts_after, max_unit_size, min_interval};
 use pes_packet::Unit;
 use std::alloc::{AllocError, Global};
 use unit_timing::allowance::Allowance;
@@ -72,8 +72,9 @@ fn declares(
 {
     let size = max_unit_size(units) <= declared.size as usize;
     let interval = declared.interval <= min_interval(units);
+    let pts = max_pts_after(units) <= u64::from(declared.pts_limit);
     let lead = first_due(u64::from(declared.lead), units);
-    if !(interval && size && lead) {
+    if !(interval && size && pts && lead) {
         return Ok(false);
     }
     packets_fit(alloc, description.base0(), declared, units)

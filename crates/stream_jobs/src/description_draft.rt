@@ -15,6 +15,7 @@ use crate::job_options::JobOptions;
 use crate::job_programs::JobProgram;
 use crate::job_stream::TimedStream;
 use crate::named_service::NamedService;
+use crate::pts_limit::declared_limit;
 use crate::refusal::{JobError, JobRefusal};
 use crate::table_lines::write_tables;
 use description::{DescError, Description};
@@ -158,6 +159,7 @@ fn write_stream(
         interval: unit_counts.needs.interval,
         size: unit_counts.needs.size,
         lead: choice.choice.lead,
+        pts_limit: declared_limit(stream),
         rx: unit_counts.needs.rx,
         main: unit_counts.needs.main,
         descriptors: &stream.descriptors,

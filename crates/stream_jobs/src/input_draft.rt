@@ -74,8 +74,8 @@ fn is_selected_program(selected: &[u16], program: &Program) -> bool
     selected.is_empty() || is_among(program.program_number, selected)
 }
 
-// The programs that are taken.
-fn selected_programs(
+/// Returns the programs that are taken.
+pub(crate) fn selected_programs(
     alloc: Global,
     selected: &[u16],
     named: &[Program],
@@ -103,8 +103,8 @@ fn change_warnings(
     let mut warnings = Vec::new(alloc);
     push_packet_warnings(findings, &mut warnings)?;
     push_association_warning(association, findings, &mut warnings)?;
-    push_map_warnings(MapPart::NamedStreams, named, findings, &mut warnings)?;
-    push_map_warnings(MapPart::Descriptors, named, findings, &mut warnings)?;
+    push_map_warnings(alloc, MapPart::NamedStreams, named, findings, &mut warnings)?;
+    push_map_warnings(alloc, MapPart::Descriptors, named, findings, &mut warnings)?;
     Ok(warnings)
 }
 
@@ -129,6 +129,7 @@ fn table_warnings(
         options.without,
         options.buffers,
         options.names,
+        options.aligned,
         association,
         &found.streams,
         &mut warnings,

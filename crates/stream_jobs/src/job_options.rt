@@ -36,6 +36,10 @@ pub struct JobOptions<'a> {
     pub without: &'a [u16],
     /// Buffers in place of the buffers by coding and level.
     pub buffers: &'a [PidBuffers],
+    /// Whether the units at which a decoder may begin are marked.
+    pub mark_access: bool,
+    /// The PIDs whose units are aligned.
+    pub aligned: &'a [u16],
 }
 
 // A contract sees its texts and lists.
@@ -60,6 +64,8 @@ impl<'a> Model for JobOptions<'a> {
       programs = o.programs.now;
       without = o.without.now;
       buffers = o.buffers.now;
+      mark_access = o.mark_access;
+      aligned = o.aligned.now;
     } };
 }
 

@@ -1,7 +1,13 @@
 //! Laws of the definitions. Each function does nothing: its contract is the law.
 
+ghost use Rattle.stream_jobs.specs.AskedMarks.{NoneIsAsked};
 ghost use Rattle.stream_jobs.specs.NewNumbers.{PlacesAreApart};
 ghost use Rattle.stream_jobs.specs.NumbersApart.{JoinedAreApart};
+
+/// States that options that ask for no mark change nothing of what is found.
+pub fn none_is_asked()
+    ensures { NoneIsAsked }
+{}
 
 /// States that no number given to an input belongs to an input before, and that no two are equal.
 pub fn places_are_apart()

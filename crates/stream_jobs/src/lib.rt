@@ -1,7 +1,7 @@
 //! Jobs from any transport stream: a description, a plan that serves it, and the units of its streams.
 //!
-//! `job_input` says what a job takes from a demultiplexer's findings, its warnings, and what it refuses
-//! (`specs/JobInput`). Step by step: the packets (`specs/Packets`), the programs and streams that the options select
+//! `mark_as_asked` sets the marks that options ask for on a demultiplexer's findings (`specs/AskedMarks`). `job_input` says what a
+//! job takes from them, its warnings, and what it refuses (`specs/JobInput`). Step by step: the packets (`specs/Packets`), the programs and streams that the options select
 //! (`specs/JobOptions`, `specs/GivenNames`, `specs/JobPrograms`), their private sections (`specs/JobTables`), the information of the transport stream as a
 //! whole (`specs/Information`), the units of the streams with the stamps on the wire (`specs/WireStreams`, `specs/OddStreams`) and at
 //! moments of a run (`specs/Moments`, `specs/ProgramClocks`, `specs/ClockBases`), whose bytes are moved out of the findings last
@@ -12,6 +12,7 @@
 #![tactic(auto)]
 
 mod alike;
+mod asked_marks;
 mod buffer_warnings;
 mod choices;
 mod clock_base;
@@ -41,6 +42,7 @@ mod odd_streams;
 mod option_warnings;
 mod packets;
 mod program_clock;
+mod pts_limit;
 mod rates;
 mod refusal;
 mod renumbered_inputs;
@@ -52,11 +54,12 @@ mod warning;
 mod warnings;
 mod wire_streams;
 
+pub use asked_marks::mark_as_asked;
 pub use input::{JobInput, job_input};
 pub use job::{Job, describe, found_rate, make_job, units, unplanned_description};
 pub use job_options::JobOptions;
 pub use joined_inputs::{InputNote, JoinedInputs, NoteCause, Origin, join_inputs};
-pub use laws::{joined_are_apart, places_are_apart};
+pub use laws::{joined_are_apart, none_is_asked, places_are_apart};
 pub use new_numbers::NewNumber;
 pub use refusal::{GreaterBuffers, JobError, JobRefusal};
 pub use warning::{PacketWarning, ProgramWarning, Warning};

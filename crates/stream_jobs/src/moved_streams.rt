@@ -10,6 +10,7 @@ ghost use Rattle.stream_jobs.specs.Moments as spec;
 use crate::job_programs::{JobProgram, clock_in};
 use crate::job_stream::{StreamMoments, WireStream};
 use crate::program_clock::{ProgramClock, is_same_clock};
+use crate::pts_limit::stream_limit;
 use crate::refusal::{JobError, JobRefusal};
 use clock27::STAMP_MODULUS;
 use demux::Finding;
@@ -169,7 +170,8 @@ fn moved_by(
     let pid = stream.pid;
     let clock = clock_in(programs, stream.program);
     let base = base_of(alloc, earliest, clock, firsts)?;
-    match found_moments(alloc, base, &stream.units) {
+    let limit = stream_limit(&stream);
+    match found_moments(alloc, limit, base, &stream.units) {
         Ok(units) => Ok(StreamMoments {
             program: stream.program,
             pid,

@@ -13,6 +13,7 @@ use crate::greater_buffers::alone_refusal;
 use crate::job_options::JobOptions;
 use crate::job_stream::{TimedStream, WireStream};
 use crate::moved_streams::stamps_refusal;
+use crate::pts_limit::stream_limit;
 use crate::refusal::{JobError, JobRefusal};
 use crate::stream_measures::{StreamMeasures, found_measured, measured};
 use clock27::STAMP_MODULUS;
@@ -46,7 +47,8 @@ fn own_moments(
     ensures odd { IfErr result (spec.IsOddBy (spec.odd_stamps (map finding_view findings.now) stream.now)) }
 {
     let base = own_base(stream);
-    match found_moments(alloc, base, &stream.units) {
+    let limit = stream_limit(stream);
+    match found_moments(alloc, limit, base, &stream.units) {
         Ok(moments) => Ok(moments),
         Err(StampError::Memory) => Err(JobError::Memory),
         Err(StampError::Unit { index, fault }) => {

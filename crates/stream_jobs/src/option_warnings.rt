@@ -77,16 +77,16 @@ fn push_pid(
     Ok(())
 }
 
-// Appends the warnings about PIDs that are left out.
-fn push_without(
+// Appends the warnings about PIDs that options name.
+fn push_pids(
     streams: &[FoundStream],
-    without: &[u16],
+    pids: &[u16],
     warnings: &mut Vec<Warning>,
 ) -> Result<(), AllocError>
     ensures { OnOk result (warnings.new.items ≡ warnings.old.items
-        ++ flat_map (spec.pid_option_warning streams.now) without.now) }
+        ++ flat_map (spec.pid_option_warning streams.now) pids.now) }
 {
-    for pid in without {
+    for pid in pids {
         push_pid(streams, *pid, warnings)?;
     }
     Ok(())
@@ -152,16 +152,18 @@ pub(crate) fn push_option_warnings(
     without: &[u16],
     buffers: &[PidBuffers],
     names: &[ServiceName<'_>],
+    aligned: &[u16],
     association: &Association,
     streams: &[FoundStream],
     warnings: &mut Vec<Warning>,
 ) -> Result<(), AllocError>
     ensures { OnOk result (warnings.new.items ≡ warnings.old.items
-        ++ spec.option_warnings programs.now without.now buffers.now names.now association.now streams.now) }
+        ++ spec.option_warnings programs.now without.now buffers.now names.now aligned.now association.now streams.now) }
 {
     push_selections(association, programs, warnings)?;
-    push_without(streams, without, warnings)?;
+    push_pids(streams, without, warnings)?;
     push_buffers(streams, buffers, warnings)?;
     push_names(association, names, warnings)?;
+    push_pids(streams, aligned, warnings)?;
     Ok(())
 }

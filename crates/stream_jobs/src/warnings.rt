@@ -3,6 +3,7 @@
 ghost use Rattle.std.specs.Prelude.{◌≡◌, ◌++◌, ◌∷◌, [], IfOk, OnOk, List, length, map, flat_map, option_to_list};
 ghost use Rattle.demux.specs.Shown.{finding_view};
 ghost use Rattle.demux.specs.Views.{FindingView};
+ghost use Rattle.stream_programs.specs.MapPlaces.{AreChanges};
 ghost use Rattle.stream_programs.specs.PesCounts.{AreCounts};
 ghost use Rattle.stream_jobs.specs.Warnings as spec;
 ghost use Rattle.stream_jobs.specs.declared.warning.Warning.TheVariants.{Table, Units};
@@ -14,8 +15,8 @@ use es_units::{UnitWarning, unit_warnings};
 use psi_tables::Program;
 use std::alloc::{AllocError, Global};
 use stream_programs::{
-    Association, MapPart, TableOmission, association_change, found_programs, map_change,
-    mapped_pids, pes_counts, stray_pids,
+    Association, MapChanges, MapPart, TableOmission, association_change, found_programs,
+    map_changes, mapped_pids, pes_counts, stray_pids,
 };
 
 // The warning about a finding on no PID.
@@ -90,13 +91,13 @@ pub(crate) fn push_association_warning(
 fn push_map_warning(
     part: MapPart,
     program: Program,
-    findings: &[Finding<'_>],
+    changes: &MapChanges,
     warnings: &mut Vec<Warning>,
 ) -> Result<(), AllocError>
-    ensures { OnOk result (warnings.new.items ≡ warnings.old.items
-        ++ spec.map_warnings part (map finding_view findings.now) program) }
+    ensures { (findings : List FindingView) → AreChanges part findings changes.now →
+        OnOk result (warnings.new.items ≡ warnings.old.items ++ spec.map_warnings part findings program) }
 {
-    if let Some(packet) = map_change(part, program, findings) {
+    if let Some(packet) = changes.packet(program) {
         warnings.push(Warning::Map {
             program: program.program_number,
             packet,
@@ -106,8 +107,25 @@ fn push_map_warning(
     Ok(())
 }
 
+// Appends the warnings that the maps of programs change.
+fn push_each_map_warning(
+    part: MapPart,
+    programs: &[Program],
+    changes: &MapChanges,
+    warnings: &mut Vec<Warning>,
+) -> Result<(), AllocError>
+    ensures { (findings : List FindingView) → AreChanges part findings changes.now →
+        OnOk result (warnings.new.items ≡ warnings.old.items ++ spec.all_map_warnings part findings programs.now) }
+{
+    for program in programs {
+        push_map_warning(part, *program, changes, warnings)?;
+    }
+    Ok(())
+}
+
 /// Appends the warnings that the maps of programs change in a part.
 pub(crate) fn push_map_warnings(
+    alloc: Global,
     part: MapPart,
     programs: &[Program],
     findings: &[Finding<'_>],
@@ -116,10 +134,8 @@ pub(crate) fn push_map_warnings(
     ensures { OnOk result (warnings.new.items ≡ warnings.old.items
         ++ spec.all_map_warnings part (map finding_view findings.now) programs.now) }
 {
-    for program in programs {
-        push_map_warning(part, *program, findings, warnings)?;
-    }
-    Ok(())
+    let changes = map_changes(alloc, part, findings)?;
+    push_each_map_warning(part, programs, &changes, warnings)
 }
 
 /// Appends the warnings about what is left out of the tables.

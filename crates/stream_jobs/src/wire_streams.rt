@@ -18,8 +18,8 @@ use crate::warning::Warning;
 use crate::warnings::push_pid_warnings;
 use demux::Finding;
 use es_units::{
-    DtsError, FoundUnit, UnitWarning, UnitWarningCause, first_other, found_units, unit_warnings,
-    units_with_made_dts, written_id,
+    DtsError, FoundUnit, UnitWarning, UnitWarningCause, apart_units, first_other, found_units,
+    unit_warnings, units_with_made_dts, written_id,
 };
 use std::alloc::{AllocError, Global};
 use stream_coding::is_ac3;
@@ -65,7 +65,7 @@ fn common_id(pid: u16, is_ac3: bool, units: &[FoundUnit<'_>]) -> Result<u8, JobR
     }
 }
 
-// The units, with DTS that are made from their PTS if `make_dts`.
+// The units, each of a data stream with a DTS of its own; with DTS that are made from their PTS if `make_dts`.
 #[tactic(auto, unfolding(crate::specs::WireStreams::with_stamps, crate::specs::WireStreams::dts_refusal, crate::specs::Answers::unless, crate::specs::Answers::Refuses))]
 fn with_stamps<'f>(
     alloc: Global,
@@ -78,7 +78,7 @@ fn with_stamps<'f>(
     ensures refused { IfErr result (Refuses (spec.with_stamps make_dts pid units.entry.items)) }
 {
     if !make_dts {
-        return Ok(units);
+        return Ok(apart_units(alloc, units)?);
     }
     match units_with_made_dts(alloc, units) {
         Ok(made) => Ok(made),

@@ -3,6 +3,10 @@ pub mod AssociationSteps
 pub mod ProgramLists
 pub mod PidHolders
 pub mod LastMaps
+pub mod NumberedMaps
+pub mod MapKeys
+pub mod MapPlaces
+pub mod NotedChanges
 pub mod LastServices
 pub mod FirstNetworks
 pub mod NetworkSteps

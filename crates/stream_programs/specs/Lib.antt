@@ -2,6 +2,7 @@ pub mod Sections
 pub mod Association
 pub mod ProgramLists
 pub mod ProgramMaps
+pub mod MapPlaces
 pub mod Omissions
 pub mod Streams
 pub mod Programs

@@ -12,7 +12,7 @@ use Rattle.psi_tables.specs.declared.pat.programs.Program.{Program}
 use Rattle.demux.specs.Views.{FindingView}
 use Rattle.stream_programs.specs.declared.program_map.MapPart.{MapPart}
 use Rattle.stream_programs.specs.declared.program_map.MapPart.TheVariants.{NamedStreams, Descriptors}
-use Rattle.stream_programs.specs.Sections.{section_on}
+use Rattle.stream_programs.specs.Sections.{section_bytes, section_on}
 
 -- 1. The last table
 
@@ -36,6 +36,27 @@ pmt_found program finding = option_and_then (pmt_in program.program_number) (sec
 unfoldable pub program_map : Program → List FindingView → Option PmtView
 program_map program [] = None
 program_map program (finding ∷ findings) = option_or (program_map program findings) (pmt_found program finding)
+
+-- the table that is in force now, of whatever program
+unfoldable pub now_in_force : Result PmtView SectionError → Option PmtView
+now_in_force (Err error) = None
+now_in_force (Ok pmt) = if pmt.header.current_next then Some pmt else None
+
+unfoldable pub map_of_section : Result (SectionView × ℕ) SectionError → Option PmtView
+map_of_section (Err error) = None
+map_of_section (Ok section) = now_in_force (pmt_at section.0)
+
+unfoldable pub map_in : List ℕ → Option PmtView
+map_in bytes = map_of_section (section_at bytes)
+
+-- the table that a finding has, of whatever program
+unfoldable pub any_map : FindingView → Option PmtView
+any_map finding = option_and_then map_in (section_bytes finding.what)
+
+-- if it is of this program
+unfoldable pub numbered : ℕ → Option PmtView → Option PmtView
+numbered number None = None
+numbered number (Some pmt) = if pmt.header.table_id_extension == number then Some pmt else None
 
 -- 2. Tables that name other streams than the last one: by stream_type and PID
 

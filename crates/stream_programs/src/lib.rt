@@ -1,7 +1,7 @@
 //! The programs of a transport stream and their elementary streams, from what a demultiplexer finds of its tables.
 //!
 //! The program association table in force names the programs (`specs/Association`), and the last program map table of
-//! each its streams (`specs/ProgramMaps`, `specs/Streams`, `specs/Programs`); the service description has its name
+//! each its streams (`specs/ProgramMaps`, `specs/MapPlaces`, `specs/Streams`, `specs/Programs`); the service description has its name
 //! (`specs/Services`), as characters (`specs/Texts`, `specs/CharacterTables`), and its original network (`specs/Networks`);
 //! the network information table has its network (`specs/NetworkInformation`). Maps and
 //! PCRs are assigned PIDs that nothing else has (`specs/PidAssignment`); PES packets of no program are counted by PID
@@ -11,11 +11,13 @@
 #![tactic(auto)]
 
 mod association;
+mod changed_maps;
 mod character_sets;
 mod character_tables;
 mod free_pids;
 mod laws;
 mod map_descriptors;
+mod map_places;
 mod network_information;
 mod networks;
 mod omission;
@@ -33,6 +35,7 @@ mod streams;
 mod texts;
 
 pub use association::{Association, association_change, named_programs};
+pub use changed_maps::{MapChanges, map_changes};
 pub use free_pids::free_pid;
 pub use laws::{
     each_has_pids, findings_of_pid_zero, findings_of_the_map, maps_decide, pids_are_distinct,
@@ -42,7 +45,7 @@ pub use networks::original_network;
 pub use omission::TableOmission;
 pub use pid_assignment::{ProgramPids, assigned_pids};
 pub use pid_counts::pes_counts;
-pub use program_map::{MapPart, last_program_map, map_change};
+pub use program_map::{MapPart, last_program_map};
 pub use programs::{FoundProgram, FoundPrograms, found_programs};
 pub use sections::section_on;
 pub use services::{FoundService, last_service, length_prefixed};

@@ -7,7 +7,7 @@ ghost use Rattle.demux.specs.Shown.{finding_view};
 ghost use Rattle.stream_programs.specs.ProgramMaps as spec;
 
 use crate::map_descriptors::keeps_descriptors;
-use crate::sections::{is_on, section_on};
+use crate::sections::{is_on, section_in, section_on};
 use demux::Finding;
 use psi_tables::{Pmt, Program, Section, Stream, Streams};
 use std::alloc::Allocator;
@@ -21,15 +21,15 @@ pub enum MapPart {
     Descriptors,
 }
 
-// A table that is in force now, of this program.
-#[tactic(auto, unfolding(crate::specs::ProgramMaps::in_force))]
-fn pmt_of_section<'f>(number: u16, section: &Section<'f>) -> Option<Pmt<'f>>
-    ensures { option_map pmt_view result ≡ spec.in_force number (pmt_at (section_view section.now)) }
+// A table that is in force now.
+#[tactic(auto, unfolding(crate::specs::ProgramMaps::now_in_force))]
+fn map_of_section<'f>(section: &Section<'f>) -> Option<Pmt<'f>>
+    ensures { option_map pmt_view result ≡ spec.now_in_force (pmt_at (section_view section.now)) }
 {
     match Pmt::read(section) {
         Err(_) => None,
         Ok(pmt) => {
-            if pmt.header.current_next && pmt.header.table_id_extension == number {
+            if pmt.header.current_next {
                 Some(pmt)
             } else {
                 None
@@ -38,19 +38,56 @@ fn pmt_of_section<'f>(number: u16, section: &Section<'f>) -> Option<Pmt<'f>>
     }
 }
 
-#[tactic(auto, unfolding(crate::specs::ProgramMaps::pmt_in, crate::specs::ProgramMaps::pmt_of_section))]
-fn pmt_in(number: u16, bytes: &[u8]) -> Option<Pmt<'_>>
-    ensures { option_map pmt_view result ≡ spec.pmt_in number bytes.now }
+#[tactic(auto, unfolding(crate::specs::ProgramMaps::map_in, crate::specs::ProgramMaps::map_of_section))]
+fn map_in(bytes: &[u8]) -> Option<Pmt<'_>>
+    ensures { option_map pmt_view result ≡ spec.map_in bytes.now }
 {
     match Section::read(bytes) {
         Err(_) => None,
-        Ok((section, _)) => pmt_of_section(number, &section),
+        Ok((section, _)) => map_of_section(&section),
     }
 }
 
-// The table that a finding has.
+/// Returns the table in force that a finding has, of whatever program.
+#[tactic(auto, unfolding(crate::specs::ProgramMaps::any_map))]
+pub(crate) fn any_map<'f, A: Allocator>(finding: &'f Finding<'_, A>) -> Option<Pmt<'f>>
+    ensures { option_map pmt_view result ≡ spec.any_map (finding_view finding.now) }
+{
+    match section_in(finding) {
+        None => None,
+        Some(bytes) => map_in(bytes),
+    }
+}
+
+// A table, if it is of this program.
+#[tactic(auto, unfolding(crate::specs::ProgramMaps::numbered))]
+fn numbered(number: u16, found: Option<Pmt<'_>>) -> Option<Pmt<'_>>
+    ensures { option_map pmt_view result ≡ spec.numbered number (option_map pmt_view found.entry) }
+{
+    match found {
+        None => None,
+        Some(pmt) => {
+            if pmt.header.table_id_extension == number {
+                Some(pmt)
+            } else {
+                None
+            }
+        }
+    }
+}
+
+fn pmt_in(number: u16, bytes: &[u8]) -> Option<Pmt<'_>>
+    ensures { option_map pmt_view result ≡ spec.pmt_in number bytes.now }
+{
+    numbered(number, map_in(bytes))
+}
+
+/// Returns the table of a program that a finding has.
 #[tactic(auto, unfolding(crate::specs::ProgramMaps::pmt_found))]
-fn pmt_found<'f, A: Allocator>(program: Program, finding: &'f Finding<'_, A>) -> Option<Pmt<'f>>
+pub(crate) fn pmt_found<'f, A: Allocator>(
+    program: Program,
+    finding: &'f Finding<'_, A>,
+) -> Option<Pmt<'f>>
     ensures { option_map pmt_view result ≡ spec.pmt_found program (finding_view finding.now) }
 {
     match section_on(program.pid, finding) {
@@ -117,9 +154,9 @@ fn names_same(one: Streams<'_>, other: Streams<'_>) -> bool
     has_streams(one, other) && has_streams(other, one)
 }
 
-// Whether a finding has a table of the program that is other than the last one in this part.
+/// Returns whether a finding has a table of the program that is other than the last one in this part.
 #[tactic(auto, unfolding(crate::specs::ProgramMaps::differs))]
-fn differs<A: Allocator>(
+pub(crate) fn differs<A: Allocator>(
     part: MapPart,
     program: Program,
     last: &Pmt<'_>,
@@ -133,40 +170,5 @@ fn differs<A: Allocator>(
             MapPart::NamedStreams => !names_same(last.streams, pmt.streams),
             MapPart::Descriptors => !keeps_descriptors(last, &pmt),
         },
-    }
-}
-
-fn first_differing<A: Allocator>(
-    part: MapPart,
-    program: Program,
-    last: &Pmt<'_>,
-    findings: &[Finding<'_, A>],
-) -> Option<u64>
-    ensures { result ≡ spec.first_differing part program (pmt_view last.now) (map finding_view findings.now) }
-{
-    for finding in findings {
-        if !is_on(program.pid, finding) {
-            continue;
-        }
-        if differs(part, program, last, finding) {
-            return Some(finding.packet);
-        }
-    }
-    None
-}
-
-/// Returns the packet where the first program map section in force of this program ends that differs in this part from the
-/// last section. The last section is used regardless.
-#[tactic(auto, unfolding(crate::specs::ProgramMaps::map_change))]
-pub fn map_change<A: Allocator>(
-    part: MapPart,
-    program: Program,
-    findings: &[Finding<'_, A>],
-) -> Option<u64>
-    ensures { result ≡ spec.map_change part program (map finding_view findings.now) }
-{
-    match last_program_map(program, findings) {
-        None => None,
-        Some(last) => first_differing(part, program, &last, findings),
     }
 }

@@ -4,12 +4,13 @@ ghost use Rattle.std.specs.Prelude.{◌≡◌, ◌==◌, ◌&&◌, not, IfOk, On
 ghost use Rattle.std.specs.List.{list_any};
 ghost use Rattle.psi_tables.specs.ProgramMap.{pmt_view, stream_view, streams_of};
 ghost use Rattle.demux.specs.Shown.{finding_view};
+ghost use Rattle.stream_programs.specs.MapPlaces.{places_in};
 ghost use Rattle.stream_programs.specs.ProgramMaps.{program_map};
 ghost use Rattle.stream_programs.specs.Programs as spec;
 ghost use Rattle.stream_programs.specs.Streams as held;
 
+use crate::map_places::{MapPlaces, map_at, map_places};
 use crate::omission::TableOmission;
-use crate::program_map::last_program_map;
 use crate::streams::{
     FoundStream, has_alike, has_stream_of, holder, is_reserved, omission_of, share,
 };
@@ -336,12 +337,14 @@ impl<A: Allocator + Copy> FoundPrograms<A> {
         &mut self,
         alloc: A,
         program: Program,
+        places: &MapPlaces<A>,
         findings: &[Finding<'_, A>],
     ) -> Result<(), AllocError>
+        requires { places.now.entries ≡ places_in (map finding_view findings.now) }
         ensures { OnOk result (self.new ≡ spec.with_program_by self.old program
             (program_map program (map finding_view findings.now))) }
     {
-        match last_program_map(program, findings) {
+        match map_at(places, program, findings) {
             None => {
                 self.left_out.push(TableOmission::NoMap {
                     program: program.program_number,
@@ -363,9 +366,10 @@ pub fn found_programs<A: Allocator + Copy>(
 ) -> Result<FoundPrograms<A>, AllocError>
     ensures { IfOk result (λ found. found ≡ spec.programs_of named.now (map finding_view findings.now)) }
 {
+    let places = map_places(alloc, findings)?;
     let mut found = FoundPrograms::new(alloc);
     for program in named {
-        found.note(alloc, *program, findings)?;
+        found.note(alloc, *program, &places, findings)?;
     }
     Ok(found)
 }

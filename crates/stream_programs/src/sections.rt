@@ -7,18 +7,26 @@ ghost use Rattle.stream_programs.specs.Sections as spec;
 use demux::{Finding, What};
 use std::alloc::Allocator;
 
+/// Returns the bytes of a section that is found.
+#[tactic(auto, unfolding(crate::specs::Sections::section_bytes))]
+pub(crate) fn section_in<'f, A: Allocator>(finding: &'f Finding<'_, A>) -> Option<&'f [u8]>
+    ensures { option_map (λ bytes. bytes.now) result ≡ spec.section_bytes (finding_view finding.now).what }
+{
+    match &finding.what {
+        What::Section(part) => Some(part.bytes()),
+        _ => None,
+    }
+}
+
 /// Returns the bytes of a section that is found on a PID.
-#[tactic(auto, unfolding(crate::specs::Sections::section_on, crate::specs::Sections::section_bytes))]
+#[tactic(auto, unfolding(crate::specs::Sections::section_on))]
 pub fn section_on<'f, A: Allocator>(pid: u16, finding: &'f Finding<'_, A>) -> Option<&'f [u8]>
     ensures { option_map (λ bytes. bytes.now) result ≡ spec.section_on pid (finding_view finding.now) }
 {
     if finding.pid != Some(pid) {
         return None;
     }
-    match &finding.what {
-        What::Section(part) => Some(part.bytes()),
-        _ => None,
-    }
+    section_in(finding)
 }
 
 /// Returns whether a finding is of a PID: one that is not has no section of it.

@@ -1,7 +1,7 @@
 -- The two buffers of video of a stream, if they are viewed.
 use Rattle.std.proofs.Common.{◌≡◌, ◌∙◌, sym, ℕ, List, [], Option, Some, None, refl, ap, ap₂, subst}
 use Rattle.tstd_rows.specs.declared.excess.Excess.{Excess}
-use Rattle.tstd_rows.specs.declared.unit_seen.UnitSeen.{UnitSeen}
+use Rattle.tstd_rows.specs.declared.late_causes.VideoUnit.{VideoUnit}
 use Rattle.tstd_rows.specs.History.{Part}
 use Rattle.tstd_rows.specs.Held.{Held}
 use Rattle.tstd_rows.specs.HeldVideo.{HoldsVideo, HoldsVideoOf, IsVideoHeld, VideoSizes}
@@ -43,7 +43,7 @@ some_figures (Some w) v None h figures is k f = absurd k
 some_figures (Some w) v (Some s) h figures is k f =
     let same : w ≡ v = cc in ap (λ (g : VideoFigures). Some g) (f s (subst (λ (x : VideoBuffers). IsVideoHeld x s h.rate h.parts) same k))
 
-pub same_figures : (a b c e a' b' c' e' : ℕ) (m m' n n' : Option Excess) (u u' : Option UnitSeen) → a ≡ a' → b ≡ b' → c ≡ c' → e ≡ e' → m ≡ m' → n ≡ n' → u ≡ u' →
+pub same_figures : (a b c e a' b' c' e' : ℕ) (m m' n n' : Option Excess) (u u' : Option VideoUnit) → a ≡ a' → b ≡ b' → c ≡ c' → e ≡ e' → m ≡ m' → n ≡ n' → u ≡ u' →
     ◌≡◌ {A = VideoFigures}
     (record { limits = record { multiplexing = a; elementary = b }; multiplexing_most = c; elementary_most = e; multiplexing = m; elementary = n; unit = u })
     (record { limits = record { multiplexing = a'; elementary = b' }; multiplexing_most = c'; elementary_most = e'; multiplexing = m'; elementary = n'; unit = u' })

@@ -11,16 +11,18 @@ use Rattle.unit_timing.specs.declared.multiplexing_buffer.MultiplexingBuffer.{Mu
 use Rattle.tstd_rows.specs.declared.video_buffers.VideoRates.{VideoRates}
 use Rattle.stream_programs.specs.Streams.{FoundStreamView}
 use Rattle.ts_report.specs.declared.view_options.ViewOptions.{ViewOptions}
+use Rattle.ts_report.specs.declared.view_request.ViewSpan.{ViewSpan}
 
 -- the numbers of programs, all where there is none, and buffers of PIDs
 pub record ChoiceView : Type 0 where
   pub programs : List ℕ
   pub buffers : List PidBuffers
 
--- with how a stream is viewed
+-- with how a stream is viewed, and which part of it
 pub record RequestView : Type 0 where
   pub options : ViewOptions
   pub choice : ChoiceView
+  pub span : ViewSpan
 
 unfoldable pub is_among : ℕ → List ℕ → Bool
 is_among number numbers = list_any (λ other. other == number) numbers

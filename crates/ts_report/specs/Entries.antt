@@ -11,9 +11,9 @@ use Rattle.tstd_rows.specs.declared.unit_seen.DueTime.{DueTime}
 use Rattle.tstd_rows.specs.Held.{Held, IsHeld, main_most, transport_busy, transport_busy_under_way, transport_most, unit_before}
 use Rattle.tstd_rows.specs.Limits.{tb_size}
 use Rattle.tstd_rows.specs.Entering.{EnteredView, after, entered}
+use Rattle.tstd_rows.specs.declared.late_causes.VideoUnit.{VideoUnit}
 use Rattle.tstd_rows.specs.EnteringVideo.{video_of, video_unit_of}
 use Rattle.tstd_rows.specs.HeldVideo.{HoldsVideoOf, VideoEnteredView, VideoSizes}
-use Rattle.tstd_rows.specs.declared.unit_seen.UnitSeen.{UnitSeen}
 use Rattle.tstd_rows.specs.declared.arriving.Arriving.{Arriving}
 use Rattle.events.specs.declared.event.Event.{Event}
 use Rattle.ts_report.specs.declared.view_options.ViewOptions.{ViewOptions}
@@ -152,7 +152,7 @@ entered_at options index clock e packet = entered e.held options.arrival (arrivi
 abbrev pub video_at : ViewOptions → ℕ → Option PcrSample → EntryState → PacketView → VideoEnteredView
 video_at options index clock e packet = video_of e.video e.held options.arrival (arriving_at options index clock e packet)
 
-abbrev pub video_unit_at : ViewOptions → ℕ → Option PcrSample → EntryState → PacketView → Option UnitSeen
+abbrev pub video_unit_at : ViewOptions → ℕ → Option PcrSample → EntryState → PacketView → Option VideoUnit
 video_unit_at options index clock e packet = video_unit_of e.video e.held options.arrival (arriving_at options index clock e packet)
 
 -- a packet of sound that is viewed by access units

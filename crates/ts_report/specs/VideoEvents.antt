@@ -1,9 +1,14 @@
 -- What is found of the two buffers of video: a multiplexing buffer and an elementary stream buffer.
-use Rattle.std.specs.Prelude.{ℕ, ◌-◌, if◌then◌else◌, List, [], ◌∷◌, ◌++◌, map, Option, Some, None}
+use Rattle.std.specs.Prelude.{ℕ, ◌-◌, List, [], ◌∷◌, ◌++◌, map, Option, Some, None}
 use Rattle.std.specs.Option.{option_to_list}
 use Rattle.tstd_rows.specs.declared.excess.Excess.{Excess}
-use Rattle.tstd_rows.specs.declared.unit_seen.UnitSeen.{UnitSeen}
+use Rattle.tstd_rows.specs.declared.late_causes.LateCause.{LateCause}
+use Rattle.tstd_rows.specs.declared.late_causes.LateCause.TheVariants as causes
+use Rattle.tstd_rows.specs.declared.late_causes.VideoUnit.{VideoUnit}
+use Rattle.tstd_rows.specs.VideoViewed.{unit_cause}
 use Rattle.tstd_rows.specs.HeldVideo.{VideoEnteredView}
+use Rattle.events.specs.declared.video_event.LateCause.{LateCause as ToldCause}
+use Rattle.events.specs.declared.video_event.LateCause.TheVariants as told_causes
 use Rattle.events.specs.declared.event.Event.{Event}
 use Rattle.events.specs.declared.event.Event.TheVariants as found
 use Rattle.ts_report.specs.declared.entry_events.Place.{Place}
@@ -12,7 +17,6 @@ use Rattle.ts_report.specs.declared.video_figures.VideoLimits.{VideoLimits}
 use Rattle.ts_report.specs.declared.video_tally.VideoTally.{VideoTally}
 use Rattle.ts_report.specs.declared.view_options.ViewOptions.{ViewOptions}
 use Rattle.ts_report.specs.EntryEvents.{excess_of, moment_of, span_of, with_one, with_size}
-use Rattle.ts_report.specs.Tallies.{is_late}
 use Rattle.ts_report.specs.VideoFigures.{closed_video}
 
 -- 1. What ends with a packet
@@ -30,31 +34,41 @@ elementary_excess_event options place e = found.ElementaryExcess (excess_of opti
 abbrev pub elementary_excess_events : ViewOptions → Place → List Excess → List Event
 elementary_excess_events options place excesses = map (elementary_excess_event options place) excesses
 
--- a unit whose last byte enters the elementary stream buffer after it is due, found at the packet with which the next unit begins
-abbrev pub elementary_late_event : ViewOptions → Place → UnitSeen → Event
-elementary_late_event options place u = found.ElementaryLate (record {
+-- a unit whose last byte goes to the elementary stream buffer after it is due, found at the packet with which the next unit begins: with what
+-- makes it late, the multiplexing buffer alone or a full elementary stream buffer
+unfoldable pub cause_told : LateCause → ToldCause
+cause_told causes.Multiplex = told_causes.Multiplex
+cause_told causes.FullBuffer = told_causes.FullBuffer
+
+abbrev pub elementary_late_event : ViewOptions → Place → VideoUnit → LateCause → Event
+elementary_late_event options place u cause = found.ElementaryLate (record {
   pid = place.pid;
   packet = place.packet;
-  due = moment_of options place.rx u.due.until;
-  left = moment_of options place.rx u.left;
-  by = span_of options place.rx (u.left - u.due.deadline);
-  bytes = u.bytes;
+  due = moment_of options place.rx u.seen.due.until;
+  left = moment_of options place.rx u.entered;
+  by = span_of options place.rx (u.entered - u.seen.due.deadline);
+  bytes = u.seen.bytes;
+  cause = cause_told cause;
 })
 
-unfoldable pub elementary_late_events : ViewOptions → Place → Option UnitSeen → List Event
-elementary_late_events options place None = []
-elementary_late_events options place (Some u) = if is_late u then elementary_late_event options place u ∷ [] else []
+unfoldable pub late_events_by : ViewOptions → Place → VideoUnit → Option LateCause → List Event
+late_events_by options place u None = []
+late_events_by options place u (Some cause) = elementary_late_event options place u cause ∷ []
 
-abbrev pub events_of_both : ViewOptions → Place → VideoLimits → List Excess → Option Excess → Option UnitSeen → List Event
+unfoldable pub elementary_late_events : ViewOptions → Place → Option VideoUnit → List Event
+elementary_late_events options place None = []
+elementary_late_events options place (Some u) = late_events_by options place u (unit_cause u)
+
+abbrev pub events_of_both : ViewOptions → Place → VideoLimits → List Excess → Option Excess → Option VideoUnit → List Event
 events_of_both options place limits multiplexing elementary unit =
     multiplexing_excess_events options (with_size place limits.multiplexing) multiplexing
     ++ (elementary_excess_events options (with_size place limits.elementary) (option_to_list elementary) ++ elementary_late_events options place unit)
 
-abbrev pub ended_of_both : ViewOptions → Place → VideoLimits → VideoEnteredView → Option UnitSeen → List Event
+abbrev pub ended_of_both : ViewOptions → Place → VideoLimits → VideoEnteredView → Option VideoUnit → List Event
 ended_of_both options place limits e unit = events_of_both options place limits e.multiplexing e.elementary unit
 
 -- none where they are not viewed
-unfoldable pub video_ended_events : ViewOptions → Place → Option VideoLimits → VideoEnteredView → Option UnitSeen → List Event
+unfoldable pub video_ended_events : ViewOptions → Place → Option VideoLimits → VideoEnteredView → Option VideoUnit → List Event
 video_ended_events options place None e unit = []
 video_ended_events options place (Some limits) e unit = ended_of_both options place limits e unit
 

@@ -1,9 +1,8 @@
 -- What the two buffers of video hold, if they are viewed (ISO/IEC 13818-1, 2.4.2.3).
 use Rattle.std.specs.Prelude.{ℕ, ◌==◌, ◌&&◌, ◌^◌, nat_le, nat_lt, Bool, true, if◌then◌else◌, Option, Some, None}
-use Rattle.tstd_rows.specs.VideoViewed.{elementary_peak, leaked, multiplexing_buffer, multiplexing_under_way}
-use Rattle.tstd_rows.specs.History.{unit_of}
+use Rattle.tstd_rows.specs.VideoViewed.{elementary_peak, multiplexing_buffer, multiplexing_under_way}
 use Rattle.tstd_rows.specs.Held.{Held}
-use Rattle.tstd_rows.specs.HeldVideo.{VideoSizes, elementary_under_way, sizes_of}
+use Rattle.tstd_rows.specs.HeldVideo.{VideoSizes, elementary_under_way, sizes_of, video_unit_in}
 use Rattle.tstd_rows.specs.declared.video_buffers.VideoRates.{VideoRates}
 use Rattle.ts_report.specs.declared.video_figures.VideoFigures.{VideoFigures}
 use Rattle.ts_report.specs.declared.video_figures.VideoLimits.{VideoLimits}
@@ -31,7 +30,7 @@ figures_with s h = record {
   elementary_most = elementary_peak h.rate s.leak h.parts;
   multiplexing = multiplexing_under_way h.rate s.leak s.multiplexing h.parts;
   elementary = elementary_under_way h.rate s.leak s.elementary h.parts;
-  unit = unit_of s.leak (leaked h.rate h.parts);
+  unit = video_unit_in s h.rate h.parts;
 }
 
 unfoldable pub figures_of : Option VideoSizes → Held → Option VideoFigures

@@ -45,4 +45,4 @@ mod window_events;
 pub use clocked_view::ClockedView;
 pub use view_choice::ViewChoice;
 pub use view_options::ViewOptions;
-pub use view_request::ViewRequest;
+pub use view_request::{ViewRequest, ViewSpan};

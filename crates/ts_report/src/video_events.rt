@@ -11,7 +11,7 @@ use crate::video_tally::VideoTally;
 use crate::view_options::ViewOptions;
 use events::{ElementaryLate, ElementaryTotals, Event, MultiplexingTotals};
 use std::alloc::AllocError;
-use tstd_rows::{Excess, UnitSeen, VideoEntered};
+use tstd_rows::{Excess, LateCause, VideoEntered, VideoUnit};
 
 // The same place with another size.
 fn with_size(place: &Place, size: u64) -> Place
@@ -52,37 +52,53 @@ fn push_elementary_excess_if(
     Ok(())
 }
 
-fn elementary_late_event(options: &ViewOptions, place: &Place, unit: &UnitSeen) -> Event
-    ensures { result ≡ spec.elementary_late_event options.now place.now unit.now }
+#[tactic(auto, unfolding(crate::specs::VideoEvents::cause_told))]
+fn cause_told(cause: LateCause) -> events::LateCause
+    ensures { result ≡ spec.cause_told cause }
+{
+    match cause {
+        LateCause::Multiplex => events::LateCause::Multiplex,
+        LateCause::FullBuffer => events::LateCause::FullBuffer,
+    }
+}
+
+fn elementary_late_event(
+    options: &ViewOptions,
+    place: &Place,
+    unit: &VideoUnit,
+    cause: LateCause,
+) -> Event
+    ensures { result ≡ spec.elementary_late_event options.now place.now unit.now cause }
 {
     Event::ElementaryLate(ElementaryLate {
         pid: place.pid,
         packet: place.packet,
-        due: moment_of(options, place.rx, unit.due.until),
-        left: moment_of(options, place.rx, unit.left),
+        due: moment_of(options, place.rx, unit.seen.due.until),
+        left: moment_of(options, place.rx, unit.entered),
         by: span_of(options, place.rx, unit.lateness()),
-        bytes: unit.bytes,
+        bytes: unit.seen.bytes,
+        cause: cause_told(cause),
     })
 }
 
 // Appends a unit that ended, if it was late in the elementary stream buffer.
-#[tactic(auto, unfolding(crate::specs::VideoEvents::elementary_late_events))]
+#[tactic(auto, unfolding(crate::specs::VideoEvents::elementary_late_events, crate::specs::VideoEvents::late_events_by))]
 fn push_elementary_late_if(
     events: &mut Vec<Event>,
     options: &ViewOptions,
     place: &Place,
-    unit: &Option<UnitSeen>,
+    unit: &Option<VideoUnit>,
 ) -> Result<(), AllocError>
     ensures { OnOk result (events.new.items ≡ events.old.items ++ spec.elementary_late_events options.now place.now unit.now) }
 {
     match unit {
-        Some(unit) => {
-            if unit.lateness() == 0 {
-                return Ok(());
+        Some(unit) => match unit.cause() {
+            Some(cause) => {
+                events.push(elementary_late_event(options, place, unit, cause))?;
+                Ok(())
             }
-            events.push(elementary_late_event(options, place, unit))?;
-            Ok(())
-        }
+            None => Ok(()),
+        },
         None => Ok(()),
     }
 }

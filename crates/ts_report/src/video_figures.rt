@@ -6,7 +6,7 @@ ghost use Rattle.ts_report.specs.VideoFigures as spec;
 
 use crate::video_tally::VideoTally;
 use std::alloc::Global;
-use tstd_rows::{Excess, StreamBuffers, UnitSeen, VideoRates};
+use tstd_rows::{Excess, StreamBuffers, VideoRates, VideoUnit};
 
 /// The sizes of both buffers.
 #[derive(Clone, Copy)]
@@ -23,7 +23,7 @@ pub struct VideoFigures {
     pub elementary_most: u64,
     pub multiplexing: Option<Excess>,
     pub elementary: Option<Excess>,
-    pub unit: Option<UnitSeen>,
+    pub unit: Option<VideoUnit>,
 }
 
 // Whether buffers of these sizes can be viewed.

@@ -3,7 +3,7 @@ ghost use Rattle.std.specs.Prelude.{◌≡◌};
 ghost use Rattle.tstd_rows.specs.HeldVideo.{video_view};
 ghost use Rattle.ts_report.specs.VideoTallies as spec;
 
-use tstd_rows::{UnitSeen, VideoEntered};
+use tstd_rows::{VideoEntered, VideoUnit};
 
 /// What is counted of the multiplexing buffer and of the elementary stream buffer of a stream: excesses of both that have ended, and units
 /// that were late in the latter. Numbers stop at 2^64 - 1.
@@ -28,13 +28,13 @@ impl VideoTally {
 
     /// Counts the unit that has ended, if any: it may have been late.
     #[tactic(auto, unfolding(crate::specs::VideoTallies::with_late_if))]
-    pub fn add_unit_if(&mut self, unit: &Option<UnitSeen>)
+    pub fn add_unit_if(&mut self, unit: &Option<VideoUnit>)
         ensures { self.new ≡ spec.with_late_if self.old unit.now }
     {
         match unit {
             None => {}
             Some(unit) => {
-                let late = u64::from(unit.lateness() > 0);
+                let late = u64::from(unit.cause().is_some());
                 self.late = self.late.saturating_add(late);
             }
         }

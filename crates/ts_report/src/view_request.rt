@@ -3,11 +3,20 @@ use crate::view_choice::ViewChoice;
 use crate::view_options::ViewOptions;
 use std::marker::Model;
 
-/// The request of a view: how a stream is viewed, and which of its streams.
+/// The part of a stream whose faults and windows are asked for, between two moments in ms from its first byte on: where one is not given,
+/// from its begin on, or up to its end. What is counted of the whole stream stays so.
+#[derive(Clone, Copy)]
+pub struct ViewSpan {
+    pub from: Option<u64>,
+    pub to: Option<u64>,
+}
+
+/// The request of a view: how a stream is viewed, which of its streams, and which part of it.
 #[derive(Drop)]
 pub struct ViewRequest {
     pub options: ViewOptions,
     pub choice: ViewChoice,
+    pub span: ViewSpan,
 }
 
 impl Model for ViewRequest {
@@ -15,5 +24,5 @@ impl Model for ViewRequest {
 
     ghost Value = { RequestView };
 
-    ghost view = { λ r. record { options = r.options; choice = r.choice } };
+    ghost view = { λ r. record { options = r.options; choice = r.choice; span = r.span } };
 }

@@ -21,6 +21,7 @@ use Rattle.devices.proofs.NamedReaders.{is_unread}
 use Rattle.devices.specs.Runs.{Performs}
 use Rattle.description.specs.Ranges.{IsInRange}
 use Rattle.job_run.specs.JobArguments.{JobArgumentsView}
+use Rattle.stream_jobs.specs.JobOptions.{JobOptionsView}
 use Rattle.job_run.specs.Outcomes.{Leads}
 use Rattle.tsjob_cli.specs.StreamedUnits.{IsDescriptionIn, IsNamedDescription, StreamsUnits, fed_stream, none_outcome, refused_line, streams_from}
 use Rattle.tsjob_cli.specs.declared.streaming.NoDescription.{NoDescription}
@@ -81,10 +82,10 @@ pub no_memory_for_words : (Leads : List ℕ → Outcome → Type 0) (input outpu
 no_memory_for_words Leads input output faults status i o t s =
     inr (inr (inl (record { clean = ap (λ (p : Port). p.failed) i; unwritten = o; reports = t; status_is = s })))
 
-pub no_memory_for_stream : (files : Files) (name : Text) (input output faults : Device) (status : ℕ) → IsUntouched input → IsUntouched output → Reports faults (halt_line halt.Memory) → status ≡ 3 →
-    StreamsUnits files name input output faults status
+pub no_memory_for_stream : (w : JobOptionsView) (files : Files) (name : Text) (input output faults : Device) (status : ℕ) → IsUntouched input → IsUntouched output → Reports faults (halt_line halt.Memory) → status ≡ 3 →
+    StreamsUnits w files name input output faults status
 unfolding none_outcome
-no_memory_for_stream files name input output faults status i o r s = inr (record { why = Stopped halt.Memory; is = tt; unread = i; unwritten = o; reports = r; status_is = s })
+no_memory_for_stream w files name input output faults status i o r s = inr (record { why = Stopped halt.Memory; is = tt; unread = i; unwritten = o; reports = r; status_is = s })
 
 same_arguments : (x : Option JobArgumentsView) (a b : JobArgumentsView) → Some a ≡ x → x ≡ Some b → a ≡ b
 same_arguments x a b e f = let both : Some a ≡ Some b = e ∙ f in cc
@@ -95,9 +96,9 @@ job_asked x a b input output faults status e f p =
     subst (λ (v : JobArgumentsView). v.stream ≡ None → Performs (Leads v) input output faults status) (same_arguments x a b e f) p
 
 pub stream_asked : (x : Option JobArgumentsView) (a b : JobArgumentsView) (files : Files) (name : Text) (input output faults : Device) (status : ℕ) → Some a ≡ x → x ≡ Some b →
-    (a.stream ≡ Some name → StreamsUnits files name input output faults status) → b.stream ≡ Some name → StreamsUnits files name input output faults status
+    (a.stream ≡ Some name → StreamsUnits a.options files name input output faults status) → b.stream ≡ Some name → StreamsUnits b.options files name input output faults status
 stream_asked x a b files name input output faults status e f p =
-    subst (λ (v : JobArgumentsView). v.stream ≡ Some name → StreamsUnits files name input output faults status) (same_arguments x a b e f) p
+    subst (λ (v : JobArgumentsView). v.stream ≡ Some name → StreamsUnits v.options files name input output faults status) (same_arguments x a b e f) p
 
 -- the name of the file is the one that was asked for
 pub same_name : (shown name : Text) (asked : Option Text) → Some shown ≡ asked → asked ≡ Some name → shown ≡ name

@@ -45,6 +45,9 @@ programs_in rows = numbers_of options (codes "program") rows
 unfoldable pub without_in : List Row → Option (List ℕ)
 without_in rows = numbers_of options (codes "without") rows
 
+unfoldable pub aligned_in : List Row → Option (List ℕ)
+aligned_in rows = numbers_of options (codes "aligned") rows
+
 -- which lines are reported
 unfoldable pub reporting_in : List Row → Reporting
 reporting_in rows = record {
@@ -56,8 +59,8 @@ reporting_in rows = record {
 -- 2. All of them
 
 -- with empty lists
-abbrev pub plain : Subcommand → Option Text → Reporting → Option ℕ → Option Text → ℕ → ℕ → DeclareBy → Bool → Bool → ClockBase → JobArgumentsView
-plain subcommand stream reporting rate start pcr_limit lead declare_by make_dts strict base = record {
+abbrev pub plain : Subcommand → Option Text → Reporting → Option ℕ → Option Text → ℕ → ℕ → DeclareBy → Bool → Bool → Bool → ClockBase → JobArgumentsView
+plain subcommand stream reporting rate start pcr_limit lead declare_by make_dts mark_access strict base = record {
   subcommand = subcommand;
   stream = stream;
   reporting = reporting;
@@ -75,6 +78,8 @@ plain subcommand stream reporting rate start pcr_limit lead declare_by make_dts 
     programs = [];
     without = [];
     buffers = [];
+    mark_access = mark_access;
+    aligned = [];
   };
 }
 
@@ -89,12 +94,13 @@ values_of rows =
     given (lead_in rows) (λ lead.
     given (declare_by_of (first_of (codes "declare") rows)) (λ declare_by.
     given (base_of (first_of (codes "base") rows)) (λ base.
-    Some (plain subcommand stream (reporting_in rows) rate start pcr_limit lead declare_by (is_given (first_of (codes "make-dts") rows)) (is_given (first_of (codes "strict") rows)) base)))))))))
+    Some (plain subcommand stream (reporting_in rows) rate start pcr_limit lead declare_by (is_given (first_of (codes "make-dts") rows)) (is_given (first_of (codes "mark-access") rows))
+    (is_given (first_of (codes "strict") rows)) base)))))))))
 
 -- with lists
-abbrev pub with_lists : List ℕ → List ℕ → List PidBuffers → Option NetworkNameView → List ServiceNameView → JobArgumentsView → JobArgumentsView
-with_lists programs without buffers network names arguments =
-    record arguments { options = record arguments.options { programs = programs; without = without; buffers = buffers; network = network; names = names } }
+abbrev pub with_lists : List ℕ → List ℕ → List PidBuffers → Option NetworkNameView → List ServiceNameView → List ℕ → JobArgumentsView → JobArgumentsView
+with_lists programs without buffers network names aligned arguments =
+    record arguments { options = record arguments.options { programs = programs; without = without; buffers = buffers; network = network; names = names; aligned = aligned } }
 
 unfoldable pub arguments_of : List Row → Option JobArgumentsView
 arguments_of rows =
@@ -104,7 +110,8 @@ arguments_of rows =
     given (buffer_list (first_of (codes "buffers") rows)) (λ buffers.
     given (network_if_given (first_of (codes "network") rows)) (λ network.
     given (name_list (first_of (codes "name") rows)) (λ names.
-    Some (with_lists programs without buffers network names values)))))))
+    given (aligned_in rows) (λ aligned.
+    Some (with_lists programs without buffers network names aligned values))))))))
 
 -- 3. From words
 

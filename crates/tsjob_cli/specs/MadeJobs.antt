@@ -19,7 +19,7 @@ pub record RunsJob (words : List Text) (files : Files) (input job faults : Devic
   pub explain : is_explain words ≡ true → Performs ExplainLeads input job faults status
   pub stream : is_explain words ≡ false → (a : JobArgumentsView) → arguments_in words ≡ Some a → a.stream ≡ None → Performs (Leads a) input job faults status
   pub units : is_explain words ≡ false → (a : JobArgumentsView) (name : Text) → arguments_in words ≡ Some a → a.stream ≡ Some name →
-      StreamsUnits files name input job faults status
+      StreamsUnits a.options files name input job faults status
   pub files_read : is_explain words ≡ false → (a : JobArgumentsView) → arguments_in words ≡ None → file_arguments words ≡ Some a →
       ReadsFiles a files (file_words words) input job faults status
   pub other : is_explain words ≡ false → arguments_in words ≡ None → file_arguments words ≡ None →

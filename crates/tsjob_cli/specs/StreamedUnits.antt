@@ -1,10 +1,11 @@
 -- The units of the streams of a description, while a stream comes.
-use Rattle.std.specs.Prelude.{◌≡◌, ◌⊎◌, ℕ, ◌+◌, List, [], ◌∷◌, map, Some, None, Result, Ok, Err, codes, ⊤}
+use Rattle.std.specs.Prelude.{◌≡◌, ◌⊎◌, ℕ, ◌+◌, ◌==◌, List, [], ◌∷◌, filter, map, Some, None, Result, Ok, Err, codes, ⊤, Bool, if◌then◌else◌}
 use Rattle.description.specs.Described.{Described, DescribedProgram, DescribedStream}
 use Rattle.description.specs.declared.fault.DescError.TheVariants as refused_by
 pub use Rattle.es_feed.specs.EachStream.{fed_stream}
 use Rattle.es_feed.specs.Feeding.{FeedView, FedStreamView, feed_first}
-use Rattle.es_feed.specs.declared.fed_map.FedMap.{FedMap}
+use Rattle.es_feed.specs.Maps.{MapView}
+use Rattle.es_feed.specs.declared.fed_map.NamedStream.{NamedStream}
 use Rattle.es_feed.specs.Passing.{RunsStream}
 use Rattle.checked_jobs.specs.Jobs.{described}
 use Rattle.description.specs.Codes.{fault_code, fault_item}
@@ -15,6 +16,9 @@ use Rattle.devices.specs.Lines.{Reports, line_text}
 use Rattle.devices.specs.Outcomes.{Outcome, halted, reported}
 use Rattle.devices.specs.Runs.{LacksMemory}
 use Rattle.devices.specs.declared.halt.Halt.TheVariants.{Read, Write, Memory}
+use Rattle.given_marks.specs.Marking.{MarkingView}
+use Rattle.given_marks.specs.declared.marking.TypedPid.{TypedPid}
+use Rattle.stream_jobs.specs.JobOptions.{JobOptionsView}
 use Rattle.tsjob_cli.specs.declared.streaming.NoDescription.{NoDescription}
 use Rattle.tsjob_cli.specs.declared.streaming.NoDescription.TheVariants.{Unopened, Stopped, Refused}
 
@@ -30,15 +34,32 @@ unfoldable pub streams_from : ℕ → List DescribedStream → List FedStreamVie
 streams_from k [] = []
 streams_from k (s ∷ streams) = fed_stream k s.pid ∷ streams_from (k + 1) streams
 
+-- the streams of a program, by PID and stream_type
+abbrev pub named_stream : DescribedStream → NamedStream
+named_stream s = record { pid = s.pid; stream_type = s.stream_type }
+
+abbrev pub named_of : ℕ → List DescribedStream → List NamedStream
+named_of number streams = map named_stream (filter (λ s. s.program == number) streams)
+
 -- the map of a program, before its first section
-abbrev pub map_of : DescribedProgram → FedMap
-map_of p = record { program_number = p.number; current = None }
+abbrev pub map_of : List DescribedStream → DescribedProgram → MapView
+map_of streams p = record { program_number = p.number; current = None; named = named_of p.number streams }
 
-abbrev pub maps_of : Described → List FedMap
-maps_of d = map map_of d.programs
+abbrev pub maps_of : Described → List MapView
+maps_of d = map (map_of d.streams) d.programs
 
-abbrev pub feed_of : Described → FeedView
-feed_of d = feed_first earliest (maps_of d) (streams_from 0 d.streams)
+-- the marks that options ask for of them, by the stream_types that the description has
+abbrev pub typed_pid : DescribedStream → TypedPid
+typed_pid s = record { pid = s.pid; stream_type = s.stream_type }
+
+unfoldable pub access_of : Bool → List DescribedStream → List TypedPid
+access_of asked streams = if asked then map typed_pid streams else []
+
+abbrev pub marking_by : JobOptionsView → Described → MarkingView
+marking_by w d = record { access = access_of w.mark_access d.streams; aligned = w.aligned }
+
+abbrev pub feed_of : JobOptionsView → Described → FeedView
+feed_of w d = feed_first earliest (marking_by w d) (maps_of d) (streams_from 0 d.streams)
 
 abbrev pub pids_of : Described → List ℕ
 pids_of d = map (λ s. s.pid) d.streams
@@ -72,15 +93,15 @@ none_outcome (Refused f) = reported (refused_line f)
 
 -- 3. What is done
 
--- the stream goes by a description; or there is no memory for what is kept of its streams
-abbrev pub GoesBy : Described → Device → Device → Device → ℕ → Type 0
-GoesBy d input output faults status = RunsStream (feed_of d) (pids_of d) input output faults status ⊎ LacksMemory input output faults status
+-- the stream goes by options and a description; or there is no memory for what is kept of its streams
+abbrev pub GoesBy : JobOptionsView → Described → Device → Device → Device → ℕ → Type 0
+GoesBy w d input output faults status = RunsStream (feed_of w d) (pids_of d) input output faults status ⊎ LacksMemory input output faults status
 
 -- there is a description in the file
-pub record GoesByFile (files : Files) (name : List ℕ) (input output faults : Device) (status : ℕ) : Type 0 where
+pub record GoesByFile (w : JobOptionsView) (files : Files) (name : List ℕ) (input output faults : Device) (status : ℕ) : Type 0 where
   pub description : Described
   pub is : IsNamedDescription files name (Ok description)
-  pub goes : GoesBy description input output faults status
+  pub goes : GoesBy w description input output faults status
 
 -- there is none: nothing is read and nothing written
 pub record HasNoDescription (files : Files) (name : List ℕ) (input output faults : Device) (status : ℕ) : Type 0 where
@@ -91,5 +112,5 @@ pub record HasNoDescription (files : Files) (name : List ℕ) (input output faul
   pub reports : Reports faults (none_outcome why).report
   pub status_is : status ≡ (none_outcome why).status
 
-abbrev pub StreamsUnits : Files → List ℕ → Device → Device → Device → ℕ → Type 0
-StreamsUnits files name input output faults status = GoesByFile files name input output faults status ⊎ HasNoDescription files name input output faults status
+abbrev pub StreamsUnits : JobOptionsView → Files → List ℕ → Device → Device → Device → ℕ → Type 0
+StreamsUnits w files name input output faults status = GoesByFile w files name input output faults status ⊎ HasNoDescription files name input output faults status

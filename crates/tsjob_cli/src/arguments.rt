@@ -108,6 +108,15 @@ fn without_in(alloc: Global, matches: &ArgMatches<'_>) -> Result<Option<Vec<u16>
     numbers_of(alloc, &OPTIONS, matches, "without")
 }
 
+// The PIDs whose units are aligned.
+#[tactic(auto, unfolding(crate::specs::Arguments::aligned_in))]
+fn aligned_in(alloc: Global, matches: &ArgMatches<'_>) -> Result<Option<Vec<u16>>, AllocError>
+    ensures { IfOk result
+        (λ r. option_map (λ numbers. numbers.items) r ≡ spec.aligned_in (rows_of (found_of matches.now))) }
+{
+    numbers_of(alloc, &OPTIONS, matches, "aligned")
+}
+
 // Which lines are reported.
 #[tactic(auto, unfolding(crate::specs::Arguments::reporting_in))]
 fn reporting_in(matches: &ArgMatches<'_>) -> Reporting
@@ -150,6 +159,8 @@ fn values_of<'a>(alloc: Global, matches: &ArgMatches<'a>) -> Option<JobArguments
         programs: Vec::new(alloc),
         without: Vec::new(alloc),
         buffers: Vec::new(alloc),
+        mark_access: is_given(text_of(matches, "mark-access")),
+        aligned: Vec::new(alloc),
     })
 }
 
@@ -179,12 +190,16 @@ fn arguments_of<'a>(
     let Some(names) = name_list(alloc, text_of(matches, "name"))? else {
         return Ok(None);
     };
+    let Some(aligned) = aligned_in(alloc, matches)? else {
+        return Ok(None);
+    };
     Ok(Some(JobArguments {
         network,
         names,
         programs,
         without,
         buffers,
+        aligned,
         ..values
     }))
 }

@@ -48,12 +48,15 @@ fn answer<F: NamedFiles, R: Source, W: Sink, E: Sink>(
     ensures job { arguments.now.stream ≡ None → Performs (spec.Leads arguments.now) (reads R.Source input.old input.new)
         (writes W.Sink output.old output.new) (writes E.Sink faults.old faults.new) result }
     ensures stream { (name : Text) → arguments.now.stream ≡ Some name →
-        StreamsUnits (files_of (F.contents_of files.now) (F.opens files.now) F.never_fails) name
+        StreamsUnits arguments.now.options (files_of (F.contents_of files.now) (F.opens files.now) F.never_fails) name
         (reads R.Source input.old input.new)
         (writes W.Sink output.old output.new) (writes E.Sink faults.old faults.new) result }
 {
     match arguments.stream() {
-        Some(name) => stream_units(alloc, files, name, input, output, faults),
+        Some(name) => {
+            let options = arguments.options();
+            stream_units(alloc, &options, files, name, input, output, faults)
+        }
         None => perform(alloc, arguments, input, output, faults),
     }
 }
@@ -104,7 +107,7 @@ fn run_on_stream<F: NamedFiles, R: Source, W: Sink, E: Sink>(
         (writes E.Sink faults.old faults.new) result }
     // A stream that comes, to the units of the streams of a description that stands in a file.
     ensures stream { (a : JobArgumentsView) (name : Text) → arguments words.now ≡ Some a → a.stream ≡ Some name →
-        StreamsUnits (files_of (F.contents_of files.now) (F.opens files.now) F.never_fails) name
+        StreamsUnits a.options (files_of (F.contents_of files.now) (F.opens files.now) F.never_fails) name
         (reads R.Source input.old input.new)
         (writes W.Sink output.old output.new) (writes E.Sink faults.old faults.new) result }
     // Streams in files to what the words before their names ask for.
@@ -148,7 +151,7 @@ pub fn run<F: NamedFiles, R: Source, W: Sink, E: Sink>(
     // A stream that comes, to the units of the streams of a description that stands in a file.
     ensures stream { is_explain (map (λ s. s.now) words.now) ≡ false → (a : JobArgumentsView) (name : Text) →
         arguments words.now ≡ Some a → a.stream ≡ Some name →
-        StreamsUnits (files_of (F.contents_of files.now) (F.opens files.now) F.never_fails) name
+        StreamsUnits a.options (files_of (F.contents_of files.now) (F.opens files.now) F.never_fails) name
         (reads R.Source input.old input.new)
         (writes W.Sink output.old output.new) (writes E.Sink faults.old faults.new) result }
     // Streams in files to what the words before their names ask for.

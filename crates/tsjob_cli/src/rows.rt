@@ -138,6 +138,26 @@ pub const MAKE_DTS: OptionRow = OptionRow {
     help: "DTS are made from PTS",
 };
 
+/// Whether the units at which a decoder may begin are marked.
+pub const MARK_ACCESS: OptionRow = OptionRow {
+    name: "mark-access",
+    value: ValueKind::Flag,
+    form: "",
+    unit: "",
+    apart: "",
+    help: "units at which a decoder may begin have random_access_indicator",
+};
+
+/// PIDs whose units are aligned.
+pub const ALIGNED: OptionRow = OptionRow {
+    name: "aligned",
+    value: ValueKind::Numbers { greatest: 8_191 },
+    form: "PID,..",
+    unit: "",
+    apart: "",
+    help: "PIDs whose units have data_alignment_indicator",
+};
+
 /// Whether a stream that cannot be carried refuses the input.
 pub const STRICT: OptionRow = OptionRow {
     name: "strict",

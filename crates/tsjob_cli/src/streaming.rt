@@ -10,8 +10,10 @@ use checked_jobs::read_description;
 use counted_io::{Sink, Source};
 use description::{DescError, DescFault, Description, ProgramDescription, StreamDescription};
 use devices::{Halt, NamedFiles, read_whole, report_halt, report_line};
-use es_feed::{FedMap, FedStream, UnitFeed, pass_stream};
+use es_feed::{FedMap, FedStream, NamedStream, UnitFeed, pass_stream};
+use given_marks::{Marking, TypedPid};
 use std::alloc::{AllocError, Global};
+use stream_jobs::JobOptions;
 
 /// When the first unit of all is due, in units of 90 kHz.
 const EARLIEST: u64 = 270_000;
@@ -48,25 +50,57 @@ fn fed_streams(alloc: Global, streams: &[StreamDescription]) -> Result<Vec<FedSt
     Ok(fed)
 }
 
-// The map of a program, before its first section.
-fn map_of(program: &ProgramDescription) -> FedMap
-    ensures { result ≡ spec.map_of program.now }
+// A stream of a description by its PID and stream_type.
+fn named_stream(stream: &StreamDescription) -> NamedStream
+    ensures { result ≡ spec.named_stream stream.now }
 {
-    FedMap {
+    NamedStream {
+        pid: stream.pid,
+        stream_type: stream.stream_type,
+    }
+}
+
+// The streams of a program.
+fn named_of(
+    alloc: Global,
+    number: u16,
+    streams: &[StreamDescription],
+) -> Result<Vec<NamedStream>, AllocError>
+    ensures { IfOk result (λ named. named.items ≡ spec.named_of number streams.now) }
+{
+    streams
+        .iter()
+        .filter(|stream| stream.program == number)
+        .map(|stream| named_stream(stream))
+        .collect(alloc)
+}
+
+// Adds the map of a program, before its first section.
+fn push_map(
+    alloc: Global,
+    program: &ProgramDescription,
+    streams: &[StreamDescription],
+    maps: &mut Vec<FedMap>,
+) -> Result<(), AllocError>
+    ensures { OnOk result (maps.new.items ≡ maps.old.items ++ (spec.map_of streams.now program.now ∷ [])) }
+{
+    maps.push(FedMap {
         program_number: program.number(),
         current: None,
-    }
+        named: named_of(alloc, program.number(), streams)?,
+    })?;
+    Ok(())
 }
 
 // The map of each program of a description.
 fn maps_of(alloc: Global, description: &Description) -> Result<Vec<FedMap>, AllocError>
     ensures { IfOk result (λ maps. maps.items ≡ spec.maps_of description.now) }
 {
-    description
-        .programs()
-        .iter()
-        .map(|program| map_of(program))
-        .collect(alloc)
+    let mut maps = Vec::new(alloc);
+    for program in description.programs() {
+        push_map(alloc, program, description.streams(), &mut maps)?;
+    }
+    Ok(maps)
 }
 
 // The PID of each stream of a description.
@@ -80,14 +114,60 @@ fn pids_of(alloc: Global, description: &Description) -> Result<Vec<u16>, AllocEr
         .collect(alloc)
 }
 
+// The PID of a stream, and its stream_type.
+fn typed_pid(stream: &StreamDescription) -> TypedPid
+    ensures { result ≡ spec.typed_pid stream.now }
+{
+    TypedPid {
+        pid: stream.pid,
+        stream_type: stream.stream_type,
+    }
+}
+
+// Those of streams, if access points are to be marked.
+#[tactic(auto, unfolding(crate::specs::StreamedUnits::access_of))]
+fn access_of(
+    alloc: Global,
+    asked: bool,
+    streams: &[StreamDescription],
+) -> Result<Vec<TypedPid>, AllocError>
+    ensures { IfOk result (λ types. types.items ≡ spec.access_of asked streams.now) }
+{
+    if !asked {
+        return Ok(Vec::new(alloc));
+    }
+    streams
+        .iter()
+        .map(|stream| typed_pid(stream))
+        .collect(alloc)
+}
+
+// The marks that options ask for of the streams of a description.
+fn marking_by(
+    alloc: Global,
+    options: &JobOptions<'_>,
+    description: &Description,
+) -> Result<Marking, AllocError>
+    ensures { IfOk result (λ m. m ≡ spec.marking_by options.now description.now) }
+{
+    let access = access_of(alloc, options.mark_access, description.streams())?;
+    let aligned = Vec::from_slice(alloc, options.aligned)?;
+    Ok(Marking { access, aligned })
+}
+
 // The streams of a description, before the first byte.
 #[tactic(auto, using(crate::proofs::StreamedUnits::few_streams))]
-fn feed_of(alloc: Global, description: &Description) -> Result<UnitFeed, AllocError>
-    ensures { IfOk result (λ feed. feed ≡ spec.feed_of description.now) }
+fn feed_of(
+    alloc: Global,
+    options: &JobOptions<'_>,
+    description: &Description,
+) -> Result<UnitFeed, AllocError>
+    ensures { IfOk result (λ feed. feed ≡ spec.feed_of options.now description.now) }
 {
+    let marking = marking_by(alloc, options, description)?;
     let maps = maps_of(alloc, description)?;
     let streams = fed_streams(alloc, description.streams())?;
-    Ok(UnitFeed::new(EARLIEST, maps, streams))
+    Ok(UnitFeed::new(EARLIEST, marking, maps, streams))
 }
 
 // The description in the bytes of a file.
@@ -146,18 +226,19 @@ fn report_none<E: Sink>(faults: &mut E, why: NoDescription) -> u8
     }
 }
 
-// Goes by a description: the units of its streams are written while the stream comes. Returns the status.
+// Goes by options and a description: the units of its streams are written while the stream comes. Returns the status.
 fn stream_by<R: Source, W: Sink, E: Sink>(
     alloc: Global,
+    options: &JobOptions<'_>,
     description: &Description,
     input: &mut R,
     output: &mut W,
     faults: &mut E,
 ) -> u8
-    ensures { spec.GoesBy description.now (reads R.Source input.old input.new) (writes W.Sink output.old output.new)
+    ensures { spec.GoesBy options.now description.now (reads R.Source input.old input.new) (writes W.Sink output.old output.new)
         (writes E.Sink faults.old faults.new) result }
 {
-    let Ok(feed) = feed_of(alloc, description) else {
+    let Ok(feed) = feed_of(alloc, options, description) else {
         return report_halt(faults, Halt::Memory);
     };
     let Ok(pids) = pids_of(alloc, description) else {
@@ -166,22 +247,23 @@ fn stream_by<R: Source, W: Sink, E: Sink>(
     pass_stream(alloc, feed, &pids, input, output, faults)
 }
 
-/// Writes the units of the streams of a description while the stream comes; the description is in the file of a name. Returns the
-/// status.
+/// Writes the units of the streams of a description while the stream comes, with the marks that options ask for; the description is
+/// in the file of a name. Returns the status.
 pub(crate) fn stream_units<F: NamedFiles, R: Source, W: Sink, E: Sink>(
     alloc: Global,
+    options: &JobOptions<'_>,
     files: &F,
     name: &str,
     input: &mut R,
     output: &mut W,
     faults: &mut E,
 ) -> u8
-    ensures { spec.StreamsUnits (files_of (F.contents_of files.now) (F.opens files.now) F.never_fails) name.now
+    ensures { spec.StreamsUnits options.now (files_of (F.contents_of files.now) (F.opens files.now) F.never_fails) name.now
         (reads R.Source input.old input.new)
         (writes W.Sink output.old output.new) (writes E.Sink faults.old faults.new) result }
 {
     match named_description(alloc, files, name) {
-        Ok(description) => stream_by(alloc, &description, input, output, faults),
+        Ok(description) => stream_by(alloc, options, &description, input, output, faults),
         Err(why) => report_none(faults, why),
     }
 }

@@ -4,15 +4,34 @@ ghost use Rattle.tsremux_cli.specs.Options as spec;
 ghost use Rattle.word_faults.specs.KnownWords.{known_of};
 
 use tsjob_cli::rows::{
-    BASE, BUFFERS, DECLARE, HELP, LEAD, MAKE_DTS, NAME, NETWORK, OUTPUT, PCR, PROGRAM, PROGRESS,
-    QUIET, RATE, START, STRICT, VERBOSE, VERSION, WITHOUT,
+    ALIGNED, BASE, BUFFERS, DECLARE, HELP, LEAD, MAKE_DTS, MARK_ACCESS, NAME, NETWORK, OUTPUT, PCR,
+    PROGRAM, PROGRESS, QUIET, RATE, START, STRICT, VERBOSE, VERSION, WITHOUT,
 };
 use word_faults::{KnownWords, OptionRow};
 
 /// The options. Which word is a fault, and the usage, follow these rows.
-pub(crate) const OPTIONS: [OptionRow; 19] = [
-    RATE, PROGRAM, WITHOUT, BUFFERS, LEAD, DECLARE, PCR, START, BASE, NETWORK, NAME, MAKE_DTS,
-    STRICT, OUTPUT, QUIET, VERBOSE, PROGRESS, VERSION, HELP,
+pub(crate) const OPTIONS: [OptionRow; 21] = [
+    RATE,
+    PROGRAM,
+    WITHOUT,
+    BUFFERS,
+    LEAD,
+    DECLARE,
+    PCR,
+    START,
+    BASE,
+    NETWORK,
+    NAME,
+    MAKE_DTS,
+    MARK_ACCESS,
+    ALIGNED,
+    STRICT,
+    OUTPUT,
+    QUIET,
+    VERBOSE,
+    PROGRESS,
+    VERSION,
+    HELP,
 ];
 
 /// The usage, written to the first writer if the words ask for help, to the second on a usage error: a line for each option of the table.
@@ -30,6 +49,8 @@ const USAGE: &str = "usage: tsremux [OPTIONS] [FILE..|-] -o OUT
   --network ID:NAME[:ORIGINAL]   the network, and original_network_id
   --name N:NAME[:PROVIDER],..    the names of the services of programs
   --make-dts                     DTS are made from PTS
+  --mark-access                  units at which a decoder may begin have random_access_indicator
+  --aligned PID,..               PIDs whose units have data_alignment_indicator
   --strict                       a stream that cannot be carried refuses the input; else it is left out
   --output FILE                  or -o: the file that is written; else standard output
   --quiet                        or -q: report only why nothing is written

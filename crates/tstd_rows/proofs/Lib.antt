@@ -26,6 +26,9 @@ pub mod VideoParts
 pub mod LeakSteps
 pub mod Rows
 pub mod Packets
+pub mod Rooms
+pub mod RoomRows
+pub mod WaitingRooms
 pub mod VideoRows
 pub mod VideoBegins
 pub mod VideoIfAny

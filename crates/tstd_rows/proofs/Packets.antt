@@ -9,6 +9,7 @@ use Rattle.tstd_rows.specs.declared.excess.Excess.{Excess}
 use Rattle.tstd_rows.specs.History.{transport_of}
 use Rattle.tstd_rows.specs.Limits.{last_bytes, last_index}
 use Rattle.tstd_rows.specs.declared.unit_seen.UnitSeen.{UnitSeen}
+use Rattle.tstd_rows.specs.declared.late_causes.VideoUnit.{VideoUnit}
 use Rattle.tstd_rows.specs.declared.arriving.Arriving.{Arriving}
 use Rattle.tstd_rows.specs.declared.arriving.UnitPart.{UnitPart}
 use Rattle.tstd_rows.specs.declared.entered.Entered.{Entered}
@@ -149,7 +150,7 @@ packet_video_entered b0 b1 b2 b3 sizes h arrival p size lead count found k v tak
     payload (after_unit h arrival p size lead) sizes begun begun_video
     ∙ ap (λ (n : ℕ). video_first sizes h arrival p n lead count) same ∙ ap (λ (n : ℕ). video_first sizes h arrival p (size_of p) n count) same' ∙ video_in sizes h arrival p count takes
 
-pub packet_video_unit : (b0 b1 b2 b3 : StreamBuffers) (sizes : Option VideoSizes) (h : Held) (arrival : Arrival) (p : Arriving) (size lead : ℕ) (unit : Option UnitSeen) → IsHeld b0 h →
+pub packet_video_unit : (b0 b1 b2 b3 : StreamBuffers) (sizes : Option VideoSizes) (h : Held) (arrival : Arrival) (p : Arriving) (size lead : ℕ) (unit : Option VideoUnit) → IsHeld b0 h →
     HoldsVideoOf b0 sizes h → takes_in h arrival p ≡ true → size ≡ size_of p → lead ≡ lead_in arrival p → Steps b0 b1 b2 b3 arrival p size lead →
     ((h : Held) (sizes : Option VideoSizes) → IsHeld b2 h → HoldsVideoOf b2 sizes h → unit ≡ video_unit_ended sizes h p.begins) → unit ≡ video_unit_of sizes h arrival p
 packet_video_unit b0 b1 b2 b3 sizes h arrival p size lead unit k v takes same same' steps ends =

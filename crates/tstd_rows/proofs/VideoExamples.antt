@@ -1,4 +1,6 @@
 -- The definitions of a video stream's two buffers at numbers.
+use Rattle.std.specs.Prelude.{option_and_then}
+use Rattle.tstd_rows.specs.RoomTimes.{raised}
 use Rattle.std.proofs.Common.{◌≡◌, List, [], ◌∷◌, Some, None, refl}
 use Rattle.clock27.specs.Departure.{departures, last_left}
 use Rattle.clock27.specs.Fullness.{fullness}
@@ -6,7 +8,7 @@ use Rattle.clock27.specs.Peak.{greatest_at, most_found}
 use Rattle.unit_timing.specs.LeakMethod.{transfers}
 use Rattle.tstd_rows.specs.History.{Part, arrivals_of, payload_left, until_of}
 use Rattle.tstd_rows.specs.History.Part.{Passes, Carries, Begins}
-use Rattle.tstd_rows.specs.VideoViewed.{leak_step, multiplexing_left, multiplexing_buffer, multiplexing_held, elementary_held, elementary_peak, removed_of, transferred, room_left, cause_of}
+use Rattle.tstd_rows.specs.VideoViewed.{leak_step, multiplexing_left, multiplexing_buffer, multiplexing_held, elementary_held, elementary_peak, removed_of, transferred, last_transferred, room_left, cause_of, unit_cause, with_entry}
 use Rattle.tstd_rows.specs.declared.late_causes.LateCause.TheVariants.{Multiplex, FullBuffer}
 
 -- by a clock S is 216,000,000. MPEG-2 main level: 18,000,000 bits a second into MB, 15,000,000 out of it. AVC and HEVC: both are the same. High
@@ -65,6 +67,15 @@ held_back : transferred 10 20 1 two_units ≡ 50 ∷ 120 ∷ 140 ∷ []
 unfolding two_units removed_of until_of transfers payload_left arrivals_of departures last_left
 held_back = refl
 
+last_goes : last_transferred 10 20 1 two_units ≡ 140
+unfolding two_units removed_of until_of last_transfer payload_left arrivals_of departures last_left
+last_goes = refl
+
+-- with room for two bytes the third waits until the first unit is gone, at 100
+two_rooms : last_transferred 10 20 2 two_units ≡ 120
+unfolding two_units removed_of until_of last_transfer payload_left arrivals_of departures last_left
+two_rooms = refl
+
 by_room : room_left 20 1 two_units ≡ 20 ∷ 120 ∷ 140 ∷ 160 ∷ []
 unfolding two_units removed_of until_of departures
 by_room = refl
@@ -77,6 +88,29 @@ first_late = refl
 second_late : cause_of 45 90 140 ≡ Some Multiplex
 unfolding cause_of
 second_late = refl
+
+-- a unit of three bytes in an EB of two, all of it in MB by 50: its last byte waits until the unit itself is gone, at 100
+three_bytes : List Part
+three_bytes = Carries (2 ∷ 3 ∷ 4 ∷ []) ∷ Passes (0 ∷ 1 ∷ []) ∷ Begins (record { until = 100; deadline = 100 }) ∷ []
+
+over_its_buffer : last_transferred 10 20 2 three_bytes ≡ 120
+unfolding three_bytes removed_of until_of last_transfer payload_left arrivals_of departures last_left
+over_its_buffer = refl
+
+over_cause : option_and_then unit_cause (with_entry (Some (record { due = record { until = 100; deadline = 100 }; bytes = 3; left = 90 })) 120) ≡ Some FullBuffer
+unfolding with_entry cause_of
+over_cause = refl
+
+-- a unit of which no byte has come is not late yet
+no_byte : with_entry (Some (record { due = record { until = 100; deadline = 100 }; bytes = 0; left = 0 })) 120
+    ≡ Some (record { seen = record { due = record { until = 100; deadline = 100 }; bytes = 0; left = 0 }; entered = 0 })
+unfolding with_entry
+no_byte = refl
+
+-- times count as raised: 6 comes after 7, and 0 is past
+past_and_low : raised 5 (0 ∷ 7 ∷ 6 ∷ 9 ∷ []) ≡ 5 ∷ 7 ∷ 7 ∷ 9 ∷ []
+unfolding raised
+past_and_low = refl
 
 in_time : cause_of 100 70 90 ≡ None
 unfolding cause_of

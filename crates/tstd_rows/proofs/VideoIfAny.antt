@@ -3,11 +3,14 @@ use Rattle.std.proofs.Common.{◌≡◌, ◌∙◌, ℕ, List, ◌∷◌, Option
 use Rattle.tstd_rows.specs.declared.transport_buffer.TransportBuffer.{TransportBuffer}
 use Rattle.tstd_rows.specs.History.{Part, transport_of, main_peak, unit_of}
 use Rattle.tstd_rows.specs.History.Part.{Begins}
-use Rattle.tstd_rows.specs.VideoViewed.{elementary_peak, leaked, multiplexing_buffer}
+use Rattle.std.specs.Prelude.{◌==◌, if◌then◌else◌}
+use Rattle.tstd_rows.specs.RoomTimes.{capped}
+use Rattle.tstd_rows.specs.VideoViewed.{elementary_peak, last_transferred, leaked, multiplexing_buffer, with_entry}
 use Rattle.tstd_rows.specs.declared.unit_seen.DueTime.{DueTime}
 use Rattle.tstd_rows.specs.declared.unit_seen.UnitSeen.{UnitSeen}
 use Rattle.tstd_rows.proofs.VideoParts.{leaked_parts}
-use Rattle.tstd_rows.specs.HeldVideo.{HoldsVideo, IsVideoHeld, VideoSizes, video_entered, video_found, video_unit, video_view}
+use Rattle.tstd_rows.specs.HeldVideo.{HoldsVideo, IsVideoHeld, VideoSizes, video_entered, video_found, video_unit, video_unit_in, video_view}
+use Rattle.tstd_rows.specs.declared.late_causes.VideoUnit.{VideoUnit}
 use Rattle.tstd_rows.specs.declared.video_buffers.VideoBuffers.{VideoBuffers}
 use Rattle.tstd_rows.specs.declared.video_buffers.VideoEntered.{VideoEntered}
 
@@ -45,14 +48,14 @@ pub some_begun : {V E : Type 0} (result : Result V E) (video : Option VideoBuffe
 some_begun (Ok value) video v v' sizes rate parts due is k f = some_taken video v v' sizes rate parts (Begins due ∷ parts) is k f
 some_begun (Err e) video v v' sizes rate parts due is k f = tt
 
-pub some_unit : (video : Option VideoBuffers) (v : VideoBuffers) (sizes : Option VideoSizes) (rate : ℕ) (parts : List Part) (unit : Option UnitSeen) → video ≡ Some v → HoldsVideo video sizes rate parts →
-    ((s : VideoSizes) → IsVideoHeld v s rate parts → unit ≡ unit_of s.leak (leaked rate parts)) → unit ≡ video_unit sizes rate parts
+pub some_unit : (video : Option VideoBuffers) (v : VideoBuffers) (sizes : Option VideoSizes) (rate : ℕ) (parts : List Part) (unit : Option VideoUnit) → video ≡ Some v → HoldsVideo video sizes rate parts →
+    ((s : VideoSizes) → IsVideoHeld v s rate parts → unit ≡ video_unit_in s rate parts) → unit ≡ video_unit sizes rate parts
 unfolding video_unit
 some_unit None v sizes rate parts unit is k f = absurd cc
 some_unit (Some w) v None rate parts unit is k f = absurd k
 some_unit (Some w) v (Some s) rate parts unit is k f = let same : w ≡ v = cc in f s (subst (λ (x : VideoBuffers). IsVideoHeld x s rate parts) same k)
 
-pub none_unit : (video : Option VideoBuffers) (sizes : Option VideoSizes) (rate : ℕ) (parts : List Part) (unit : Option UnitSeen) → video ≡ None → HoldsVideo video sizes rate parts → unit ≡ None →
+pub none_unit : (video : Option VideoBuffers) (sizes : Option VideoSizes) (rate : ℕ) (parts : List Part) (unit : Option VideoUnit) → video ≡ None → HoldsVideo video sizes rate parts → unit ≡ None →
     unit ≡ video_unit sizes rate parts
 unfolding video_unit
 none_unit None None rate parts unit is k none = none
@@ -70,3 +73,15 @@ peak_in v sizes rate parts k =
 
 pub unit_held : (v : VideoBuffers) (sizes : VideoSizes) (rate : ℕ) (parts : List Part) → IsVideoHeld v sizes rate parts → v.view.unit ≡ unit_of sizes.leak (leaked rate parts)
 unit_held v sizes rate parts k = k.view.unit ∙ ap (λ (s : ℕ). unit_of s (leaked rate parts)) k.leak
+
+-- the unit under way, with when its last byte goes to EB
+entry_same : (unit : Option UnitSeen) (time time' : ℕ) → capped time ≡ capped time' → with_entry unit time ≡ with_entry unit time'
+unfolding with_entry
+entry_same None time time' is = refl
+entry_same (Some u) time time' is = ap (λ (t : ℕ). Some (record { seen = u; entered = if u.bytes == 0 then 0 else t })) is
+
+pub unit_entered : (v : VideoBuffers) (sizes : VideoSizes) (rate : ℕ) (parts : List Part) (unit : Option UnitSeen) (time : ℕ) → IsVideoHeld v sizes rate parts → unit ≡ v.view.unit →
+    capped time ≡ capped (last_transferred rate sizes.leak sizes.elementary parts) → with_entry unit time ≡ video_unit_in sizes rate parts
+unit_entered v sizes rate parts unit time k is at =
+    ap (λ (u : Option UnitSeen). with_entry u time) (is ∙ unit_held v sizes rate parts k)
+    ∙ entry_same (unit_of sizes.leak (leaked rate parts)) time (last_transferred rate sizes.leak sizes.elementary parts) at

@@ -1,12 +1,16 @@
 -- Bytes of video that enter its two buffers.
-use Rattle.std.proofs.Common.{◌≡◌, ◌∙◌, Global, ℕ, ◌+◌, ◌*◌, ◌^◌, ◌≤◌, List, [], ◌∷◌, ◌++◌, Option, Some, None, Result, Ok, Err, IfOk, OnOk, refl, subst, ap, ap₂, arith}
+use Rattle.std.proofs.Common.{◌≡◌, ◌∙◌, sym, Global, ℕ, ◌+◌, ◌*◌, ◌^◌, ◌≤◌, max, List, [], ◌∷◌, ◌++◌, length, replicate, take, drop, Option, Some, None, Result, Ok, Err, IfOk, OnOk, refl, subst, ap, ap₂, arith}
 use Rattle.std.specs.Option.{option_to_list}
 use Rattle.std.proofs.Math.Nat.{mul-le-mul, mul-le-mul_right}
 use Rattle.clock27.specs.Departure.{departures, last_left}
 use Rattle.clock27.specs.Peak.{greatest_at, most_found}
 use Rattle.tstd.proofs.RisingTimes.{greatest_ext}
+use Rattle.std.proofs.lemmas.List.{length-append}
 use Rattle.arrival.specs.declared.row.Row.{Row}
-use Rattle.tstd_rows.specs.Buffers.{IsSoon}
+use Rattle.arrival.specs.Rows.{times_of}
+use Rattle.tstd_rows.specs.declared.leaving.Leaving.{Leaving}
+use Rattle.tstd_rows.proofs.Pieces.{length-row}
+use Rattle.tstd_rows.specs.Buffers.{IsSoon, times_left}
 use Rattle.tstd_rows.specs.Excesses.{excess_after, excesses_ended}
 use Rattle.tstd_rows.specs.declared.excess.Excess.{Excess}
 use Rattle.tstd_rows.specs.declared.excess.ExcessWatch.{ExcessWatch}
@@ -14,11 +18,17 @@ use Rattle.tstd_rows.specs.declared.transport_buffer.TransportBuffer.{TransportB
 use Rattle.tstd_rows.specs.History.{Part, arrivals_of, last_of, left_after, main_fullness, unit_of}
 use Rattle.tstd_rows.specs.History.Part.{Passes, Carries, Begins}
 use Rattle.tstd_rows.specs.MainExcess.{after_row, ended_by}
-use Rattle.tstd_rows.specs.VideoViewed.{elementary_held, last_leaked, leaked, multiplexing_under_way}
+use Rattle.tstd_rows.specs.VideoViewed.{elementary_held, last_leaked, last_transferred, leaked, multiplexing_under_way}
 use Rattle.tstd_rows.specs.Viewed.{IsViewOf}
 use Rattle.tstd_rows.specs.Busy.{busy_under_way, busy_with, leak_busy, never_busy}
 use Rattle.tstd_rows.specs.declared.busy_watch.BusyWatch.{BusyWatch}
 use Rattle.tstd_rows.specs.declared.viewed_buffers.StreamView.{StreamView}
+use Rattle.tstd_rows.specs.declared.eb_rooms.EbRooms.{EbRooms}
+use Rattle.tstd.specs.declared.buffered_units.BufferedUnit.{BufferedUnit}
+use Rattle.clock27.proofs.Departures.{length-departures}
+use Rattle.tstd_rows.specs.RoomTimes.{capped, raised}
+use Rattle.tstd_rows.specs.Rooms.{AreRooms, rooms_now}
+use Rattle.tstd_rows.proofs.Rooms.{rooms_carried, rooms_passed}
 use Rattle.tstd_rows.specs.declared.main_watch.MainWatch.{MainWatch}
 use Rattle.tstd_rows.specs.declared.unit_seen.DueTime.{DueTime}
 use Rattle.tstd_rows.specs.declared.unit_seen.UnitSeen.{UnitSeen}
@@ -54,7 +64,7 @@ unfolding leaked
 empty_view view rate v = v
 
 -- when the last byte leaves MB
-leaked_last : {A : Type 0} (view : StreamView A) (leak rate : ℕ) (parts : List Part) → view.transport.step ≡ leak → IsViewOf view (leaked rate parts) → view.transport.last ≡ last_leaked rate leak parts
+pub leaked_last : {A : Type 0} (view : StreamView A) (leak rate : ℕ) (parts : List Part) → view.transport.step ≡ leak → IsViewOf view (leaked rate parts) → view.transport.last ≡ last_leaked rate leak parts
 leaked_last view leak rate parts step v =
     ap (λ (b : TransportBuffer). b.last) v.arrived
     ∙ ap₂ (λ (s : ℕ) (ts : List ℕ). last_left s 0 ts) step (leaked_arrive rate parts)
@@ -85,9 +95,9 @@ pub video_held : (old new : VideoBuffers) (sizes : VideoSizes) (rate : ℕ) (par
     IsViewOf new.view (Carries ls ∷ leaked rate parts) → new.view.transport.step ≡ old.view.transport.step → new.view.watch.size ≡ old.view.watch.size →
     most ≡ greatest_at (main_fullness old.view.transport.step (Carries ls ∷ leaked rate parts)) (left_after old.view.transport.step (leaked rate parts) ls) →
     last ≡ new.view.transport.last → new.elementary.size ≡ old.elementary.size → new.elementary.under_way ≡ after_row old.elementary.size old.elementary.under_way most last →
-    new.busy ≡ busy_with old.busy old.view.transport.last ls → IsVideoHeld new sizes rate (Carries times ∷ parts)
+    new.busy ≡ busy_with old.busy old.view.transport.last ls → AreRooms new.rooms rate sizes.leak sizes.elementary (Carries times ∷ parts) → IsVideoHeld new sizes rate (Carries times ∷ parts)
 unfolding leak_busy
-video_held old new sizes rate parts ls times most last k is view step size found last_is main_size main busy =
+video_held old new sizes rate parts ls times most last k is view step size found last_is main_size main busy rooms =
     let viewed = leaked_view new.view rate parts ls times is view in
     let leak : new.view.transport.step ≡ sizes.leak = step ∙ k.leak in
     let most_is : most ≡ elementary_found rate sizes.leak parts times = elementary_is old sizes rate parts ls times most k is found in
@@ -104,7 +114,28 @@ video_held old new sizes rate parts ls times most last k is view step size found
           ∙ grown rate sizes.leak sizes.elementary parts times;
       busy = busy ∙ ap₂ (λ (w : BusyWatch) (l : ℕ). busy_with w l ls) k.busy (leaked_last old.view sizes.leak rate parts k.leak k.view)
           ∙ ap (λ (ts : List ℕ). busy_with (leak_busy rate sizes.leak sizes.second parts) (last_leaked rate sizes.leak parts) ts) is;
+      rooms = rooms;
     }
+
+pub many_left : (l : Leaving) → l.waiting.bytes + l.free.bytes ≡ length (times_left l)
+many_left l =
+    sym (length-append (times_of l.waiting) (times_of l.free)
+    ∙ ap₂ (λ (m n : ℕ). m + n) (length-row l.waiting.from l.waiting.pace l.waiting.parts l.waiting.bytes) (length-row l.free.from l.free.pace l.free.parts l.free.bytes))
+
+-- and when EB has room for what comes next
+pub rooms_taken : (old : VideoBuffers) (settled new : EbRooms) (sizes : VideoSizes) (rate step n : ℕ) (parts : List Part) (ls times : List ℕ) → IsVideoHeld old sizes rate parts → ls ≡ left_after rate parts times →
+    n ≡ length ls → step ≡ sizes.leak →
+    ((from : ℕ) → old.view.transport.last ≤ from → raised from (rooms_now settled) ≡ raised from (rooms_now old.rooms)) → length (rooms_now settled) ≡ length (rooms_now old.rooms) →
+    settled.last ≡ old.rooms.last → settled.current ≡ old.rooms.current →
+    rooms_now new ≡ drop n (rooms_now settled ++ replicate n settled.current.until) →
+    new.last ≡ capped (last_left step settled.last (take n (rooms_now settled ++ replicate n settled.current.until))) → new.current.until ≡ settled.current.until →
+    AreRooms new rate sizes.leak sizes.elementary (Carries times ∷ parts)
+rooms_taken old settled new sizes rate step n parts ls times k is many leak rooms len last current next goes stays =
+    rooms_carried old.rooms settled new rate sizes.leak sizes.elementary n parts times k.rooms
+    (many ∙ ap length is ∙ length-departures rate (last_of rate parts) times)
+    (λ from le. rooms from (omega (arith, le, leaked_last old.view sizes.leak rate parts k.leak k.view))) len last
+    (ap (λ (u : BufferedUnit). u.until) current) next
+    (goes ∙ ap (λ (s : ℕ). capped (last_left s settled.last (take n (rooms_now settled ++ replicate n settled.current.until)))) leak) stays
 
 same_video : (e : VideoEntered) (multiplexing : List Excess) (elementary : Option Excess) (most elementary_most : ℕ) → option_to_list e.waiting ++ option_to_list e.free ≡ multiplexing →
     e.elementary ≡ elementary → e.multiplexing_most ≡ most → e.elementary_most ≡ elementary_most →
@@ -139,11 +170,11 @@ video_found old new sizes rate parts ls times most last e k is view step found l
     (elementary ∙ most_is)
 
 -- a unit begins
-video_begun : (old new : VideoBuffers) (sizes : VideoSizes) (rate : ℕ) (parts : List Part) (due : DueTime) → IsVideoHeld old sizes rate parts → IsViewOf new.view (leaked rate (Begins due ∷ parts)) →
+pub video_begun : (old new : VideoBuffers) (sizes : VideoSizes) (rate : ℕ) (parts : List Part) (due : DueTime) → IsVideoHeld old sizes rate parts → IsViewOf new.view (leaked rate (Begins due ∷ parts)) →
     new.view.transport ≡ old.view.transport → new.view.watch ≡ old.view.watch → new.elementary ≡ old.elementary → new.busy ≡ old.busy →
-    IsVideoHeld new sizes rate (Begins due ∷ parts)
+    AreRooms new.rooms rate sizes.leak sizes.elementary (Begins due ∷ parts) → IsVideoHeld new sizes rate (Begins due ∷ parts)
 unfolding elementary_under_way leak_busy
-video_begun old new sizes rate parts due k view transport watch elementary busy =
+video_begun old new sizes rate parts due k view transport watch elementary busy rooms =
     record {
       leak = ap (λ (t : TransportBuffer). t.step) transport ∙ k.leak;
       size = ap (λ (w : ExcessWatch). w.size) watch ∙ k.size;
@@ -151,19 +182,13 @@ video_begun old new sizes rate parts due k view transport watch elementary busy 
       main_size = ap (λ (m : MainWatch). m.size) elementary ∙ k.main_size;
       under_way = ap (λ (m : MainWatch). m.under_way) elementary ∙ k.under_way;
       busy = busy ∙ k.busy;
+      rooms = rooms;
     }
 
-pub begun_in : {V E : Type 0} (result : Result V E) (old : VideoBuffers) (view : StreamView Global) (sizes : VideoSizes) (rate : ℕ) (parts : List Part) (due : DueTime) → IsVideoHeld old sizes rate parts →
-    OnOk result ((parts : List Part) → IsViewOf old.view parts → IsViewOf view (Begins due ∷ parts)) → view.transport ≡ old.view.transport → view.watch ≡ old.view.watch →
-    OnOk result (IsVideoHeld (record { view = view; elementary = old.elementary; busy = old.busy }) sizes rate (Begins due ∷ parts))
-begun_in (Ok value) old view sizes rate parts due k views transport watch =
-    video_begun old (record { view = view; elementary = old.elementary; busy = old.busy }) sizes rate parts due k (begun_view view rate parts due (views (leaked rate parts) k.view)) transport watch refl refl
-begun_in (Err e) old view sizes rate parts due k views transport watch = tt
-
-pub unit_in : {E : Type 0} (result : Result (Option UnitSeen) E) (old : VideoBuffers) (sizes : VideoSizes) (rate : ℕ) (parts : List Part) → IsVideoHeld old sizes rate parts →
-    IfOk result (λ unit. unit ≡ old.view.unit) → IfOk result (λ unit. unit ≡ unit_of sizes.leak (leaked rate parts))
-unit_in (Ok unit) old sizes rate parts k is = is ∙ k.view.unit ∙ ap (λ (s : ℕ). unit_of s (leaked rate parts)) k.leak
-unit_in (Err e) old sizes rate parts k is = tt
+-- when the last byte so far goes to EB
+pub entry_in : (v : VideoBuffers) (sizes : VideoSizes) (rate : ℕ) (parts : List Part) → IsVideoHeld v sizes rate parts →
+    capped (max v.view.transport.last v.rooms.last) ≡ capped (last_transferred rate sizes.leak sizes.elementary parts)
+entry_in v sizes rate parts k = ap (λ (l : ℕ). capped (max l v.rooms.last)) (leaked_last v.view sizes.leak rate parts k.leak k.view) ∙ k.rooms.last
 
 -- bytes that go no further than the transport buffer
 pub video_passed : (video : Option VideoBuffers) (sizes : Option VideoSizes) (rate : ℕ) (parts : List Part) (times : List ℕ) → HoldsVideo video sizes rate parts → HoldsVideo video sizes rate (Passes times ∷ parts)
@@ -171,13 +196,14 @@ unfolding elementary_under_way leaked leak_busy
 video_passed None None rate parts times k = tt
 video_passed None (Some s) rate parts times k = absurd k
 video_passed (Some v) None rate parts times k = absurd k
-video_passed (Some v) (Some s) rate parts times k = record { leak = k.leak; size = k.size; view = k.view; main_size = k.main_size; under_way = k.under_way; busy = k.busy }
+video_passed (Some v) (Some s) rate parts times k = record { leak = k.leak; size = k.size; view = k.view; main_size = k.main_size; under_way = k.under_way; busy = k.busy; rooms = rooms_passed v.rooms rate s.leak s.elementary parts times k.rooms }
 
 -- nothing has come
 pub video_empty : (video : VideoBuffers) (sizes : VideoSizes) (rate : ℕ) → video.view.transport.step ≡ sizes.leak → video.view.watch.size ≡ sizes.multiplexing → IsViewOf video.view [] →
-    video.elementary ≡ record { size = sizes.elementary; under_way = None } → video.busy ≡ never_busy sizes.second → IsVideoHeld video sizes rate []
+    video.elementary ≡ record { size = sizes.elementary; under_way = None } → video.busy ≡ never_busy sizes.second →
+    AreRooms video.rooms rate sizes.leak sizes.elementary [] → IsVideoHeld video sizes rate []
 unfolding elementary_under_way leak_busy
-video_empty video sizes rate leak size view main busy =
+video_empty video sizes rate leak size view main busy rooms =
     record {
       leak = leak;
       size = size;
@@ -185,6 +211,7 @@ video_empty video sizes rate leak size view main busy =
       main_size = ap (λ (m : MainWatch). m.size) main;
       under_way = ap (λ (m : MainWatch). m.under_way) main;
       busy = busy;
+      rooms = rooms;
     }
 
 -- how long MB is not empty

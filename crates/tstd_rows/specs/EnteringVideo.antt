@@ -3,7 +3,7 @@
 use Rattle.std.specs.Prelude.{ℕ, ◌+◌, ◌-◌, ◌*◌, ◌==◌, Bool, if◌then◌else◌, List, Option, Some, None}
 use Rattle.arrival.specs.declared.arrival.Arrival.{Arrival}
 use Rattle.arrival.specs.Arrivals.{times_at}
-use Rattle.tstd_rows.specs.declared.unit_seen.UnitSeen.{UnitSeen}
+use Rattle.tstd_rows.specs.declared.late_causes.VideoUnit.{VideoUnit}
 use Rattle.tstd_rows.specs.declared.unit_seen.DueTime.{DueTime}
 use Rattle.tstd_rows.specs.Held.{Held}
 use Rattle.tstd_rows.specs.HeldVideo.{VideoEnteredView, VideoSizes, nothing_found, video_found, video_unit}
@@ -18,7 +18,7 @@ abbrev pub bytes_video : Option VideoSizes → Held → Arrival → Bool → ℕ
 bytes_video sizes h arrival enters i n = payload_video sizes h enters n (times_at arrival h.rx i n)
 
 -- a unit that begins ends the one before it
-unfoldable pub video_unit_ended : Option VideoSizes → Held → Option DueTime → Option UnitSeen
+unfoldable pub video_unit_ended : Option VideoSizes → Held → Option DueTime → Option VideoUnit
 video_unit_ended sizes h None = None
 video_unit_ended sizes h (Some due) = video_unit sizes h.rate h.parts
 
@@ -35,8 +35,8 @@ video_of sizes h arrival p = if takes_in h arrival p then video_with sizes h arr
 unfoldable pub video_first_of : Option VideoSizes → Held → Arrival → Arriving → ℕ → VideoEnteredView
 video_first_of sizes h arrival p count = if takes_in h arrival p then video_first sizes h arrival p (size_of p) (lead_in arrival p) count else nothing_found
 
-abbrev pub unit_with : Option VideoSizes → Held → Arrival → Arriving → ℕ → ℕ → Option UnitSeen
+abbrev pub unit_with : Option VideoSizes → Held → Arrival → Arriving → ℕ → ℕ → Option VideoUnit
 unit_with sizes h arrival p size lead = video_unit_ended sizes (after_header h arrival p size lead) p.begins
 
-unfoldable pub video_unit_of : Option VideoSizes → Held → Arrival → Arriving → Option UnitSeen
+unfoldable pub video_unit_of : Option VideoSizes → Held → Arrival → Arriving → Option VideoUnit
 video_unit_of sizes h arrival p = if takes_in h arrival p then unit_with sizes h arrival p (size_of p) (lead_in arrival p) else None

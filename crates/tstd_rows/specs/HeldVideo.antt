@@ -7,11 +7,12 @@ use Rattle.clock27.specs.Peak.{greatest_at, most_found}
 use Rattle.tstd_rows.specs.declared.excess.Excess.{Excess}
 use Rattle.tstd_rows.specs.History.{Part, left_after, unit_of}
 use Rattle.tstd_rows.specs.History.Part.{Passes, Carries, Begins}
-use Rattle.tstd_rows.specs.VideoViewed.{elementary_held, last_leaked, leak_step, leaked, leaked_after, multiplexing_ended}
+use Rattle.tstd_rows.specs.VideoViewed.{elementary_held, last_leaked, last_transferred, leak_step, leaked, leaked_after, multiplexing_ended, with_entry}
 use Rattle.tstd_rows.specs.Viewed.{IsViewOf}
 use Rattle.tstd_rows.specs.MainExcess.{after_row, ended_by}
 use Rattle.tstd_rows.specs.Busy.{leak_busy, second_of}
-use Rattle.tstd_rows.specs.declared.unit_seen.UnitSeen.{UnitSeen}
+use Rattle.tstd_rows.specs.declared.late_causes.VideoUnit.{VideoUnit}
+use Rattle.tstd_rows.specs.Rooms.{AreRooms}
 use Rattle.tstd_rows.specs.declared.video_buffers.VideoBuffers.{VideoBuffers}
 use Rattle.tstd_rows.specs.declared.video_buffers.VideoEntered.{VideoEntered}
 use Rattle.tstd_rows.specs.declared.video_buffers.VideoRates.{VideoRates}
@@ -56,6 +57,7 @@ pub record IsVideoHeld (video : VideoBuffers) (sizes : VideoSizes) (rate : ℕ) 
   pub main_size : video.elementary.size ≡ sizes.elementary
   pub under_way : video.elementary.under_way ≡ elementary_under_way rate sizes.leak sizes.elementary parts
   pub busy : video.busy ≡ leak_busy rate sizes.leak sizes.second parts
+  pub rooms : AreRooms video.rooms rate sizes.leak sizes.elementary parts
 
 -- those of a stream, if it has them: of sizes, or there are none
 abbrev pub HoldsVideo : Option VideoBuffers → Option VideoSizes → ℕ → List Part → Type 0
@@ -95,9 +97,12 @@ unfoldable pub video_found : Option VideoSizes → ℕ → List Part → List �
 video_found None rate before times = nothing_found
 video_found (Some sizes) rate before times = video_entered sizes rate before times
 
-unfoldable pub video_unit : Option VideoSizes → ℕ → List Part → Option UnitSeen
+abbrev pub video_unit_in : VideoSizes → ℕ → List Part → Option VideoUnit
+video_unit_in sizes rate parts = with_entry (unit_of sizes.leak (leaked rate parts)) (last_transferred rate sizes.leak sizes.elementary parts)
+
+unfoldable pub video_unit : Option VideoSizes → ℕ → List Part → Option VideoUnit
 video_unit None rate parts = None
-video_unit (Some sizes) rate parts = unit_of sizes.leak (leaked rate parts)
+video_unit (Some sizes) rate parts = video_unit_in sizes rate parts
 
 abbrev pub nothing_of_video : VideoEntered
 nothing_of_video = record { waiting = None; free = None; elementary = None; unit = None; multiplexing_most = 0; elementary_most = 0 }

@@ -22,5 +22,7 @@ pub mod Busy
 pub mod Held
 pub mod Entering
 pub mod VideoBytes
+pub mod RoomTimes
+pub mod Rooms
 pub mod HeldVideo
 pub mod EnteringVideo

@@ -3,7 +3,7 @@
 --
 -- Lists of parts have the last one first. Times are those at the stream's transport buffer, which a byte takes `step` to leave: units
 -- of 8 / (S * Rx) seconds, where `step` is S. A byte takes `leak` to leave MB.
-use Rattle.std.specs.Prelude.{◌≡◌, ℕ, ◌+◌, ◌-◌, ◌*◌, ◌/◌, ◌<◌, max, nat_lt, List, [], ◌∷◌, ◌++◌, length, replicate, Option, Some, None, is_some, if◌then◌else◌}
+use Rattle.std.specs.Prelude.{◌≡◌, ℕ, ◌+◌, ◌-◌, ◌*◌, ◌/◌, ◌<◌, ◌^◌, ◌==◌, max, min, nat_lt, List, [], ◌∷◌, ◌++◌, length, replicate, Option, Some, None, is_some, if◌then◌else◌}
 use Rattle.clock27.specs.Departure.{departures, last_left}
 use Rattle.clock27.specs.Fullness.{fullness}
 use Rattle.clock27.specs.Peak.{IsPeak, greatest_at}
@@ -16,7 +16,9 @@ use Rattle.tstd_rows.specs.declared.transport_buffer.TransportBuffer.{TransportB
 use Rattle.tstd_rows.specs.RowEntry.{entered}
 use Rattle.tstd_rows.specs.History.{Part, arrivals_of, transport_of, left_after, payload_left, main_fullness, main_peak, until_of}
 use Rattle.tstd_rows.specs.History.Part.{Passes, Carries, Begins}
+use Rattle.tstd_rows.specs.declared.unit_seen.UnitSeen.{UnitSeen}
 use Rattle.tstd_rows.specs.declared.late_causes.LateCause.{LateCause}
+use Rattle.tstd_rows.specs.declared.late_causes.VideoUnit.{VideoUnit}
 use Rattle.tstd_rows.specs.declared.late_causes.LateCause.TheVariants.{Multiplex, FullBuffer}
 
 -- ---- MB
@@ -111,6 +113,15 @@ transferred step leak size parts = transfers leak 0 (payload_left step parts) (r
 abbrev pub room_left : ℕ → ℕ → List Part → List ℕ
 room_left leak size parts = departures leak 0 (rooms_of size (removed_of parts))
 
+-- the last of them, 0 where no byte has come
+unfoldable pub last_transfer : ℕ → ℕ → List ℕ → List ℕ → ℕ
+last_transfer leak prev [] rooms = prev
+last_transfer leak prev (t ∷ ts) [] = prev
+last_transfer leak prev (t ∷ ts) (room ∷ rooms) = last_transfer leak (max (max t room) prev + leak) ts rooms
+
+abbrev pub last_transferred : ℕ → ℕ → ℕ → List Part → ℕ
+last_transferred step leak size parts = last_transfer leak 0 (payload_left step parts) (rooms_of size (removed_of parts))
+
 abbrev pub TransferredLaw : Type 0
 TransferredLaw = (step leak size : ℕ) (parts : List Part) →
     transferred step leak size parts ≡ latest (multiplexing_left step leak parts) (room_left leak size parts)
@@ -122,6 +133,15 @@ TransferredLaw = (step leak size : ℕ) (parts : List Part) →
 -- buffer. Where both do, the multiplex is named: with an EB that never is full the unit would be late all the same
 unfoldable pub cause_of : ℕ → ℕ → ℕ → Option LateCause
 cause_of deadline alone room = if nat_lt deadline alone then Some Multiplex else if nat_lt deadline room then Some FullBuffer else None
+
+-- the last byte of the unit under way goes to EB of `size` bytes then, by the leak method; times stop at 2^128 - 1
+unfoldable pub with_entry : Option UnitSeen → ℕ → Option VideoUnit
+with_entry None time = None
+with_entry (Some u) time = Some (record { seen = u; entered = if u.bytes == 0 then 0 else min time (2 ^ 128 - 1) })
+
+-- why that unit is late: what its last byte says, which MB alone delays or a full EB
+abbrev pub unit_cause : VideoUnit → Option LateCause
+unit_cause u = cause_of u.seen.due.deadline u.seen.left u.entered
 
 -- so a unit is late, by the leak method, exactly where it has a cause
 abbrev pub CauseLaw : Type 0

@@ -9,6 +9,7 @@ ghost use Rattle.tstd_rows.specs.Entering.{after_begin, after_bytes, bytes_main,
 
 use crate::busy_watch::{BusyWatch, Stay};
 use crate::excess::Excess;
+use crate::late_causes::VideoUnit;
 use crate::main_excess::see;
 use crate::main_watch::MainWatch;
 use crate::row_found::RowFound;
@@ -225,7 +226,7 @@ impl StreamBuffers {
         &mut self,
         due: DueTime,
         unit: &mut Option<UnitSeen>,
-        video: &mut Option<UnitSeen>,
+        video: &mut Option<VideoUnit>,
     ) -> Result<(), AllocError>
         requires none_video { video.old ≡ None }
         ensures held { (h : Held) → IsHeld self.old h → OnOk result (IsHeld self.new (begun h due)) }
@@ -247,7 +248,7 @@ impl StreamBuffers {
         &mut self,
         due: &Option<DueTime>,
         unit: &mut Option<UnitSeen>,
-        video: &mut Option<UnitSeen>,
+        video: &mut Option<VideoUnit>,
     ) -> Result<(), AllocError>
         requires none { unit.old ≡ None }
         requires none_video { video.old ≡ None }

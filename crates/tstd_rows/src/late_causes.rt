@@ -1,6 +1,8 @@
 //! Why a unit of video is late.
-ghost use Rattle.std.specs.Prelude.{◌≡◌};
-ghost use Rattle.tstd_rows.specs.VideoViewed.{cause_of};
+ghost use Rattle.std.specs.Prelude.{◌≡◌, ◌-◌};
+ghost use Rattle.tstd_rows.specs.VideoViewed.{cause_of, unit_cause};
+
+use crate::unit_seen::UnitSeen;
 
 /// Why a unit is not whole in the elementary stream buffer when it is decoded (ISO/IEC 13818-1, 2.4.2.3, the leak method).
 #[derive(Clone, Copy, Debug, PartialEq, Eq)]
@@ -23,5 +25,29 @@ pub fn late_cause(deadline: u128, alone: u128, room: u128) -> Option<LateCause>
         Some(LateCause::FullBuffer)
     } else {
         None
+    }
+}
+
+/// A unit of video, as far as it has come. Its last byte leaves the multiplexing buffer alone at `seen.left`.
+#[derive(Clone, Copy, Debug, PartialEq, Eq)]
+pub struct VideoUnit {
+    pub seen: UnitSeen,
+    /// When its last byte goes to the elementary stream buffer, where none goes while that is full; 0 where none has come.
+    pub entered: u128,
+}
+
+impl VideoUnit {
+    /// Returns why it is late, if it is.
+    pub fn cause(&self) -> Option<LateCause>
+        ensures { result ≡ unit_cause self.now }
+    {
+        late_cause(self.seen.due.deadline, self.seen.left, self.entered)
+    }
+
+    /// Returns how long after its deadline its last byte goes to the elementary stream buffer, 0 where it is in time.
+    pub fn lateness(&self) -> u128
+        ensures { result ≡ self.now.entered - self.now.seen.due.deadline }
+    {
+        self.entered.saturating_sub(self.seen.due.deadline)
     }
 }

@@ -18,7 +18,8 @@
 //! - [`StreamBuffers`]: the buffers of one PID packet by packet, and its current unit; [`Arriving`] is a packet of it, [`UnitPart`] an
 //!   access unit that begins within a payload, [`Entered`] what has ended with it.
 //! - [`BusyWatch`]: how long a buffer is not empty.
-//! - [`VideoBuffers`], [`VideoRates`], [`VideoEntered`]: the multiplexing buffer and the elementary stream buffer of video.
+//! - [`VideoBuffers`], [`VideoRates`], [`VideoEntered`]: the multiplexing buffer and the elementary stream buffer of video. [`VideoUnit`] is a
+//!   unit in them, [`EbRooms`] when the second has room for the bytes that come next.
 //! - [`transport_laws`]: what the state of a transport buffer says of its fullness over all moments. [`view_laws`]: what the
 //!   figures are over all moments, and that at a constant rate they are the figures of `tstd`.
 //!
@@ -31,6 +32,8 @@
 mod arriving;
 mod busy_watch;
 mod byte_excess;
+mod eb_filling;
+mod eb_rooms;
 mod entered;
 mod entering;
 mod even_bytes;
@@ -61,10 +64,11 @@ mod watched_queue;
 
 pub use arriving::{Arriving, UnitPart};
 pub use busy_watch::{BusyWatch, Stay};
+pub use eb_rooms::EbRooms;
 pub use entered::Entered;
 pub use entering::TRANSPORT_BYTES;
 pub use excess::{Excess, ExcessWatch};
-pub use late_causes::{LateCause, late_cause};
+pub use late_causes::{LateCause, VideoUnit, late_cause};
 pub use leaving::Leaving;
 pub use leaving_entry::{MainFound, enter_leaving};
 pub use main_watch::MainWatch;

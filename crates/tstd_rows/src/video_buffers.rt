@@ -2,15 +2,18 @@
 ghost use Rattle.std.specs.Prelude.{◌≡◌, ℕ, List, [], ◌∷◌, ◌+◌, ◌<◌, ◌≤◌, ◌^◌, IfOk, OnOk, Option, None};
 ghost use Rattle.arrival.specs.Rows.{IsTimed};
 ghost use Rattle.tstd_rows.specs.Buffers.{IsSoon, times_left};
-ghost use Rattle.tstd_rows.specs.History.{Part, left_after, unit_of};
+ghost use Rattle.tstd_rows.specs.History.{Part, left_after};
 ghost use Rattle.tstd_rows.specs.History.Part.{Begins, Carries};
-ghost use Rattle.tstd_rows.specs.VideoViewed.{elementary_peak, last_leaked, leaked, multiplexing_buffer, multiplexing_under_way};
+ghost use Rattle.tstd_rows.specs.VideoViewed.{elementary_peak, last_leaked, last_transferred, multiplexing_buffer, multiplexing_under_way, with_entry};
 ghost use Rattle.tstd_rows.specs.VideoBytes.{bytes_in};
 ghost use Rattle.tstd_rows.specs.Busy.{busy_under_way, leak_busy};
-ghost use Rattle.tstd_rows.specs.HeldVideo.{HoldsVideo, IsVideoHeld, VideoSizes, elementary_under_way, nothing_of_video, sizes_of, video_entered, video_found, video_unit, video_view};
+ghost use Rattle.tstd_rows.specs.HeldVideo.{HoldsVideo, IsVideoHeld, VideoSizes, elementary_under_way, nothing_of_video, sizes_of, video_entered, video_found, video_unit, video_unit_in, video_view};
+ghost use Rattle.tstd_rows.specs.RoomTimes.{capped};
 
 use crate::busy_watch::{BusyWatch, Stay};
+use crate::eb_rooms::EbRooms;
 use crate::excess::Excess;
+use crate::late_causes::VideoUnit;
 use crate::leaving::Leaving;
 use crate::main_excess::see;
 use crate::main_watch::MainWatch;
@@ -39,6 +42,8 @@ pub struct VideoBuffers {
     pub elementary: MainWatch,
     /// How long the multiplexing buffer is not empty.
     pub busy: BusyWatch,
+    /// When the elementary stream buffer has room for the bytes that come next.
+    pub rooms: EbRooms,
 }
 
 /// What has ended with a packet of video: an excess of the multiplexing buffer before a byte that waited in the transport buffer, or
@@ -49,7 +54,7 @@ pub struct VideoEntered {
     pub waiting: Option<Excess>,
     pub free: Option<Excess>,
     pub elementary: Option<Excess>,
-    pub unit: Option<UnitSeen>,
+    pub unit: Option<VideoUnit>,
     pub multiplexing_most: u128,
     pub elementary_most: u64,
 }
@@ -89,6 +94,7 @@ impl VideoBuffers {
             view: StreamView::new(alloc, leak, rates.multiplexing),
             elementary: MainWatch::new(rates.elementary),
             busy: BusyWatch::new(u128::from(step) * u128::from(rx) / 8),
+            rooms: EbRooms::new(alloc, rates.elementary),
         }
     }
 
@@ -110,6 +116,7 @@ impl VideoBuffers {
             ≡ self.old.view.transport.bytes + (leaving.now.waiting.bytes + leaving.now.free.bytes) }
     {
         self.busy.see_leaving(self.view.transport.last, leaving);
+        self.rooms.settle(self.view.transport.last);
         let found = self.view.leak(leaving, &mut into.waiting, &mut into.free);
         see(
             &mut self.elementary,
@@ -117,19 +124,24 @@ impl VideoBuffers {
             self.view.transport.last,
             &mut into.elementary,
         );
+        let count = leaving.waiting.bytes + leaving.free.bytes;
+        self.rooms.take(self.view.transport.step, count);
         into.multiplexing_most = found.multiplexing;
         into.elementary_most = found.elementary;
     }
 
     /// Begins a unit with the next payload byte, and returns the unit before it. If no memory is left, drop the buffers.
-    pub fn begin(&mut self, due: DueTime) -> Result<Option<UnitSeen>, AllocError>
+    pub fn begin(&mut self, due: DueTime) -> Result<Option<VideoUnit>, AllocError>
         ensures held { (sizes : VideoSizes) (rate : ℕ) (parts : List Part) → IsVideoHeld self.old sizes rate parts →
             OnOk result (IsVideoHeld self.new sizes rate (Begins due ∷ parts)) }
         ensures unit { (sizes : VideoSizes) (rate : ℕ) (parts : List Part) → IsVideoHeld self.old sizes rate parts →
-            IfOk result (λ unit. unit ≡ unit_of sizes.leak (leaked rate parts)) }
+            IfOk result (λ unit. unit ≡ video_unit_in sizes rate parts) }
         ensures bytes { self.new.view.transport.bytes ≡ self.old.view.transport.bytes }
     {
-        self.view.begin(due)
+        let entered = self.last_entry();
+        self.rooms.begin(due.until)?;
+        let before = self.view.begin(due)?;
+        Ok(with_entry(before, entered))
     }
 
     /// Returns the most bytes that were in the multiplexing buffer.
@@ -172,12 +184,34 @@ impl VideoBuffers {
         self.busy.under_way(self.view.transport.last)
     }
 
-    /// Returns the unit under way.
-    pub fn unit(&self) -> Option<UnitSeen>
+    // When the last byte so far goes to the elementary stream buffer, where none goes while that is full.
+    fn last_entry(&self) -> u128
         ensures { (sizes : VideoSizes) (rate : ℕ) (parts : List Part) → IsVideoHeld self.now sizes rate parts →
-            result ≡ unit_of sizes.leak (leaked rate parts) }
+            capped result ≡ capped (last_transferred rate sizes.leak sizes.elementary parts) }
     {
-        self.view.unit
+        self.view.transport.last.max(self.rooms.last)
+    }
+
+    /// Returns the unit under way.
+    pub fn unit(&self) -> Option<VideoUnit>
+        ensures { (sizes : VideoSizes) (rate : ℕ) (parts : List Part) → IsVideoHeld self.now sizes rate parts →
+            result ≡ video_unit_in sizes rate parts }
+    {
+        with_entry(self.view.unit, self.last_entry())
+    }
+}
+
+// A unit whose last byte goes to the elementary stream buffer then.
+#[tactic(auto, unfolding(crate::specs::VideoViewed::with_entry))]
+fn with_entry(unit: Option<UnitSeen>, time: u128) -> Option<VideoUnit>
+    ensures { result ≡ with_entry unit time }
+{
+    match unit {
+        None => None,
+        Some(seen) => Some(VideoUnit {
+            seen,
+            entered: if seen.bytes == 0 { 0 } else { time },
+        }),
     }
 }
 
@@ -214,7 +248,7 @@ pub(crate) fn take_video(
 pub(crate) fn begin_video(
     video: &mut Option<VideoBuffers>,
     due: DueTime,
-    unit: &mut Option<UnitSeen>,
+    unit: &mut Option<VideoUnit>,
 ) -> Result<(), AllocError>
     requires none { unit.old ≡ None }
     ensures held { (sizes : Option VideoSizes) (rate : ℕ) (parts : List Part) → HoldsVideo video.old sizes rate parts →

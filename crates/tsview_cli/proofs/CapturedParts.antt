@@ -62,7 +62,7 @@ slip_state : (s : AnalysisState) (slip : Slip) → after_parts s (IsSlip slip �
 unfolding after_parts after_part
 slip_state s slip = refl
 
-slip_events : (s : AnalysisState) (slip : Slip) → events_of s (IsSlip slip ∷ []) ≡ timed s.view (slip_event slip) ∷ []
+slip_events : (s : AnalysisState) (slip : Slip) → events_of s (IsSlip slip ∷ []) ≡ timed s (slip_event slip)
 unfolding events_of part_events
 slip_events s slip = refl
 
@@ -70,24 +70,24 @@ size_state : (s : AnalysisState) (other : OtherPackets) → after_parts s (IsSiz
 unfolding after_parts after_part
 size_state s other = refl
 
-size_events : (s : AnalysisState) (other : OtherPackets) → events_of s (IsSize other ∷ []) ≡ timed s.view (size_event other) ∷ []
+size_events : (s : AnalysisState) (other : OtherPackets) → events_of s (IsSize other ∷ []) ≡ timed s (size_event other)
 unfolding events_of part_events
 size_events s other = refl
 
 -- an event of the input
 event_more : (first before now : ViewedParts) (s : AnalysisState) (parts : List Part) (part : Part) (event : Event) → after_parts (after_parts s parts) (part ∷ []) ≡ with_event (after_parts s parts) event →
-    events_of (after_parts s parts) (part ∷ []) ≡ timed (after_parts s parts).view event ∷ [] → HasParts first before s parts → IsAnalysed now.view (with_event (after_parts s parts) event) →
-    now.events.items ≡ before.events.items ++ timed (after_parts s parts).view event ∷ [] → HasParts first now s (parts ++ part ∷ [])
+    events_of (after_parts s parts) (part ∷ []) ≡ timed (after_parts s parts) event → HasParts first before s parts → IsAnalysed now.view (with_event (after_parts s parts) event) →
+    now.events.items ≡ before.events.items ++ timed (after_parts s parts) event → HasParts first now s (parts ++ part ∷ [])
 event_more first before now s parts part event state settles h view events =
     has_more first before now s parts (part ∷ []) h (subst (IsAnalysed now.view) (sym state) view)
     (events ∙ ap (λ (l : List TimedEvent). before.events.items ++ l) (sym settles))
 
 pub slip_more : (first before now : ViewedParts) (s : AnalysisState) (parts : List Part) (slip : Slip) → HasParts first before s parts → IsAnalysed now.view (with_event (after_parts s parts) (slip_event slip)) →
-    now.events.items ≡ before.events.items ++ timed (after_parts s parts).view (slip_event slip) ∷ [] → HasParts first now s (parts ++ IsSlip slip ∷ [])
+    now.events.items ≡ before.events.items ++ timed (after_parts s parts) (slip_event slip) → HasParts first now s (parts ++ IsSlip slip ∷ [])
 slip_more first before now s parts slip = event_more first before now s parts (IsSlip slip) (slip_event slip) (slip_state (after_parts s parts) slip) (slip_events (after_parts s parts) slip)
 
 pub size_more : (first before now : ViewedParts) (s : AnalysisState) (parts : List Part) (other : OtherPackets) → HasParts first before s parts → IsAnalysed now.view (with_event (after_parts s parts) (size_event other)) →
-    now.events.items ≡ before.events.items ++ timed (after_parts s parts).view (size_event other) ∷ [] → HasParts first now s (parts ++ IsSize other ∷ [])
+    now.events.items ≡ before.events.items ++ timed (after_parts s parts) (size_event other) → HasParts first now s (parts ++ IsSize other ∷ [])
 size_more first before now s parts other = event_more first before now s parts (IsSize other) (size_event other) (size_state (after_parts s parts) other) (size_events (after_parts s parts) other)
 
 pub takes_none : (parts : ViewedParts) → TakesParts [] parts parts

@@ -9,6 +9,7 @@ use Rattle.arrival.specs.declared.arrival.Arrival.TheVariants.{Unknown, AtRate}
 use Rattle.option_lists.specs.Lists.{buffer_list}
 use Rattle.stream_coding.specs.declared.buffers.PidBuffers.{PidBuffers}
 use Rattle.ts_report.specs.declared.view_options.ViewOptions.{ViewOptions}
+use Rattle.ts_report.specs.declared.view_request.ViewSpan.{ViewSpan}
 use Rattle.ts_report.specs.Choices.{RequestView}
 use Rattle.word_faults.specs.GivenOptions.{given_options, number_if, number_of, numbers_of}
 use Rattle.tsview_cli.specs.declared.request.Request.{Request}
@@ -36,9 +37,18 @@ options_of rows =
     (number_of options (codes "window") rows))
     (arrival_in rows)
 
+-- the part of the stream whose faults and windows are asked for, in ms
+unfoldable pub span_of : List Row → Option ViewSpan
+span_of rows =
+    option_and_then (λ from.
+    option_and_then (λ to.
+    Some (record { from = from; to = to }))
+    (number_if options (codes "to") rows))
+    (number_if options (codes "from") rows)
+
 -- which streams are viewed, and with which buffers
-abbrev pub request : ViewOptions → List ℕ → List PidBuffers → RequestView
-request given programs buffers = record { options = given; choice = record { programs = programs; buffers = buffers } }
+abbrev pub request : ViewOptions → ViewSpan → List ℕ → List PidBuffers → RequestView
+request given span programs buffers = record { options = given; choice = record { programs = programs; buffers = buffers }; span = span }
 
 -- the lines of its report, or the page of them: not both
 unfoldable pub requested : Bool → Bool → RequestView → Option Request
@@ -47,11 +57,13 @@ requested page json request = if page then (if json then None else Some (Page re
 unfoldable pub request_of : List Row → Option Request
 request_of rows =
     option_and_then (λ given.
+    option_and_then (λ span.
     option_and_then (λ programs.
     option_and_then (λ buffers.
-    requested (is_given (first_of (codes "page") rows)) (is_given (first_of (codes "json") rows)) (request given programs buffers))
+    requested (is_given (first_of (codes "page") rows)) (is_given (first_of (codes "json") rows)) (request given span programs buffers))
     (buffer_list (first_of (codes "buffers") rows)))
     (numbers_of options (codes "program") rows))
+    (span_of rows))
     (options_of rows)
 
 -- with the name of the file that has the stream; the input has it where no name or `-` is given

@@ -31,8 +31,8 @@ size_event other = events.Input (inputs.PacketSize (size_of other))
 -- the events that a part settles, and what is kept of the stream after it
 unfoldable pub part_events : AnalysisState → Part → List TimedEvent
 part_events s (IsPacket bytes) = events_at s bytes
-part_events s (IsSlip slip) = timed s.view (slip_event slip) ∷ []
-part_events s (IsSize other) = timed s.view (size_event other) ∷ []
+part_events s (IsSlip slip) = timed s (slip_event slip)
+part_events s (IsSize other) = timed s (size_event other)
 
 unfoldable pub after_part : AnalysisState → Part → AnalysisState
 after_part s (IsPacket bytes) = after_packet s bytes

@@ -12,7 +12,7 @@ use clock27::Rate;
 use devices::{is_given, text_of};
 use option_lists::buffer_list;
 use std::alloc::{AllocError, Global};
-use ts_report::{ViewChoice, ViewOptions, ViewRequest};
+use ts_report::{ViewChoice, ViewOptions, ViewRequest, ViewSpan};
 use word_faults::{given_options, number_if, number_of, numbers_of};
 
 // How packets arrive: at this rate, or else by clock references.
@@ -53,6 +53,16 @@ fn options_of(matches: &ArgMatches<'_>) -> Option<ViewOptions>
     })
 }
 
+// The part of the stream that is asked for; none where one of its ends is out of its range.
+#[tactic(auto, unfolding(crate::specs::Arguments::span_of))]
+fn span_of(matches: &ArgMatches<'_>) -> Option<ViewSpan>
+    ensures { result ≡ spec.span_of (rows_of (found_of matches.now)) }
+{
+    let from = number_if(&OPTIONS, matches, "from")?;
+    let to = number_if(&OPTIONS, matches, "to")?;
+    Some(ViewSpan { from, to })
+}
+
 // Its lines, or a page of them; none where both are asked for.
 #[tactic(auto, unfolding(crate::specs::Arguments::requested))]
 fn requested(page: bool, json: bool, request: ViewRequest) -> Option<Request>
@@ -76,6 +86,9 @@ fn request_of(alloc: Global, matches: &ArgMatches<'_>) -> Result<Option<Request>
     let Some(options) = options_of(matches) else {
         return Ok(None);
     };
+    let Some(span) = span_of(matches) else {
+        return Ok(None);
+    };
     let Some(programs) = numbers_of(alloc, &OPTIONS, matches, "program")? else {
         return Ok(None);
     };
@@ -85,7 +98,12 @@ fn request_of(alloc: Global, matches: &ArgMatches<'_>) -> Result<Option<Request>
     let choice = ViewChoice { programs, buffers };
     let page = is_given(text_of(matches, "page"));
     let json = is_given(text_of(matches, "json"));
-    Ok(requested(page, json, ViewRequest { options, choice }))
+    let request = ViewRequest {
+        options,
+        choice,
+        span,
+    };
+    Ok(requested(page, json, request))
 }
 
 // The name of the file with the stream; none where the stream comes on the input.

@@ -7,7 +7,7 @@ use option_lists::Scale;
 use word_faults::{KnownWords, OptionRow, ValueKind};
 
 /// The options, and the name of a file beside them. What is read, which word is a fault, and the usage follow these rows.
-pub(crate) const OPTIONS: [OptionRow; 11] = [
+pub(crate) const OPTIONS: [OptionRow; 13] = [
     OptionRow {
         name: "file",
         value: ValueKind::Word,
@@ -41,6 +41,32 @@ pub(crate) const OPTIONS: [OptionRow; 11] = [
         unit: "ms, or with s",
         apart: "",
         help: "the length of a window in ms; else 1000",
+    },
+    OptionRow {
+        name: "from",
+        value: ValueKind::Scaled {
+            scale: Scale::Millis,
+            least: 0,
+            greatest: 1_000_000_000,
+            default: None,
+        },
+        form: "",
+        unit: "ms, or with s",
+        apart: "",
+        help: "leave out faults and windows that end before this time in ms",
+    },
+    OptionRow {
+        name: "to",
+        value: ValueKind::Scaled {
+            scale: Scale::Millis,
+            least: 0,
+            greatest: 1_000_000_000,
+            default: None,
+        },
+        form: "",
+        unit: "ms, or with s",
+        apart: "",
+        help: "leave out faults and windows that begin after this time in ms",
     },
     OptionRow {
         name: "json",
@@ -113,6 +139,8 @@ const USAGE: &str = "usage: tsview [OPTIONS] [FILE|-] < PACKETS
        tsview --plan < JOB
   --rate 100000..100000000       the rate of the stream in bits a second; else by its clock references
   --window 10..3600000           the length of a window in ms; else 1000
+  --from 0..1000000000           leave out faults and windows that end before this time in ms
+  --to 0..1000000000             leave out faults and windows that begin after this time in ms
   --json                         a JSON object a line
   --page                         a page of HTML with pictures instead
   --program N,..                 view the streams of these programs alone

@@ -54,27 +54,27 @@ pub or_false : (a b : Bool) → (a || b) ≡ false → (a ≡ false) × (b ≡ f
 or_false true b is = absurd (let no : ⊥ = cc in no)
 or_false false b is = (refl, is)
 
-pub record OwnFacts (largest min_next_dts : ℕ) (u : AccessUnit) : Type 0 where
+pub record OwnFacts (largest limit min_next_dts : ℕ) (u : AccessUnit) : Type 0 where
   pub some : 1 ≤ length u.bytes
   pub most : length u.bytes + marks_size u.marks ≤ largest
   pub spaced : min_next_dts ≤ u.dts
   pub later : u.dts ≤ u.pts
-  pub soon : u.pts ≤ u.dts + 90_000
+  pub soon : u.pts ≤ u.dts + limit
 
-pub own_facts : (largest min_next_dts : ℕ) (u : AccessUnit) → own_cause largest min_next_dts u ≡ None → OwnFacts largest min_next_dts u
+pub own_facts : (largest limit min_next_dts : ℕ) (u : AccessUnit) → own_cause largest limit min_next_dts u ≡ None → OwnFacts largest limit min_next_dts u
 unfolding own_cause
-own_facts largest min_next_dts u is =
+own_facts largest limit min_next_dts u is =
     let a = test_none (length u.bytes == 0) Empty _ is in
     let b = test_none (nat_lt largest (length u.bytes + marks_size u.marks)) TooLarge _ a.1 in
     let c = test_none (nat_lt u.dts min_next_dts) TooSoon _ b.1 in
-    let d = test_none (is_bad_pts u.dts u.pts) BadPts None c.1 in
-    let e = or_false (nat_lt u.pts u.dts) (nat_lt (u.dts + 90_000) u.pts) d.0 in
+    let d = test_none (is_bad_pts limit u.dts u.pts) BadPts None c.1 in
+    let e = or_false (nat_lt u.pts u.dts) (nat_lt (u.dts + limit) u.pts) d.0 in
     record {
       some = some_size (length u.bytes) a.0;
       most = not_lt largest (length u.bytes + marks_size u.marks) b.0;
       spaced = not_lt u.dts min_next_dts c.0;
       later = not_lt u.pts u.dts e.0;
-      soon = not_lt (u.dts + 90_000) u.pts e.1;
+      soon = not_lt (u.dts + limit) u.pts e.1;
     }
 
 pub time_facts : (late : Bool) (dts : ℕ) → time_cause late dts ≡ None → (late ≡ false) × (dts ≤ 2 ^ 52)
@@ -92,10 +92,10 @@ pub room_facts : (a : Allowance) (full over : Bool) → room_cause full (packets
 unfolding room_cause
 room_facts a full over is = let b = test_none full Full (packets_cause a over) is in (b.0, packets_none a over b.1)
 
-pub unit_is : (r : StreamParameters) (min_next_dts : ℕ) (late : Bool) (u : AccessUnit) → None ≡ or_cause (own_cause r.size min_next_dts u) (time_cause late u.dts) → IsUnit r u
+pub unit_is : (r : StreamParameters) (min_next_dts : ℕ) (late : Bool) (u : AccessUnit) → None ≡ or_cause (own_cause r.size r.pts_limit min_next_dts u) (time_cause late u.dts) → IsUnit r u
 unit_is r min_next_dts late u is =
-    let both = or_none (own_cause r.size min_next_dts u) (time_cause late u.dts) (sym is) in
-    let own = own_facts r.size min_next_dts u both.0 in
+    let both = or_none (own_cause r.size r.pts_limit min_next_dts u) (time_cause late u.dts) (sym is) in
+    let own = own_facts r.size r.pts_limit min_next_dts u both.0 in
     record { some = own.some; most = own.most; later = own.later; soon = own.soon; last = (time_facts late u.dts both.1).1 }
 
 -- it may be a PES packet of its stream
@@ -125,7 +125,7 @@ timed_is r s u d size front header same due field parts is =
     rw (due, field, parts, is, same, length-append (pes_header_bytes r.stream_id (length u.bytes) u.marks (u.pts + r.base0) (u.dts + r.base0)) u.bytes) refl
 
 pub room_is : (q : Queue) (slots : ℕ) (u : AccessUnit) (unit : PesPacket) (cause : Option FeedError) → unit ≡ timed_by q.parameters u →
-    None ≡ or_cause (own_cause q.parameters.size q.min_next_dts u) (time_cause (late_at q.parameters slots u.dts) u.dts) →
+    None ≡ or_cause (own_cause q.parameters.size q.parameters.pts_limit q.min_next_dts u) (time_cause (late_at q.parameters slots u.dts) u.dts) →
     cause ≡ room_cause (nat_le q.capacity (length q.units)) (packets_cause q.parameters.allowance (is_over_for q unit)) → cause ≡ state_cause slots q u
 room_is q slots u unit cause timed none is = (rw timed at is) ∙ sym (or_rest _ _ _ none)
 

@@ -117,17 +117,17 @@ tally_after l us u =
 pub cause_law : CauseLaw
 cause_law l slots capacity us q u holds =
     ap (λ (x : Queue). state_cause slots x u) holds.state
-    ∙ ap (λ (n : ℕ). or_cause (own_cause l.parameters.size (min_next_dts_of l us) u) (or_cause (time_cause (is_late l slots u) u.dts)
+    ∙ ap (λ (n : ℕ). or_cause (own_cause l.parameters.size l.parameters.pts_limit (min_next_dts_of l us) u) (or_cause (time_cause (is_late l slots u) u.dts)
     (room_cause (nat_le capacity n) (packets_cause l.parameters.allowance
     (exceeds l.parameters.allowance (tally_of l.parameters.allowance (map (timed l) us)) (min_next_dts_of l us - l.parameters.interval) (timed l u))))))
     (length-map (left_before l slots us).units (queued l.parameters))
-    ∙ ap (λ (over : Bool). or_cause (own_cause l.parameters.size (min_next_dts_of l us) u) (or_cause (time_cause (is_late l slots u) u.dts)
+    ∙ ap (λ (over : Bool). or_cause (own_cause l.parameters.size l.parameters.pts_limit (min_next_dts_of l us) u) (or_cause (time_cause (is_late l slots u) u.dts)
     (room_cause (is_full l slots capacity us) (packets_cause l.parameters.allowance over))))
     (over_after l us u)
 
 -- what is known of a unit that is accepted
 pub record Accepted (l : OwnedStream) (slots : ℕ) (us : List AccessUnit) (u : AccessUnit) : Type 0 where
-  pub own : OwnFacts l.parameters.size (min_next_dts_of l us) u
+  pub own : OwnFacts l.parameters.size l.parameters.pts_limit (min_next_dts_of l us) u
   pub lead : l.parameters.lead ≤ u.dts
   pub released : slots ≤ release l.parameters.rate l.parameters.lead u.dts
   pub last : u.dts ≤ 2 ^ 52
@@ -135,7 +135,7 @@ pub record Accepted (l : OwnedStream) (slots : ℕ) (us : List AccessUnit) (u : 
 
 pub accepted_facts : (l : OwnedStream) (slots capacity : ℕ) (us : List AccessUnit) (u : AccessUnit) → unit_cause l slots capacity us u ≡ None → Accepted l slots us u
 accepted_facts l slots capacity us u none =
-    let own = own_cause l.parameters.size (min_next_dts_of l us) u in
+    let own = own_cause l.parameters.size l.parameters.pts_limit (min_next_dts_of l us) u in
     let time = time_cause (is_late l slots u) u.dts in
     let room = room_cause (is_full l slots capacity us) (over_cause l us u) in
     let a = or_none own (or_cause time room) none in
@@ -144,7 +144,7 @@ accepted_facts l slots capacity us u none =
     let late = or_false (nat_lt u.dts l.parameters.lead) (nat_lt (release l.parameters.rate l.parameters.lead u.dts) slots) t.0 in
     let r = room_facts l.parameters.allowance (is_full l slots capacity us) (is_over l.parameters.allowance (map (timed l) us) (timed l u)) b.1 in
     record {
-      own = own_facts l.parameters.size (min_next_dts_of l us) u a.0;
+      own = own_facts l.parameters.size l.parameters.pts_limit (min_next_dts_of l us) u a.0;
       lead = not_lt u.dts l.parameters.lead late.0;
       released = not_lt (release l.parameters.rate l.parameters.lead u.dts) slots late.1;
       last = t.1;

@@ -19,6 +19,7 @@ pub record ParametersInRange (r : StreamParameters) : Type 0 where
   pub base0 : r.base0 < 2 ^ 33
   pub stream_id : IsTrue (is_unit_id r.stream_id)
   pub size : r.size ≤ greatest_size r.stream_id
+  pub pts_limit : r.pts_limit ≤ 5_400_000
   pub rows : 0 < allowance_rows r.allowance
 
 -- the maximum number of packets of a unit, whose header has at most 19 bytes and what its marks take
@@ -30,7 +31,7 @@ pub record IsUnit (r : StreamParameters) (u : AccessUnit) : Type 0 where
   pub some : 1 ≤ length u.bytes
   pub most : length u.bytes + marks_size u.marks ≤ r.size
   pub later : u.dts ≤ u.pts
-  pub soon : u.pts ≤ u.dts + 90_000
+  pub soon : u.pts ≤ u.dts + r.pts_limit
   pub last : u.dts ≤ 2 ^ 52
 
 pub record Kept (l : OwnedStream) (us : List AccessUnit) : Type 0 where

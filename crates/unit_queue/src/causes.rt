@@ -12,15 +12,16 @@ use unit_timing::allowance::Allowance;
 const MAX_DTS: u64 = 1 << 52;
 
 /// Returns the first cause that lies in the unit by itself and in its distance from the one before: it has a byte, and
-/// with what its marks take at most `largest`, its DTS is `min_next_dts` or later, and its PTS at most 90,000 after its
+/// with what its marks take at most `largest`, its DTS is `min_next_dts` or later, and its PTS at most `limit` after its
 /// DTS.
 #[tactic(auto, unfolding(crate::specs::Causes::own_cause))]
 pub fn own_cause<A: Allocator>(
     largest: usize,
+    limit: u32,
     min_next_dts: u64,
     unit: &Unit<A>,
 ) -> Option<FeedError>
-    ensures { result ≡ own_cause largest min_next_dts unit.now }
+    ensures { result ≡ own_cause largest limit min_next_dts unit.now }
 {
     let size = unit.bytes.len();
     if size == 0 {
@@ -29,7 +30,7 @@ pub fn own_cause<A: Allocator>(
         Some(FeedError::TooLarge)
     } else if unit.dts < min_next_dts {
         Some(FeedError::TooSoon)
-    } else if is_bad_pts(unit.dts, unit.pts) {
+    } else if is_bad_pts(limit, unit.dts, unit.pts) {
         Some(FeedError::BadPts)
     } else {
         None
@@ -69,9 +70,9 @@ pub(crate) fn room_cause(full: bool, over: Option<FeedError>) -> Option<FeedErro
     if full { Some(FeedError::Full) } else { over }
 }
 
-// Whether the PTS is before the DTS, or more than a second after it.
-fn is_bad_pts(dts: u64, pts: u64) -> bool
-    ensures { result ≡ is_bad_pts dts pts }
+// Whether the PTS is before the DTS, or more than a limit after it.
+fn is_bad_pts(limit: u32, dts: u64, pts: u64) -> bool
+    ensures { result ≡ is_bad_pts limit dts pts }
 {
-    pts < dts || pts - dts > 90_000
+    pts < dts || pts - dts > u64::from(limit)
 }

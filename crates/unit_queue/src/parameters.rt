@@ -25,6 +25,8 @@ pub struct StreamParameters {
     pub lead: u32,
     /// The minimum time from one DTS to the next.
     pub interval: u32,
+    /// The maximum time from the DTS of a unit to its PTS: at most 5,400,000.
+    pub pts_limit: u32,
     /// The maximum size of a unit in bytes, with what its marks take.
     pub size: u32,
     /// The most packets of units in a row: of groups of 1 unit or more, or by pace.

@@ -117,12 +117,17 @@ impl<A: Allocator> UnitQueue<A> {
     // The slot of a unit's release, or the first cause that does not lie in the room for it.
     #[tactic(auto, unfolding(crate::specs::Causes::or_cause, crate::specs::Causes::time_cause))]
     fn release(&self, slots: u64, unit: &Unit<A>) -> Result<u64, FeedError>
-        ensures cause { error_of result ≡ or_cause (own_cause self.now.parameters.size self.now.min_next_dts unit.now)
+        ensures cause { error_of result ≡ or_cause (own_cause self.now.parameters.size self.now.parameters.pts_limit self.now.min_next_dts unit.now)
             (time_cause (late_at self.now.parameters slots unit.now.dts) unit.now.dts) }
         ensures slot { IfOk result (λ slot. slot
             ≡ release self.now.parameters.rate self.now.parameters.lead unit.now.dts) }
     {
-        if let Some(cause) = own_cause(self.parameters.size as usize, self.min_next_dts, unit) {
+        if let Some(cause) = own_cause(
+            self.parameters.size as usize,
+            self.parameters.pts_limit,
+            self.min_next_dts,
+            unit,
+        ) {
             return Err(cause);
         }
         match release_slot(

@@ -9,7 +9,7 @@ use Rattle.page_charts.specs.PidLabels.{LabelsState, label_text}
 use Rattle.view_page.specs.declared.cells.CellUnit.{CellUnit}
 use Rattle.view_page.specs.declared.cells.CellUnit.TheVariants.{Same, Ticks}
 use Rattle.view_page.specs.declared.cells.CellWord.{CellWord}
-use Rattle.view_page.specs.declared.cells.CellWord.TheVariants.{Transport, Main, Multiplexing, Elementary, TransportExcess, MainExcess, MultiplexingExcess, ElementaryExcess, SystemExcess, SystemMainExcess, LateUnit, ElementaryLate, FarAhead, PcrRepetition, PcrDiscontinuity, PcrAccuracy, TableRepetition, Unclocked, SyncByte, RefusedHeader, TransportError, Continuity, CheckWord, Slip, PacketSize, EmptyInput, NoStream, OtherRate, Bytes, Packets, Millis, Nanos, BitRate, Unreferenced, Missing, PtsRepetition, SectionDistance, OtherTable, ScrambledTable, NoCat, NotEmpty, Delayed, NoClock, RateVaries, Nothing}
+use Rattle.view_page.specs.declared.cells.CellWord.TheVariants.{Transport, Main, Multiplexing, Elementary, TransportExcess, MainExcess, MultiplexingExcess, ElementaryExcess, SystemExcess, SystemMainExcess, LateUnit, ElementaryLate, LateByMultiplex, LateByFullBuffer, FarAhead, PcrRepetition, PcrDiscontinuity, PcrAccuracy, TableRepetition, Unclocked, SyncByte, RefusedHeader, TransportError, Continuity, CheckWord, Slip, PacketSize, EmptyInput, NoStream, OtherRate, Bytes, Packets, Millis, Nanos, BitRate, Unreferenced, Missing, PtsRepetition, SectionDistance, OtherTable, ScrambledTable, NoCat, NotEmpty, Delayed, NoClock, RateVaries, Nothing}
 use Rattle.view_page.specs.declared.cells.Cell.{Cell}
 use Rattle.view_page.specs.declared.cells.Cell.TheVariants.{Number, Checked, Bar, Word, CheckNumber, CheckName, Carried, Program, Source, Form}
 
@@ -26,6 +26,8 @@ word_text SystemExcess = codes "transport buffer of tables over its size"
 word_text SystemMainExcess = codes "system buffer of tables over its size"
 word_text LateUnit = codes "late unit"
 word_text ElementaryLate = codes "unit late in its elementary stream buffer (EB)"
+word_text LateByMultiplex = codes "unit late in its elementary stream buffer (EB): sent too late or too fast"
+word_text LateByFullBuffer = codes "unit late in its elementary stream buffer (EB): EB was full"
 word_text FarAhead = codes "unit too far ahead"
 word_text PcrRepetition = codes "clock reference too late"
 word_text PcrDiscontinuity = codes "clock reference that jumps"

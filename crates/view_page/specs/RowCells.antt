@@ -23,6 +23,8 @@ use Rattle.events.specs.declared.packet_fault.RefusalCause.{RefusalCause}
 use Rattle.events.specs.declared.packet_fault.RefusalCause.TheVariants as causes
 use Rattle.events.specs.declared.packet_fault.RefusedPacket.{RefusedPacket}
 use Rattle.events.specs.declared.video_event.ElementaryLate.{ElementaryLate}
+use Rattle.events.specs.declared.video_event.LateCause.{LateCause}
+use Rattle.events.specs.declared.video_event.LateCause.TheVariants as late_causes
 use Rattle.events.specs.declared.video_event.ElementaryTotals.{ElementaryTotals}
 use Rattle.events.specs.declared.video_event.MultiplexingTotals.{MultiplexingTotals}
 use Rattle.view_page.specs.declared.cells.Cell.{Cell}
@@ -100,10 +102,14 @@ abbrev pub late_cells : LateUnit → List Cell
 late_cells e =
     Word words.LateUnit ∷ Number e.pid Same ∷ Number e.packet Same ∷ Number (short e.by) Ticks ∷ Word words.Nothing ∷ Word words.Millis ∷ []
 
--- of a unit that is late in the elementary stream buffer
+-- of a unit that is late in the elementary stream buffer, and why
+unfoldable pub cause_word : LateCause → CellWord
+cause_word late_causes.Multiplex = words.LateByMultiplex
+cause_word late_causes.FullBuffer = words.LateByFullBuffer
+
 abbrev pub elementary_late_cells : ElementaryLate → List Cell
 elementary_late_cells e =
-    Word words.ElementaryLate ∷ Number e.pid Same ∷ Number e.packet Same ∷ Number (short e.by) Ticks ∷ Word words.Nothing ∷ Word words.Millis ∷ []
+    Word (cause_word e.cause) ∷ Number e.pid Same ∷ Number e.packet Same ∷ Number (short e.by) Ticks ∷ Word words.Nothing ∷ Word words.Millis ∷ []
 
 -- of a unit too far ahead
 abbrev pub ahead_cells : FarAhead → List Cell

@@ -29,6 +29,8 @@ pub enum CellWord {
     SystemMainExcess,
     LateUnit,
     ElementaryLate,
+    LateByMultiplex,
+    LateByFullBuffer,
     FarAhead,
     PcrRepetition,
     PcrDiscontinuity,
@@ -114,6 +116,10 @@ fn word_text(word: CellWord) -> &'static str
         CellWord::SystemMainExcess => "system buffer of tables over its size",
         CellWord::LateUnit => "late unit",
         CellWord::ElementaryLate => "unit late in its elementary stream buffer (EB)",
+        CellWord::LateByMultiplex => {
+            "unit late in its elementary stream buffer (EB): sent too late or too fast"
+        }
+        CellWord::LateByFullBuffer => "unit late in its elementary stream buffer (EB): EB was full",
         CellWord::FarAhead => "unit too far ahead",
         CellWord::PcrRepetition => "clock reference too late",
         CellWord::PcrDiscontinuity => "clock reference that jumps",

@@ -192,12 +192,23 @@ pub(crate) fn late_cells(e: &LateUnit) -> [Cell; 6]
     ]
 }
 
+// What makes a unit of video late.
+#[tactic(auto, unfolding(crate::specs::RowCells::cause_word))]
+fn cause_word(cause: LateCause) -> CellWord
+    ensures { result ≡ spec.cause_word cause }
+{
+    match cause {
+        LateCause::Multiplex => CellWord::LateByMultiplex,
+        LateCause::FullBuffer => CellWord::LateByFullBuffer,
+    }
+}
+
 /// Returns the cells of a unit that is late in its elementary stream buffer.
 pub(crate) fn elementary_late_cells(e: &ElementaryLate) -> [Cell; 6]
     ensures { result ≡ spec.elementary_late_cells e.now }
 {
     [
-        Cell::Word(CellWord::ElementaryLate),
+        Cell::Word(cause_word(e.cause)),
         Cell::Number(u64::from(e.pid), CellUnit::Same),
         Cell::Number(e.packet, CellUnit::Same),
         Cell::Number(short(e.by), CellUnit::Ticks),

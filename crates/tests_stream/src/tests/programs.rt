@@ -9,7 +9,7 @@ use psi_tables::Program;
 use std::alloc::{AllocError, Global};
 use stream_programs::{
     Association, FoundPrograms, FoundStream, MapPart, ProgramPids, TableOmission, assigned_pids,
-    association_change, found_programs, free_pid, last_service, map_change, named_programs,
+    association_change, found_programs, free_pid, last_service, map_changes, named_programs,
     original_network,
 };
 use vectors::{EMPTY_MAP, FIRST_MAP, LAST_MAP, MORE, NEXT_PAT, OTHER_PAT, PAT, PMT, SDT};
@@ -125,13 +125,16 @@ static CHANGES: [(u16, u16, Option<u64>); 3] = [
     (3, 0x1002, None),
 ];
 
-fn are_changes(findings: &[Finding<'_>]) -> bool {
+fn are_changes(alloc: Global, findings: &[Finding<'_>]) -> bool {
+    let Ok(changes) = map_changes(alloc, MapPart::NamedStreams, findings) else {
+        return false;
+    };
     for (program_number, pid, wanted) in &CHANGES {
         let program = Program {
             program_number: *program_number,
             pid: *pid,
         };
-        if map_change(MapPart::NamedStreams, program, findings) != *wanted {
+        if changes.packet(program) != *wanted {
             return false;
         }
     }

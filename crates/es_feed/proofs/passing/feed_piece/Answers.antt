@@ -20,5 +20,5 @@ returns g c =
     let i2 : Port = record { bytes = g.R.Read.remaining c.read_some.new.self; failed = g.R.Source.fault_count c.read_some.new.self } in
     let some : 0 < c.in-Ok.n = omega (arith, c.in-Ok.n-test) in
     let most : length c.read_some.new.part ≤ 2 ^ 16 = omega (arith, c.requires.most, c.read_some.auto.part) in
-    fed_piece c.args.stream.now c.push.new.self i1 i2 c.read_some.new.part c.in-Ok.n c.args.fed.now.items c.push.new.fed.items c.push.result most c.in-Ok.ensures.bound.0 some
-    c.in-Ok.ensures.bytes.0 c.in-Ok.ensures.counts c.requires.out (sym c.is_err.ensures.value ∙ c.if-is_err.false) c.push.ensures.taken c.push.ensures.held
+    fed_piece c.args.stream.now c.push.new.self i1 i2 c.read_some.new.part c.in-Ok.n c.push.new.fed.items c.push.result most c.in-Ok.ensures.bound.0 some
+    c.in-Ok.ensures.bytes.0 c.in-Ok.ensures.counts (sym c.is_err.ensures.value ∙ c.if-is_err.false) c.push.ensures.taken c.push.ensures.held

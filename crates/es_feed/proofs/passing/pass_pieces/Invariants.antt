@@ -1,14 +1,14 @@
 use Rattle.std.proofs.Common.{◌≡◌, []}
 use Rattle.devices.specs.Devices.{between}
 use Rattle.es_feed.specs.Feeding.{FeedView}
-use Rattle.es_feed.specs.StreamFeeding.{at_first}
+use Rattle.es_feed.specs.Watching.{watched_first}
 use Rattle.es_feed.proofs.PassedStreams.{MidwayLong}
 use Rattle.es_feed.proofs.passing.pass_pieces.Given as goal
 
 abbrev pub invariant-loop : goal.invariant-loop
 invariant-loop g l = record {
   out : l.fed.items ≡ [];
-  came : (first : FeedView) → l.fn.stream ≡ at_first first →
+  came : (first : FeedView) → l.fn.stream ≡ watched_first first →
       MidwayLong first l.pids (between (record { bytes = g.R.Read.remaining l.fn.input; failed = g.R.Source.fault_count l.fn.input })
       (record { bytes = g.R.Read.remaining l.input; failed = g.R.Source.fault_count l.input }))
       (between (record { bytes = g.W.Write.contents l.fn.output; failed = g.W.Sink.fault_count l.fn.output })

@@ -7,8 +7,8 @@ use Rattle.es_units.proofs.unit_moments.found_moments.Goals as goal
 
 pub returns-in-Err-clause-refused : goal.returns-in-Err-clause-refused
 returns-in-Err-clause-refused g c =
-    faults_here c.args.base c.loop-index.before c.loop-index.index c.args.units.now c.index-units-index.result c.in-Err.fault c.loop-index-test.true c.index-units-index.is
-    c.loop-index.invariant.fault (c.in-Err.ensures.fault ∙ ap (λ (w : CarriedUnit). unit_fault c.args.base c.loop-index.before w.unit) c.unit.view_is)
+    faults_here c.args.limit c.args.base c.loop-index.before c.loop-index.index c.args.units.now c.index-units-index.result c.in-Err.fault c.loop-index-test.true c.index-units-index.is
+    c.loop-index.invariant.fault (c.in-Err.ensures.fault ∙ ap (λ (w : CarriedUnit). unit_fault c.args.limit c.args.base c.loop-index.before w.unit) c.unit.view_is)
 
 pub loop-index-preserved : goal.loop-index-preserved
 loop-index-preserved g c =
@@ -20,12 +20,12 @@ loop-index-preserved g c =
     let next = c.in-Ok-moment.next in
     let inv = c.loop-index.invariant in
     let made : next ≡ moment_at base before u.unit.dts u.unit.pts = c.in-Ok-moment.ensures.value ∙ ap (λ (w : CarriedUnit). moment_at base before w.unit.dts w.unit.pts) c.unit.view_is in
-    let none : None ≡ unit_fault base before u.unit = c.in-Ok-moment.ensures.fault ∙ ap (λ (w : CarriedUnit). unit_fault base before w.unit) c.unit.view_is in
+    let none : None ≡ unit_fault c.args.limit base before u.unit = c.in-Ok-moment.ensures.fault ∙ ap (λ (w : CarriedUnit). unit_fault c.args.limit base before w.unit) c.unit.view_is in
     let pushed : c.push.new.self.items ≡ c.loop-index.found.items ++ next ∷ [] = search rules in
     record {
       moments = moments_more base before at us u (map moment_of (moved base None (wire us))) c.loop-index.found.items c.push.new.self.items next
           c.loop-index-test.true c.index-units-index.is inv.moments made pushed;
-      fault = faults_more base before at us u next c.loop-index-test.true c.index-units-index.is inv.fault none made;
+      fault = faults_more c.args.limit base before at us u next c.loop-index-test.true c.index-units-index.is inv.fault none made;
       before = c.in-Ok-moment.ensures.bound;
     }
 
@@ -36,4 +36,4 @@ returns-clause-moments g c =
 
 pub returns-clause-sound : goal.returns-clause-sound
 returns-clause-sound g c =
-    faults_over c.args.base c.loop-index.before c.loop-index.index c.args.units.now c.loop-index-test.false c.loop-index.invariant.fault
+    faults_over c.args.limit c.args.base c.loop-index.before c.loop-index.index c.args.units.now c.loop-index-test.false c.loop-index.invariant.fault

@@ -8,6 +8,6 @@ use Rattle.es_units.proofs.unit_moments.found_moments.Given as goal
 abbrev pub invariant-loop-index : goal.invariant-loop-index
 invariant-loop-index g l = record {
   moments : map moment_of (moved l.base None (wire l.units)) ≡ l.found.items ++ map moment_of (moved l.base l.before (wire (drop l.index l.units)));
-  fault : first_fault l.base None 0 (wire l.units) ≡ first_fault l.base l.before l.index (wire (drop l.index l.units));
+  fault : first_fault l.limit l.base None 0 (wire l.units) ≡ first_fault l.limit l.base l.before l.index (wire (drop l.index l.units));
   before : IfSome l.before (λ dts. dts ≤ 2 ^ 52);
 }

@@ -1,5 +1,6 @@
 use Rattle.std.proofs.Common.{false, ◌∙◌}
 use Rattle.mux_core.specs.WholeJobs.{job_history, output_of}
+use Rattle.es_units.specs.ApartUnits.{apart_wire_units}
 use Rattle.es_units.specs.CarriedUnits.{wire_units}
 use Rattle.es_units.proofs.KeptDeclarations.{units_kept}
 use Rattle.laws_job.specs.Laws.{schedule_for}
@@ -14,6 +15,14 @@ returns-clause-moved c = λ d p findings units n k s base ranges serving are few
     let kept = (all_kept units_kept false line findings units ranges are).kept k s is in
     let back = (c.carried.ensures d p findings units n ranges serving are few).given_back in
     let sixteen = units_sixteen false findings d units are k s is in
+    again base line (apart_wire_units s.pid findings) units n k s (output_of false line (job_history units n)) (c.accepted_plan.ensures d p ranges serving) is kept sixteen moved due back
+
+pub returns-clause-own : goal.returns-clause-own
+returns-clause-own c = λ d p findings units n k s base ranges serving are few is moved due.
+    let line = schedule_for d p in
+    let kept = (all_kept units_kept false line findings units ranges are).kept k s is in
+    let back = (c.carried.ensures d p findings units n ranges serving are few).given_back in
+    let sixteen = units_sixteen false findings d units are k s is in
     again base line (wire_units s.pid findings) units n k s (output_of false line (job_history units n)) (c.accepted_plan.ensures d p ranges serving) is kept sixteen moved due back
 
 pub returns-clause-same : goal.returns-clause-same
@@ -22,5 +31,5 @@ returns-clause-same c = λ d p findings units n k s ranges serving are few is mo
     let kept = (all_kept units_kept false line findings units ranges are).kept k s is in
     let back = (c.carried.ensures d p findings units n ranges serving are few).given_back in
     let sixteen = units_sixteen false findings d units are k s is in
-    again d.base0 line (wire_units s.pid findings) units n k s (output_of false line (job_history units n)) (c.accepted_plan.ensures d p ranges serving) is kept sixteen moved due back
-    ∙ same_stamps d.base0 (wire_units s.pid findings) stamps
+    again d.base0 line (apart_wire_units s.pid findings) units n k s (output_of false line (job_history units n)) (c.accepted_plan.ensures d p ranges serving) is kept sixteen moved due back
+    ∙ same_stamps d.base0 (apart_wire_units s.pid findings) stamps

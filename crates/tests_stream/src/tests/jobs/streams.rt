@@ -26,6 +26,8 @@ pub fn usual() -> JobOptions<'static> {
         programs: &[],
         without: &[],
         buffers: &[],
+        mark_access: false,
+        aligned: &[],
     }
 }
 

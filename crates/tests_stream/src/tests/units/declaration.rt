@@ -88,6 +88,7 @@ fn queue_of(alloc: Global, allowance: Allowance) -> Option<UnitQueue<Global>> {
         stream_id: 224,
         lead: 90_000,
         interval: 3_599,
+        pts_limit: 90_000,
         size: 340,
         allowance,
     };

@@ -37,7 +37,7 @@ fn moments_of(
     units: &[WireUnit],
 ) -> Option<Result<Vec<UnitMoment>, StampError>> {
     let found = lent(alloc, units)?;
-    Some(found_moments(alloc, constant % RANGE, &found))
+    Some(found_moments(alloc, 90_000, constant % RANGE, &found))
 }
 
 // Units of these stamps and sizes, at their moments. None where there is no memory for them.
@@ -91,8 +91,22 @@ static REFUSED: [(u64, u64, StampFault); 5] = [
         0,
         StampFault::DtsNotIncreasing(RANGE / 2),
     ),
-    (7_201, 97_202, StampFault::PtsOutOfRange(90_001)),
-    (7_201, 7_200, StampFault::PtsOutOfRange(RANGE - 1)),
+    (
+        7_201,
+        97_202,
+        StampFault::PtsOutOfRange {
+            after: 90_001,
+            limit: 90_000,
+        },
+    ),
+    (
+        7_201,
+        7_200,
+        StampFault::PtsOutOfRange {
+            after: RANGE - 1,
+            limit: 90_000,
+        },
+    ),
 ];
 
 // Whether the third of three units is refused so.

@@ -11,4 +11,4 @@ returns c = λ first parts taken s is.
     let now = after_parts s parts in
     size_more first c.args.self.now _ s parts c.args.other h
     (subst (λ (e : Event). IsAnalysed c.take_event.new.self (with_event now e)) c.size_event.ensures (c.in_ok-take_event.ensures.analysed now h.view))
-    (c.in_ok-take_event.ensures.found now h.view ∙ ap (λ (e : Event). c.args.self.now.events.items ++ timed now.view e ∷ []) c.size_event.ensures)
+    (c.in_ok-take_event.ensures.found now h.view ∙ ap (λ (e : Event). c.args.self.now.events.items ++ timed now e) c.size_event.ensures)

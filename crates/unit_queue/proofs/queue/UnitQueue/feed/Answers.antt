@@ -1,4 +1,4 @@
-use Rattle.std.proofs.Common.{rules, ◌≡◌, ◌+◌, ◌++◌, ◌∷◌, [], Some, None, length, nat_le, sym, ◌∙◌, arith, subst}
+use Rattle.std.proofs.Common.{rules, ◌≡◌, ◌≤◌, ◌+◌, ◌++◌, ◌∷◌, [], Some, None, length, nat_le, sym, ◌∙◌, arith, subst}
 use Rattle.unit_queue.specs.declared.parameters.StreamParameters.{StreamParameters}
 use Rattle.pes_packet.specs.Marks.{field_size}
 use Rattle.unit_queue.specs.OwnedStreams.{has_access}
@@ -13,7 +13,7 @@ pub returns-in-Err-clause-cause : goal.returns-in-Err-clause-cause
 returns-in-Err-clause-cause g c =
     let q = c.args.self.now in
     let u = c.args.unit in
-    or_first (own_cause q.parameters.size q.min_next_dts u) (time_cause (late_at q.parameters c.args.slots u.dts) u.dts)
+    or_first (own_cause q.parameters.size q.parameters.pts_limit q.min_next_dts u) (time_cause (late_at q.parameters c.args.slots u.dts) u.dts)
     (room_cause (nat_le q.capacity (length q.units)) (packets_cause q.parameters.allowance (is_over_for q (timed_by q.parameters u)))) c.in-Err.cause c.in-Err.ensures.cause
 
 -- the unit is one that its stream accepts
@@ -34,7 +34,10 @@ pub header-header-requires-clause-pts : goal.header-header-requires-clause-pts
 header-header-requires-clause-pts g c =
     let q = c.args.self.now in
     let unit = unit_is q.parameters q.min_next_dts (late_at q.parameters c.args.slots c.args.unit.dts) c.args.unit c.in-Ok.ensures.cause in
-    omega (arith, unit.last, unit.soon)
+    let same : q.parameters ≡ c.self.inside.parameters = search rules in
+    let limit = c.self.invariant.pts_limit in
+    let few : q.parameters.pts_limit ≤ 5_400_000 = rw same limit in
+    omega (arith, unit.last, unit.soon, few)
 
 pub room-requires : goal.room-requires
 room-requires g c =

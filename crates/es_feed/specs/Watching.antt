@@ -1,0 +1,85 @@
+-- A stream of which the bytes that stand in no packet are told too, while it comes.
+use Rattle.std.specs.Prelude.{◌≡◌, ℕ, ◌+◌, ◌/◌, ◌++◌, ◌==◌, if◌then◌else◌, Bool, true, List, [], ◌∷◌, Ok, Err, map}
+use Rattle.std.specs.List.{flat_map}
+use Rattle.packet_sync.specs.Notes.{NotesView, SayAlike, no_notes}
+use Rattle.packet_sync.specs.Slips.{slips}
+use Rattle.packet_sync.specs.declared.left_out.FieldLeftOut.{FieldLeftOut}
+use Rattle.packet_sync.specs.declared.slip.Slip.{Slip}
+use Rattle.packet_sync.specs.declared.stretch.Stretch.{Stretch}
+use Rattle.es_feed.specs.Feeding.{Fed, FeedView}
+use Rattle.es_feed.specs.StreamFeeding.{IsFedBy, StreamFeedView, at_first, fed_of}
+use Rattle.es_feed.specs.declared.feed_fault.FeedFault.TheVariants.{Slipped}
+use Rattle.es_feed.specs.declared.slip_watch.StreamPlace.{StreamPlace}
+
+-- 1. Slips so far
+
+-- before the first byte
+abbrev pub first_place : StreamPlace
+first_place = record { packet = 0; start = 0 }
+
+-- after a stretch, and the bytes that are left out after it
+abbrev pub place_with : Stretch → StreamPlace → StreamPlace
+place_with s p = record { packet = p.packet + s.in_step / 188; start = (p.start + s.in_step) + s.slipped }
+
+abbrev pub slips_with : Stretch → StreamPlace → List Slip → List Slip
+slips_with s p found =
+    if s.slipped == 0 then found else found ++ record { packet = p.packet + s.in_step / 188; start = p.start + s.in_step; size = s.slipped } ∷ []
+
+-- what is said of slips, with any fields
+abbrev pub notes_at : List FieldLeftOut → List Slip → StreamPlace → NotesView
+notes_at fields found p = record { slips = found; fields = fields; packet = p.packet; start = p.start }
+
+-- of these bytes all but those that are held are looked at, and these are their slips, however the stream goes on
+pub record AreSlips (bytes : List ℕ) (ended : Bool) (held : List ℕ) (p : StreamPlace) (found : List Slip) : Type 0 where
+  pub fields : List FieldLeftOut
+  pub so : (more : List ℕ) → (ended ≡ true → more ≡ []) → SayAlike no_notes (bytes ++ more) (notes_at fields found p) (held ++ more)
+
+pub record WatchView : Type 0 where
+  pub held : List ℕ
+  pub place : StreamPlace
+
+abbrev pub none_watched : WatchView
+none_watched = record { held = []; place = first_place }
+
+-- 2. Slips among what is fed: no stream has them, so a number stands there that says nothing
+
+abbrev pub slip_fed : Slip → Fed
+slip_fed s = (255, Err (Slipped (record { packet = s.packet; size = s.size })))
+
+abbrev pub slips_fed : List Slip → List Fed
+slips_fed found = map slip_fed found
+
+-- read by read: what the packets feed, and then the slips
+pub record Round : Type 0 where
+  pub fed : List Fed
+  pub found : List Slip
+
+abbrev pub all_of : Round → List Fed
+all_of r = r.fed ++ slips_fed r.found
+
+pub record AreRounds (fed : List Fed) (found : List Slip) (all : List Fed) : Type 0 where
+  pub rounds : List Round
+  pub fed_is : flat_map (λ r. r.fed) rounds ≡ fed
+  pub found_is : flat_map (λ r. r.found) rounds ≡ found
+  pub all_is : flat_map all_of rounds ≡ all
+
+-- 3. A stream
+
+pub record WatchedView : Type 0 where
+  pub stream : StreamFeedView
+  pub watch : WatchView
+
+abbrev pub watched_first : FeedView → WatchedView
+watched_first feed = record { stream = at_first feed; watch = none_watched }
+
+-- after these bytes
+pub record IsWatchedBy (first : FeedView) (bytes : List ℕ) (ended : Bool) (s : WatchedView) (all : List Fed) : Type 0 where
+  pub fed : List Fed
+  pub found : List Slip
+  pub rounds : AreRounds fed found all
+  pub by : IsFedBy first bytes ended s.stream fed
+  pub slips_are : AreSlips bytes ended s.watch.held s.watch.place found
+
+-- all that is fed of a stream, and all its slips
+pub record IsWatchedOf (first : FeedView) (bytes : List ℕ) (all : List Fed) : Type 0 where
+  pub rounds : AreRounds (fed_of first bytes) (slips bytes) all

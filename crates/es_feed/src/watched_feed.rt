@@ -1,0 +1,95 @@
+//! A stream and its slips.
+
+ghost use Rattle.std.specs.Prelude.{◌≡◌, ◌<◌, ◌++◌, [], List, OnOk, false, length, ℕ};
+ghost use Rattle.es_feed.specs.Feeding.{Fed, FeedView};
+ghost use Rattle.es_feed.specs.Watching as spec;
+
+use crate::feed_fault::{FeedFault, SlippedBytes};
+use crate::slip_watch::SlipWatch;
+use crate::stream_feed::StreamFeed;
+use crate::unit_feed::{NO_STREAM, UnitFeed};
+use packet_sync::Slip;
+use pes_packet::Unit;
+use std::alloc::{AllocError, Global};
+use std::marker::Model;
+
+/// A stream whose bytes arrive piece by piece, and the bytes of it that stand in no packet.
+#[derive(Drop)]
+pub(crate) struct WatchedFeed {
+    alloc: Global,
+    stream: StreamFeed,
+    watch: SlipWatch,
+}
+
+// A contract sees both.
+impl Model for WatchedFeed {
+    ghost use Rattle.es_feed.specs.Watching.{WatchedView};
+
+    ghost Value = { WatchedView };
+
+    ghost view = { λ w. record { stream = w.stream; watch = w.watch } };
+}
+
+// Appends what is told of slips.
+fn push_slips(
+    fed: &mut Vec<(u8, Result<Unit, FeedFault>)>,
+    found: &[Slip],
+) -> Result<(), AllocError>
+    ensures { OnOk result (fed.new.items ≡ fed.old.items ++ spec.slips_fed found.now) }
+{
+    for slip in found {
+        let Slip { packet, size, .. } = *slip;
+        let told = FeedFault::Slipped(SlippedBytes { packet, size });
+        fed.push((NO_STREAM, Err(told)))?;
+    }
+    Ok(())
+}
+
+impl WatchedFeed {
+    /// Returns a stream before its first byte.
+    pub(crate) fn new(alloc: Global, feed: UnitFeed) -> WatchedFeed
+        ensures { result ≡ spec.watched_first feed }
+    {
+        WatchedFeed {
+            alloc,
+            stream: StreamFeed::new(alloc, feed),
+            watch: SlipWatch::new(alloc),
+        }
+    }
+
+    /// Takes a piece of the stream, of any size: what its packets feed goes to `fed`, where nothing is, and then its slips.
+    pub(crate) fn push(
+        &mut self,
+        piece: &[u8],
+        fed: &mut Vec<(u8, Result<Unit, FeedFault>)>,
+    ) -> Result<(), AllocError>
+        requires { fed.old.items ≡ [] }
+        ensures taken { (first : FeedView) (stream : List ℕ) (before : List Fed) →
+            spec.IsWatchedBy first stream false self.old before →
+            OnOk result (spec.IsWatchedBy first (stream ++ piece.now) false self.new (before ++ fed.new.items)) }
+        ensures held { OnOk result (length self.new.stream.held < 1128) }
+    {
+        self.stream.push(piece, fed)?;
+        let mut found = Vec::new(self.alloc);
+        self.watch.push(piece, &mut found)?;
+        push_slips(fed, &found)?;
+        Ok(())
+    }
+
+    /// Ends the stream: what the end feeds goes to `fed`, where nothing is, and then the slips that it decides.
+    pub(crate) fn finish(
+        self,
+        fed: &mut Vec<(u8, Result<Unit, FeedFault>)>,
+    ) -> Result<(), AllocError>
+        requires { fed.old.items ≡ [] }
+        ensures { (first : FeedView) (stream : List ℕ) (before : List Fed) →
+            spec.IsWatchedBy first stream false self before →
+            OnOk result (spec.IsWatchedOf first stream (before ++ fed.new.items)) }
+    {
+        let mut found = Vec::new(self.alloc);
+        self.stream.finish(fed)?;
+        self.watch.finish(&mut found)?;
+        push_slips(fed, &found)?;
+        Ok(())
+    }
+}

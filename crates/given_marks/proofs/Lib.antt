@@ -1,0 +1,2 @@
+mod TypedPids
+pub mod MarkedFindings

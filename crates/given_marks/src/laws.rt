@@ -1,0 +1,13 @@
+//! Laws of the definitions. Each function does nothing: its contract is the law.
+
+ghost use Rattle.given_marks.specs.Laws.{MarkedByThePid, NothingIsMarked};
+
+/// States that nothing changes if nothing is asked for.
+pub fn nothing_is_marked()
+    ensures { NothingIsMarked }
+{}
+
+/// States that the findings of a PID are marked by what is asked for of that PID alone.
+pub fn marked_by_the_pid()
+    ensures { MarkedByThePid }
+{}

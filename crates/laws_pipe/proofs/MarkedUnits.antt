@@ -1,0 +1,59 @@
+-- The units of a PID, of whose findings both ways of `tsjob units` ask for the same marks.
+use Rattle.std.proofs.Common.{◌≡◌, ◌∙◌, ◌&&◌, ℕ, Bool, true, false, if◌then◌else◌, Some, List, [], ◌∷◌, map, refl, sym, ap, ap₂}
+use Rattle.pes_packet.specs.AccessUnits.{AccessUnit}
+use Rattle.demux.specs.Laws.{found_of, has_pid}
+use Rattle.demux.specs.Views.{FindingView}
+use Rattle.es_units.specs.CarriedUnits.{CarriedUnit, RoleView, Ignored, carried_units, role_of, wire_units}
+use Rattle.es_units.proofs.CarriedUnits.{same_units}
+use Rattle.es_feed.specs.EachStream.{if_start, next_starts, one_by_one, starts_next}
+use Rattle.given_marks.specs.Marking.{MarkingView, all_marked}
+use Rattle.given_marks.proofs.MarkedFindings.{marked_by_pid}
+use Rattle.laws_pipe.specs.StreamedUnits.{AreMarkedAlike}
+
+-- 1. Whether units are one PES packet each is for the findings of the PID to say
+
+other_role : (pid : ℕ) (f : FindingView) → has_pid pid f.pid ≡ false → role_of pid f ≡ Ignored
+unfolding role_of
+other_role pid f other = rw other refl
+
+if_own : Bool → FindingView → List FindingView → List FindingView
+if_own own f fs = if own then f ∷ fs else fs
+
+next_by : (own : Bool) (pid : ℕ) (f : FindingView) (found fs : List FindingView) → has_pid pid f.pid ≡ own → next_starts pid found ≡ next_starts pid fs →
+    next_starts pid (if_own own f found) ≡ next_starts pid (f ∷ fs)
+unfolding if_own next_starts starts_next
+next_by true pid f found fs is same = ap (λ (b : Bool). starts_next (role_of pid f) b) same
+next_by false pid f found fs is same = rw (other_role pid f is) same
+
+own_next : (pid : ℕ) (fs : List FindingView) → next_starts pid (found_of pid fs) ≡ next_starts pid fs
+unfolding if_own
+own_next pid [] = refl
+own_next pid (f ∷ fs) = next_by (has_pid pid f.pid) pid f (found_of pid fs) fs refl (own_next pid fs)
+
+alone_by : (own : Bool) (pid : ℕ) (f : FindingView) (found fs : List FindingView) → has_pid pid f.pid ≡ own → next_starts pid found ≡ next_starts pid fs →
+    one_by_one pid found ≡ one_by_one pid fs → one_by_one pid (if_own own f found) ≡ one_by_one pid (f ∷ fs)
+unfolding if_own one_by_one if_start
+alone_by true pid f found fs is next same = ap₂ (λ (a b : Bool). if_start (role_of pid f) a && b) next same
+alone_by false pid f found fs is next same = rw (other_role pid f is) same
+
+own_alone : (pid : ℕ) (fs : List FindingView) → one_by_one pid (found_of pid fs) ≡ one_by_one pid fs
+unfolding if_own
+own_alone pid [] = refl
+own_alone pid (f ∷ fs) = alone_by (has_pid pid f.pid) pid f (found_of pid fs) fs refl (own_next pid fs) (own_alone pid fs)
+
+-- 2. Marked alike
+
+found_alike : (whole streamed : MarkingView) (pid : ℕ) (fs : List FindingView) → AreMarkedAlike whole streamed pid →
+    found_of pid (all_marked whole fs) ≡ found_of pid (all_marked streamed fs)
+found_alike whole streamed pid fs alike = marked_by_pid whole streamed pid fs alike.typed alike.aligned
+
+pub alone_alike : (whole streamed : MarkingView) (pid : ℕ) (fs : List FindingView) → AreMarkedAlike whole streamed pid →
+    one_by_one pid (all_marked whole fs) ≡ one_by_one pid (all_marked streamed fs)
+alone_alike whole streamed pid fs alike =
+    sym (own_alone pid (all_marked whole fs)) ∙ ap (one_by_one pid) (found_alike whole streamed pid fs alike) ∙ own_alone pid (all_marked streamed fs)
+
+pub wire_alike : (whole streamed : MarkingView) (pid : ℕ) (fs : List FindingView) → AreMarkedAlike whole streamed pid →
+    wire_units pid (all_marked whole fs) ≡ wire_units pid (all_marked streamed fs)
+wire_alike whole streamed pid fs alike =
+    ap (λ (us : List CarriedUnit). map (λ (u : CarriedUnit). u.unit) us)
+    (sym (same_units pid (all_marked whole fs)) ∙ ap (carried_units pid) (found_alike whole streamed pid fs alike) ∙ same_units pid (all_marked streamed fs))
