@@ -8,6 +8,7 @@ pub mod MapKeys
 pub mod MapPlaces
 pub mod NotedChanges
 pub mod LastServices
+pub mod ServicePlaces
 pub mod FirstNetworks
 pub mod NetworkSteps
 pub mod ProgramSteps

@@ -2,7 +2,7 @@
 //!
 //! The program association table in force names the programs (`specs/Association`), and the last program map table of
 //! each its streams (`specs/ProgramMaps`, `specs/MapPlaces`, `specs/Streams`, `specs/Programs`); the service description has its name
-//! (`specs/Services`), as characters (`specs/Texts`, `specs/CharacterTables`), and its original network (`specs/Networks`);
+//! (`specs/Services`, `specs/ServicePlaces`), as characters (`specs/Texts`, `specs/CharacterTables`), and its original network (`specs/Networks`);
 //! the network information table has its network (`specs/NetworkInformation`). Maps and
 //! PCRs are assigned PIDs that nothing else has (`specs/PidAssignment`); PES packets of no program are counted by PID
 //! (`specs/StrayPids`). The omissions of the tables are
@@ -15,6 +15,7 @@ mod changed_maps;
 mod character_sets;
 mod character_tables;
 mod free_pids;
+mod last_services;
 mod laws;
 mod map_descriptors;
 mod map_places;
@@ -37,6 +38,7 @@ mod texts;
 pub use association::{Association, association_change, named_programs};
 pub use changed_maps::{MapChanges, map_changes};
 pub use free_pids::free_pid;
+pub use last_services::{LastServices, last_services};
 pub use laws::{
     each_has_pids, findings_of_pid_zero, findings_of_the_map, maps_decide, pids_are_distinct,
 };
