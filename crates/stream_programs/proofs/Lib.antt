@@ -19,6 +19,7 @@ pub mod AssignedPids
 pub mod FittingText
 pub mod CharacterSteps
 pub mod Sharers
+pub mod SharerIndex
 pub mod DistinctPids
 pub mod TablesAlone
 pub mod StrayPids

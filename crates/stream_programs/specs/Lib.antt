@@ -6,6 +6,7 @@ pub mod MapPlaces
 pub mod Omissions
 pub mod Streams
 pub mod Programs
+pub mod SharerIndex
 pub mod FreePids
 pub mod PidLists
 pub mod StrayPids

@@ -29,7 +29,7 @@ pub struct LastServices<'f, 'p, A: Allocator = Global> {
 }
 
 // A contract sees the findings.
-impl<A: Allocator> Model for LastServices<'_, '_, A> {
+impl<'f, 'p, A: Allocator> Model for LastServices<'f, 'p, A> {
     ghost use Rattle.std.specs.Prelude.{◌≡◌, List, map};
     ghost use Rattle.demux.specs.Shown.{finding_view};
     ghost use Rattle.demux.specs.Views.{FindingView};

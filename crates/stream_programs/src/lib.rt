@@ -31,6 +31,7 @@ mod programs;
 mod sections;
 mod service_description;
 mod services;
+mod sharers;
 mod strays;
 mod streams;
 mod texts;

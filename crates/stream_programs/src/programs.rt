@@ -1,21 +1,24 @@
 //! The programs of a stream and their elementary streams.
 
-ghost use Rattle.std.specs.Prelude.{◌≡◌, ◌==◌, ◌&&◌, not, IfOk, OnOk, is_some, map};
+ghost use Rattle.std.specs.Prelude.{◌≡◌, ◌==◌, ◌&&◌, [], not, true, IfOk, OnOk, is_some, map};
 ghost use Rattle.std.specs.List.{list_any};
 ghost use Rattle.psi_tables.specs.ProgramMap.{pmt_view, stream_view, streams_of};
 ghost use Rattle.demux.specs.Shown.{finding_view};
 ghost use Rattle.stream_programs.specs.MapPlaces.{places_in};
 ghost use Rattle.stream_programs.specs.ProgramMaps.{program_map};
 ghost use Rattle.stream_programs.specs.Programs as spec;
+ghost use Rattle.stream_programs.specs.SharerIndex.{AreSharers};
 ghost use Rattle.stream_programs.specs.Streams as held;
 
 use crate::map_places::{MapPlaces, map_at, map_places};
 use crate::omission::TableOmission;
+use crate::sharers::{Sharers, is_sharer, note_sharer};
 use crate::streams::{
     FoundStream, has_alike, has_stream_of, holder, is_reserved, omission_of, share,
 };
 use demux::Finding;
 use descriptor_loops::{has_ca, has_of_multiplex, kept_descriptors};
+use indexmap::IndexMap;
 use psi_tables::{Pmt, Program, Stream, Streams};
 use std::alloc::{AllocError, Allocator, Global};
 use std::marker::Model;
@@ -118,28 +121,22 @@ fn has_program<A: Allocator>(programs: &[FoundProgram<A>], number: u16, pcr_pid:
     programs.iter().any(|program| program.number == number && program.pcr_pid == pcr_pid)
 }
 
-// Whether a program shares the stream of a PID already.
-#[tactic(auto, unfolding(crate::specs::Programs::shares))]
-fn shares<A: Allocator>(streams: &[FoundStream<A>], number: u16, pid: u16) -> bool
-    ensures { result ≡ spec.shares streams.now number pid }
-{
-    streams.iter().any(|stream| stream.pid == pid && stream.is_shared_with(number))
-}
-
 // Whether a program can share the stream that another has, no sections: both have one clock, and it does not share it already.
 fn can_share<A: Allocator>(
     programs: &[FoundProgram<A>],
     streams: &[FoundStream<A>],
+    sharers: &Sharers<A>,
     other: u16,
     pcr_pid: u16,
     stream: &FoundStream<A>,
 ) -> bool
+    requires { AreSharers sharers.now.entries streams.now }
     ensures { result ≡ (is_some (held.holder stream.now.pid streams.now) && (spec.has_clock programs.now other pcr_pid
         && not (spec.shares streams.now stream.now.program stream.now.pid))) }
 {
     holder(stream.pid, streams).is_some()
         && has_clock(programs, other, pcr_pid)
-        && !shares(streams, stream.program, stream.pid)
+        && !is_sharer(sharers, stream.program, stream.pid)
 }
 
 impl<A: Allocator + Copy> FoundPrograms<A> {
@@ -192,8 +189,16 @@ impl<A: Allocator + Copy> FoundPrograms<A> {
 
     // Shares a holder's stream.
     #[tactic(auto, unfolding(crate::specs::Programs::with_shared))]
-    fn note_shared(&mut self, holder: u16, stream: FoundStream<A>) -> Result<(), AllocError>
-        ensures { OnOk result (self.new ≡ spec.with_shared self.old holder stream) }
+    fn note_shared(
+        &mut self,
+        sharers: &mut Sharers<A>,
+        holder: u16,
+        stream: FoundStream<A>,
+    ) -> Result<(), AllocError>
+        requires held { is_some (held.holder stream.pid self.old.streams) ≡ true }
+        requires indexed { AreSharers sharers.old.entries self.old.streams }
+        ensures value { OnOk result (self.new ≡ spec.with_shared self.old holder stream) }
+        ensures indexed { OnOk result (AreSharers sharers.new.entries self.new.streams) }
     {
         let (program, pid) = (stream.program, stream.pid);
         if !has_alike(&self.streams, &stream) {
@@ -203,6 +208,7 @@ impl<A: Allocator + Copy> FoundPrograms<A> {
                 holder,
             })?;
         }
+        note_sharer(sharers, program, pid)?;
         share(program, pid, &mut self.streams)
     }
 
@@ -210,11 +216,15 @@ impl<A: Allocator + Copy> FoundPrograms<A> {
     #[tactic(auto, unfolding(crate::specs::Programs::with_stream_if, crate::specs::Programs::can_share))]
     fn note_if(
         &mut self,
+        sharers: &mut Sharers<A>,
         why: Option<TableOmission>,
         pcr_pid: u16,
         stream: FoundStream<A>,
     ) -> Result<(), AllocError>
-        ensures { OnOk result (self.new ≡ spec.with_stream_if why self.old pcr_pid stream) }
+        requires alone { stream.shared_with ≡ [] }
+        requires indexed { AreSharers sharers.old.entries self.old.streams }
+        ensures value { OnOk result (self.new ≡ spec.with_stream_if why self.old pcr_pid stream) }
+        ensures indexed { OnOk result (AreSharers sharers.new.entries self.new.streams) }
     {
         match why {
             None => self.streams.push(stream)?,
@@ -225,8 +235,15 @@ impl<A: Allocator + Copy> FoundPrograms<A> {
                     holder,
                 },
             ) => {
-                if can_share(&self.programs, &self.streams, holder, pcr_pid, &stream) {
-                    return self.note_shared(holder, stream);
+                if can_share(
+                    &self.programs,
+                    &self.streams,
+                    sharers,
+                    holder,
+                    pcr_pid,
+                    &stream,
+                ) {
+                    return self.note_shared(sharers, holder, stream);
                 }
                 self.left_out.push(TableOmission::Taken {
                     program,
@@ -245,11 +262,14 @@ impl<A: Allocator + Copy> FoundPrograms<A> {
     fn note_stream(
         &mut self,
         alloc: A,
+        sharers: &mut Sharers<A>,
         program: u16,
         pcr_pid: u16,
         stream: Stream<'_>,
     ) -> Result<(), AllocError>
-        ensures { OnOk result (self.new ≡ spec.with_stream self.old program pcr_pid (stream_view stream.entry)) }
+        requires { AreSharers sharers.old.entries self.old.streams }
+        ensures indexed { OnOk result (AreSharers sharers.new.entries self.new.streams) }
+        ensures value { OnOk result (self.new ≡ spec.with_stream self.old program pcr_pid (stream_view stream.entry)) }
     {
         let (stream_type, pid) = (stream.stream_type, stream.elementary_pid);
         let why = omission_of(program, stream_type, pid, self.holder_of(pid));
@@ -261,21 +281,24 @@ impl<A: Allocator + Copy> FoundPrograms<A> {
             descriptors,
             shared_with: Vec::new(alloc),
         };
-        self.note_if(why, pcr_pid, stream)
+        self.note_if(sharers, why, pcr_pid, stream)
     }
 
     #[tactic(auto, unfolding(crate::specs::Programs::with_streams))]
     fn note_streams(
         &mut self,
         alloc: A,
+        sharers: &mut Sharers<A>,
         program: u16,
         pcr_pid: u16,
         streams: Streams<'_>,
     ) -> Result<(), AllocError>
-        ensures { OnOk result (self.new ≡ spec.with_streams self.old program pcr_pid (streams_of streams.entry)) }
+        requires { AreSharers sharers.old.entries self.old.streams }
+        ensures indexed { OnOk result (AreSharers sharers.new.entries self.new.streams) }
+        ensures value { OnOk result (self.new ≡ spec.with_streams self.old program pcr_pid (streams_of streams.entry)) }
     {
         for stream in streams {
-            self.note_stream(alloc, program, pcr_pid, stream)?;
+            self.note_stream(alloc, sharers, program, pcr_pid, stream)?;
         }
         Ok(())
     }
@@ -316,12 +339,26 @@ impl<A: Allocator + Copy> FoundPrograms<A> {
     }
 
     #[tactic(auto, unfolding(crate::specs::Programs::with_map))]
-    fn note_map(&mut self, alloc: A, program: Program, pmt: &Pmt<'_>) -> Result<(), AllocError>
-        ensures { OnOk result (self.new ≡ spec.with_map self.old program (pmt_view pmt.now)) }
+    fn note_map(
+        &mut self,
+        alloc: A,
+        sharers: &mut Sharers<A>,
+        program: Program,
+        pmt: &Pmt<'_>,
+    ) -> Result<(), AllocError>
+        requires { AreSharers sharers.old.entries self.old.streams }
+        ensures indexed { OnOk result (AreSharers sharers.new.entries self.new.streams) }
+        ensures value { OnOk result (self.new ≡ spec.with_map self.old program (pmt_view pmt.now)) }
     {
         self.note_access(program.program_number, pmt)?;
         self.note_multiplex(program.program_number, pmt)?;
-        self.note_streams(alloc, program.program_number, pmt.pcr_pid, pmt.streams)?;
+        self.note_streams(
+            alloc,
+            sharers,
+            program.program_number,
+            pmt.pcr_pid,
+            pmt.streams,
+        )?;
         let descriptors = kept_descriptors(alloc, pmt.program_info)?;
         let found = FoundProgram {
             number: program.program_number,
@@ -336,12 +373,15 @@ impl<A: Allocator + Copy> FoundPrograms<A> {
     fn note(
         &mut self,
         alloc: A,
+        sharers: &mut Sharers<A>,
         program: Program,
         places: &MapPlaces<A>,
         findings: &[Finding<'_, A>],
     ) -> Result<(), AllocError>
-        requires { places.now.entries ≡ places_in (map finding_view findings.now) }
-        ensures { OnOk result (self.new ≡ spec.with_program_by self.old program
+        requires located { places.now.entries ≡ places_in (map finding_view findings.now) }
+        requires indexed { AreSharers sharers.old.entries self.old.streams }
+        ensures indexed { OnOk result (AreSharers sharers.new.entries self.new.streams) }
+        ensures value { OnOk result (self.new ≡ spec.with_program_by self.old program
             (program_map program (map finding_view findings.now))) }
     {
         match map_at(places, program, findings) {
@@ -351,7 +391,7 @@ impl<A: Allocator + Copy> FoundPrograms<A> {
                 })?;
                 Ok(())
             }
-            Some(pmt) => self.note_map(alloc, program, &pmt),
+            Some(pmt) => self.note_map(alloc, sharers, program, &pmt),
         }
     }
 }
@@ -368,8 +408,9 @@ pub fn found_programs<A: Allocator + Copy>(
 {
     let places = map_places(alloc, findings)?;
     let mut found = FoundPrograms::new(alloc);
+    let mut sharers = IndexMap::new(alloc);
     for program in named {
-        found.note(alloc, *program, &places, findings)?;
+        found.note(alloc, &mut sharers, *program, &places, findings)?;
     }
     Ok(found)
 }
