@@ -12,7 +12,7 @@ ghost use Rattle.stream_programs.specs.Streams as held;
 
 use crate::map_places::{MapPlaces, map_at, map_places};
 use crate::omission::TableOmission;
-use crate::sharers::{Sharers, is_sharer, note_sharer};
+use crate::sharer_index::{Sharers, is_sharer, note_sharer};
 use crate::streams::{
     FoundStream, has_alike, has_stream_of, holder, is_reserved, omission_of, share,
 };

@@ -7,8 +7,8 @@ use Rattle.stream_programs.proofs.programs.found_programs.Goals as goal
 pub loop-program-preserved : goal.loop-program-preserved
 loop-program-preserved g c = record {
   noted = c.loop-program.invariant.noted
-    ∙ programs_more c.loop-program.found c.note.new.self c.loop-program.program-index c.args.named.now _ (map (finding_view {A = g.row.A.Denot}) c.args.findings.now)
-    c.loop-program-test.true c.in_ok-note.ensures.value;
+      ∙ programs_more c.loop-program.found c.note.new.self c.loop-program.program-index c.args.named.now _ (map (finding_view {A = g.row.A.Denot}) c.args.findings.now)
+      c.loop-program-test.true c.in_ok-note.ensures.value;
   indexed = c.in_ok-note.ensures.indexed;
 }
 

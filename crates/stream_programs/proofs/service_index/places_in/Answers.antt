@@ -3,7 +3,7 @@ use Rattle.dvb_tables.specs.ServiceDescription.{SdtView}
 use Rattle.demux.specs.Shown.{finding_view}
 use Rattle.stream_programs.specs.ServicePlaces.{with_table}
 use Rattle.stream_programs.proofs.ServicePlaces.{services_more, services_end}
-use Rattle.stream_programs.proofs.last_services.places_in.Goals as goal
+use Rattle.stream_programs.proofs.service_index.places_in.Goals as goal
 
 pub loop-at-preserved : goal.loop-at-preserved
 loop-at-preserved g c =

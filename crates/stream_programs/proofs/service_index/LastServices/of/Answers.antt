@@ -5,7 +5,7 @@ use Rattle.demux.specs.Views.{FindingView}
 use Rattle.stream_programs.specs.Services.{service}
 use Rattle.stream_programs.specs.ServicePlaces.{service_there}
 use Rattle.stream_programs.proofs.ServicePlaces.{services_are_there}
-use Rattle.stream_programs.proofs.last_services.LastServices.of.Goals as goal
+use Rattle.stream_programs.proofs.service_index.LastServices.of.Goals as goal
 
 pub returns : goal.returns
 returns g c =
