@@ -168,6 +168,36 @@ pub const STRICT: OptionRow = OptionRow {
     help: "a stream that cannot be carried refuses the input; else it is left out",
 };
 
+/// The description of a service by hand.
+pub const DESCRIPTION: OptionRow = OptionRow {
+    name: "description",
+    value: ValueKind::File,
+    form: "FILE",
+    unit: "",
+    apart: "",
+    help: "a service by hand: its description, beside --plan, --records, --output and --quiet alone",
+};
+
+/// The plan of a service by hand.
+pub const PLAN: OptionRow = OptionRow {
+    name: "plan",
+    value: ValueKind::File,
+    form: "FILE",
+    unit: "",
+    apart: "",
+    help: "with --description: its plan; else a plan is made",
+};
+
+/// The access units of a service by hand.
+pub const RECORDS: OptionRow = OptionRow {
+    name: "records",
+    value: ValueKind::File,
+    form: "FILE",
+    unit: "",
+    apart: "",
+    help: "with --description: the records of its access units; else they are the input",
+};
+
 /// The file that is written.
 pub const OUTPUT: OptionRow = OptionRow {
     name: "output",
