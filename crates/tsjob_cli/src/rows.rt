@@ -175,7 +175,7 @@ pub const DESCRIPTION: OptionRow = OptionRow {
     form: "FILE",
     unit: "",
     apart: "",
-    help: "a service by hand: its description, beside --plan, --records, --output and --quiet alone",
+    help: "a service by hand: its description; beside it --plan, --records, -o and -q",
 };
 
 /// The plan of a service by hand.
