@@ -8,15 +8,15 @@ use Rattle.named_files.specs.Reports.{TellsOf, terminal_line, uncreated_text}
 use Rattle.tsremux_cli.specs.Outputs.{Concludes, Finishes, ToFile, ToOutput, WritesOutput, output_name}
 use Rattle.tsjob_cli.specs.Command.{Outputs, output_file}
 use Rattle.tsremux_cli.specs.Program.{Answers, WritesTo}
-use Rattle.tsremux_cli.specs.Remuxing.{Remuxes}
+use Rattle.tsremux_cli.specs.Packets.{WritesFor}
 use Rattle.tsremux_cli.specs.Words.{is_quiet, job_words}
 use Rattle.tsremux_cli.specs.declared.figures.Remuxed.{Remuxed}
 
 pub concluded : (words : List Text) (quiet : Bool) (files : Files) (input output : Device) (before mid after : Port) (result : Remuxed) (status : ℕ) → quiet ≡ is_quiet words →
-    Remuxes words files input output (between before mid) result → Concludes quiet output_name result (between mid after) status →
+    WritesFor words files input output (between before mid) result → Concludes quiet output_name result (between mid after) status →
     WritesOutput words files input output (between before after) status
-concluded words quiet files input output before mid after result status is remuxes concludes =
-    record { result = result; told = mid; remuxes = remuxes; concludes = subst (λ (b : Bool). Concludes b output_name result (between mid after) status) is concludes }
+concluded words quiet files input output before mid after result status is makes concludes =
+    record { result = result; told = mid; makes = makes; concludes = subst (λ (b : Bool). Concludes b output_name result (between mid after) status) is concludes }
 
 pub to_terminal : (shows : Option Bool) (shown : Bool) (words : List Text) (files : Files) (input output faults : Device) (status : ℕ) → IsAsKnown shows shown → shown ≡ true →
     IsUntouched input → IsUntouched output → Reports faults terminal_line → status ≡ 2 → ToOutput shows words files input output faults status
@@ -28,16 +28,16 @@ pub to_output : (shows : Option Bool) (shown : Bool) (words : List Text) (files 
 to_output shows shown words files input output faults status known is writes = inr (subst (λ (b : Bool). IsAsKnown shows b) is known, writes)
 
 pub to_file : (creates : Option Bool) (name : Text) (words : List Text) (quiet : Bool) (files : Files) (input file : Device) (before mid after : Port) (result : Remuxed) (status : ℕ) →
-    IsAsKnown creates true → ((bytes : List ℕ) → file.before.bytes ≡ Some bytes → bytes ≡ []) → Remuxes words files input file (between before mid) result →
+    IsAsKnown creates true → ((bytes : List ℕ) → file.before.bytes ≡ Some bytes → bytes ≡ []) → WritesFor words files input file (between before mid) result →
     quiet ≡ is_quiet words → Finishes quiet name result (between mid after) status → ToFile creates name words files input (between before after) status
-to_file creates name words quiet files input file before mid after result status created empty remuxes is finishes =
+to_file creates name words quiet files input file before mid after result status created empty makes is finishes =
     inl (record {
       created = created;
       file = file;
       empty = empty;
       result = result;
       told = mid;
-      remuxes = remuxes;
+      makes = makes;
       finishes = subst (λ (b : Bool). Finishes b name result (between mid after) status) is finishes;
     })
 
