@@ -1,6 +1,6 @@
 //! The units of the streams of a description, while a stream comes.
 
-ghost use Rattle.std.specs.Prelude.{◌≡◌, ◌≤◌, ◌<◌, ◌++◌, ◌∷◌, [], IfOk, OnOk, length};
+ghost use Rattle.std.specs.Prelude.{◌≡◌, ◌≤◌, ◌<◌, ◌++◌, ◌∷◌, [], IfOk, OnOk, length, map};
 ghost use Rattle.devices.specs.Devices.{reads, writes};
 ghost use Rattle.devices.specs.Files.{files_of};
 ghost use Rattle.devices.specs.Lines.{Reports};
@@ -92,15 +92,26 @@ fn push_map(
     Ok(())
 }
 
+// The map of each of these programs.
+fn program_maps(
+    alloc: Global,
+    programs: &[ProgramDescription],
+    streams: &[StreamDescription],
+) -> Result<Vec<FedMap>, AllocError>
+    ensures { IfOk result (λ maps. maps.items ≡ map (spec.map_of streams.now) programs.now) }
+{
+    let mut maps = Vec::new(alloc);
+    for program in programs {
+        push_map(alloc, program, streams, &mut maps)?;
+    }
+    Ok(maps)
+}
+
 // The map of each program of a description.
 fn maps_of(alloc: Global, description: &Description) -> Result<Vec<FedMap>, AllocError>
     ensures { IfOk result (λ maps. maps.items ≡ spec.maps_of description.now) }
 {
-    let mut maps = Vec::new(alloc);
-    for program in description.programs() {
-        push_map(alloc, program, description.streams(), &mut maps)?;
-    }
-    Ok(maps)
+    program_maps(alloc, description.programs(), description.streams())
 }
 
 // The PID of each stream of a description.
