@@ -1,14 +1,19 @@
 -- A service by hand.
-use Rattle.std.proofs.Common.{◌≡◌, ℕ, false, List, [], ◌∷◌, Some, Result, Ok, Err, refl, inl, inr, subst}
+use Rattle.std.proofs.Common.{◌≡◌, ℕ, false, List, [], ◌∷◌, Option, Some, None, Result, Ok, Err, refl, inl, inr, subst}
 use Rattle.std.specs.Prelude.{◌==◌}
 use Rattle.devices.specs.Devices.{Device, IsUntouched, Port, between}
 use Rattle.devices.specs.Files.{Files}
 use Rattle.devices.specs.Runs.{Performs}
 use Rattle.named_files.specs.ReadFiles.{ReadsAll}
 use Rattle.tsmux_cli.specs.Planning.{MakesPlan}
-use Rattle.tsremux_cli.specs.ByHand.{Hand, Joins, MuxesByHand, PlansFor, Reads, ReadsJob, ReadsPlan, ReadsRecords}
+use Rattle.word_faults.specs.CommandLine.{Text}
+use Rattle.tsremux_cli.specs.ByHand.{Hand, Joins, MuxesByHand, PlansFor, Reads, ReadsJob, ReadsPlan, ReadsRecords, hand}
 use Rattle.tsremux_cli.specs.Muxing.{MuxesBytes}
+use Rattle.tsremux_cli.specs.Packets.{WritesBy, WritesFor}
+use Rattle.tsremux_cli.specs.Remuxing.{Remuxes}
+use Rattle.tsremux_cli.specs.Words.{description_of, plan_of, records_of}
 use Rattle.tsremux_cli.specs.declared.figures.Figures.{Figures}
+use Rattle.tsremux_cli.specs.declared.figures.Remuxed.{Remuxed}
 use Rattle.tsremux_cli.specs.declared.figures.Remuxed.TheVariants.{Whole, Ended}
 
 -- a plan is made, or none
@@ -109,3 +114,16 @@ all_muxed h files input packets p0 p1 p2 job shown figures reads same muxed = re
   muxed = subst (λ (xs : List ℕ). MuxesBytes xs packets (between p1 p2) (Ok figures)) same muxed;
   status_is = refl;
 }
+
+-- what words ask for
+pub by_hand : (words : List Text) (description : Text) (plan records : Option Text) (files : Files) (input packets faults : Device) (result : Remuxed) →
+    Some description ≡ description_of words → plan ≡ plan_of words → records ≡ records_of words →
+    MuxesByHand (hand description plan records) files input packets faults result → WritesFor words files input packets faults result
+by_hand words description plan records files input packets faults result named planned recorded muxes =
+    subst (λ (d : Option Text). WritesBy d words files input packets faults result) named
+    (subst (λ (p : Option Text). MuxesByHand (hand description p (records_of words)) files input packets faults result) planned
+    (subst (λ (r : Option Text). MuxesByHand (hand description plan r) files input packets faults result) recorded muxes))
+
+pub of_streams : (words : List Text) (files : Files) (input packets faults : Device) (result : Remuxed) → None ≡ description_of words →
+    Remuxes words files input packets faults result → WritesFor words files input packets faults result
+of_streams words files input packets faults result none remuxes = subst (λ (d : Option Text). WritesBy d words files input packets faults result) none remuxes

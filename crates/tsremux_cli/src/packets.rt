@@ -28,7 +28,8 @@ pub(crate) fn write_packets_for<F: NamedFiles, R: Source, W: Sink, E: Sink>(
 {
     match description_of(words) {
         Some(description) => {
-            let (plan, records) = (plan_of(words), records_of(words));
+            let plan = plan_of(words);
+            let records = records_of(words);
             mux_by_hand(
                 alloc,
                 description,
