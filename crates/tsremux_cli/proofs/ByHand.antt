@@ -17,8 +17,8 @@ use Rattle.tsremux_cli.specs.declared.figures.Remuxed.{Remuxed}
 use Rattle.tsremux_cli.specs.declared.figures.Remuxed.TheVariants.{Whole, Ended}
 
 -- a plan is made, or none
-pub plan_made : (description plan : List ℕ) (input written faults : Device) (status : ℕ) → input.before.bytes ≡ Some description → written.before.bytes ≡ Some [] →
-    written.after.bytes ≡ Some plan → Performs MakesPlan input written faults status → status ≡ 0 → PlansFor description faults (Ok plan)
+pub plan_made : (description plan : List ℕ) (input written faults : Device) (status : ℕ) → input.before.bytes ≡ Some description →
+    written.before.bytes ≡ Some [] → written.after.bytes ≡ Some plan → Performs MakesPlan input written faults status → status ≡ 0 → PlansFor description faults (Ok plan)
 plan_made description plan input written faults status begins empty are runs is = record {
   written = written;
   runs = record { input = input; begins = begins; empty = empty; runs = subst (λ (n : ℕ). Performs MakesPlan input written faults n) is runs };
@@ -31,8 +31,8 @@ none_made description input written faults status begins empty runs fails =
     record { written = written; runs = record { input = input; begins = begins; empty = empty; runs = runs }; fails = fails }
 
 -- there is no description
-pub no_description : (h : Hand) (files : Files) (input faults : Device) (status : ℕ) → ReadsAll files (h.description ∷ []) faults (Err status) → IsUntouched input →
-    ReadsJob h files input faults (Err status)
+pub no_description : (h : Hand) (files : Files) (input faults : Device) (status : ℕ) → ReadsAll files (h.description ∷ []) faults (Err status) →
+    IsUntouched input → ReadsJob h files input faults (Err status)
 no_description h files input faults status stops unread = inr (inl (record { stops = stops; unread = unread }))
 
 -- no plan
@@ -68,7 +68,7 @@ all_read : (h : Hand) (files : Files) (input : Device) (p0 p1 p2 p3 p4 : Port) (
     ReadsAll files (h.description ∷ []) (between p0 p1) (Ok description) → lent ≡ description → ReadsPlan files h.plan lent (between p1 p2) (Ok plan) →
     ReadsRecords files h.records input (between p2 p3) (Ok records) → shown ≡ records → Joins description plan shown (between p3 p4) result →
     Reads h files input (between p0 p4) result
-all_read h files input p0 p1 p2 p3 p4 description lent plan records shown result described same planned recorded as joins = record {
+all_read h files input p0 p1 p2 p3 p4 description lent plan records shown result described same planned recorded lends joins = record {
   description = description;
   plan = plan;
   records = records;
@@ -78,35 +78,35 @@ all_read h files input p0 p1 p2 p3 p4 description lent plan records shown result
   described = described;
   planned = subst (λ (d : List ℕ). ReadsPlan files h.plan d (between p1 p2) (Ok plan)) same planned;
   recorded = recorded;
-  joins = subst (λ (rs : List ℕ). Joins description plan rs (between p3 p4) result) as joins;
+  joins = subst (λ (rs : List ℕ). Joins description plan rs (between p3 p4) result) lends joins;
 }
 
 pub has_job : (h : Hand) (files : Files) (input : Device) (p0 p1 p2 p3 p4 : Port) (description lent plan records shown job : List ℕ) →
     ReadsAll files (h.description ∷ []) (between p0 p1) (Ok description) → lent ≡ description → ReadsPlan files h.plan lent (between p1 p2) (Ok plan) →
     ReadsRecords files h.records input (between p2 p3) (Ok records) → shown ≡ records → Joins description plan shown (between p3 p4) (Ok job) →
     ReadsJob h files input (between p0 p4) (Ok job)
-has_job h files input p0 p1 p2 p3 p4 description lent plan records shown job described same planned recorded as joins =
-    all_read h files input p0 p1 p2 p3 p4 description lent plan records shown (Ok job) described same planned recorded as joins
+has_job h files input p0 p1 p2 p3 p4 description lent plan records shown job described same planned recorded lends joins =
+    all_read h files input p0 p1 p2 p3 p4 description lent plan records shown (Ok job) described same planned recorded lends joins
 
 pub no_room : (h : Hand) (files : Files) (input : Device) (p0 p1 p2 p3 p4 : Port) (description lent plan records shown : List ℕ) (status : ℕ) →
     ReadsAll files (h.description ∷ []) (between p0 p1) (Ok description) → lent ≡ description → ReadsPlan files h.plan lent (between p1 p2) (Ok plan) →
     ReadsRecords files h.records input (between p2 p3) (Ok records) → shown ≡ records → Joins description plan shown (between p3 p4) (Err status) →
     ReadsJob h files input (between p0 p4) (Err status)
-no_room h files input p0 p1 p2 p3 p4 description lent plan records shown status described same planned recorded as joins =
-    inl (all_read h files input p0 p1 p2 p3 p4 description lent plan records shown (Err status) described same planned recorded as joins)
+no_room h files input p0 p1 p2 p3 p4 description lent plan records shown status described same planned recorded lends joins =
+    inl (all_read h files input p0 p1 p2 p3 p4 description lent plan records shown (Err status) described same planned recorded lends joins)
 
 -- the packets of the job
 pub none_muxed : (h : Hand) (files : Files) (input packets faults : Device) (status : ℕ) → ReadsJob h files input faults (Err status) → IsUntouched packets →
     MuxesByHand h files input packets faults (Ended status)
 none_muxed h files input packets faults status reads unwritten = inl (record { reads = reads; unwritten = unwritten })
 
-pub not_all_muxed : (h : Hand) (files : Files) (input packets : Device) (p0 p1 p2 : Port) (job shown : List ℕ) (status : ℕ) → ReadsJob h files input (between p0 p1) (Ok job) →
-    shown ≡ job → MuxesBytes shown packets (between p1 p2) (Err status) → MuxesByHand h files input packets (between p0 p2) (Ended status)
+pub not_all_muxed : (h : Hand) (files : Files) (input packets : Device) (p0 p1 p2 : Port) (job shown : List ℕ) (status : ℕ) →
+    ReadsJob h files input (between p0 p1) (Ok job) → shown ≡ job → MuxesBytes shown packets (between p1 p2) (Err status) → MuxesByHand h files input packets (between p0 p2) (Ended status)
 not_all_muxed h files input packets p0 p1 p2 job shown status reads same muxed =
     inr (record { job = job; told = p1; reads = reads; muxed = subst (λ (xs : List ℕ). MuxesBytes xs packets (between p1 p2) (Err status)) same muxed })
 
-pub all_muxed : (h : Hand) (files : Files) (input packets : Device) (p0 p1 p2 : Port) (job shown : List ℕ) (figures : Figures) → ReadsJob h files input (between p0 p1) (Ok job) →
-    shown ≡ job → MuxesBytes shown packets (between p1 p2) (Ok figures) → MuxesByHand h files input packets (between p0 p2) (Whole figures 0)
+pub all_muxed : (h : Hand) (files : Files) (input packets : Device) (p0 p1 p2 : Port) (job shown : List ℕ) (figures : Figures) →
+    ReadsJob h files input (between p0 p1) (Ok job) → shown ≡ job → MuxesBytes shown packets (between p1 p2) (Ok figures) → MuxesByHand h files input packets (between p0 p2) (Whole figures 0)
 all_muxed h files input packets p0 p1 p2 job shown figures reads same muxed = record {
   job = job;
   told = p1;

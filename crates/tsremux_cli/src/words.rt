@@ -74,8 +74,8 @@ pub(crate) fn known_for(words: &[&str]) -> KnownWords
     }
 }
 
-/// Returns words with long names of options: for a service by hand in their order; else the options, each with its value, then the
-/// names of files after `--`.
+/// Returns words with long names of options: for a service by hand in their order; else the options, each with its value, then
+/// the names of files after `--`.
 pub(crate) fn sorted_words<'a>(alloc: Global, words: &[&'a str]) -> Result<Vec<&'a str>, AllocError>
     ensures { IfOk result (λ sorted. map (λ s. s.now) sorted.items ≡ spec.sorted_words (map (λ s. s.now) words.now)) }
 {
