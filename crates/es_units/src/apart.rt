@@ -27,11 +27,7 @@ fn is_same<A: Allocator>(unit: &FoundUnit<'_, A>, next: &FoundUnit<'_, A>) -> bo
 
 // Whether it is due when the unit at a place is, if there is one.
 #[tactic(auto, using(crate::proofs::ApartUnits::same_end))]
-fn is_same_at<A: Allocator>(
-    at: usize,
-    unit: &FoundUnit<'_, A>,
-    found: &[FoundUnit<'_, A>],
-) -> bool
+fn is_same_at<A: Allocator>(at: usize, unit: &FoundUnit<'_, A>, found: &[FoundUnit<'_, A>]) -> bool
     ensures { result ≡ spec.is_same_next unit.now (drop at found.now) }
 {
     match found.get(at) {
@@ -64,10 +60,7 @@ fn apart_by(same: bool, place: u8, dts: u64) -> u64
 }
 
 // The DTS of units.
-fn apart_dts<A: Allocator>(
-    alloc: A,
-    found: &[FoundUnit<'_, A>],
-) -> Result<Vec<u64, A>, AllocError>
+fn apart_dts<A: Allocator>(alloc: A, found: &[FoundUnit<'_, A>]) -> Result<Vec<u64, A>, AllocError>
     ensures { IfOk result (λ dts. dts.items ≡ spec.apart_dts 0 found.now) }
 {
     let mut dts = Vec::with_capacity(alloc, found.len())?;

@@ -52,8 +52,11 @@ pub alone_alike : (whole streamed : MarkingView) (pid : ℕ) (fs : List FindingV
 alone_alike whole streamed pid fs alike =
     sym (own_alone pid (all_marked whole fs)) ∙ ap (one_by_one pid) (found_alike whole streamed pid fs alike) ∙ own_alone pid (all_marked streamed fs)
 
+pub carried_alike : (whole streamed : MarkingView) (pid : ℕ) (fs : List FindingView) → AreMarkedAlike whole streamed pid →
+    carried_units pid (all_marked whole fs) ≡ carried_units pid (all_marked streamed fs)
+carried_alike whole streamed pid fs alike =
+    sym (same_units pid (all_marked whole fs)) ∙ ap (carried_units pid) (found_alike whole streamed pid fs alike) ∙ same_units pid (all_marked streamed fs)
+
 pub wire_alike : (whole streamed : MarkingView) (pid : ℕ) (fs : List FindingView) → AreMarkedAlike whole streamed pid →
     wire_units pid (all_marked whole fs) ≡ wire_units pid (all_marked streamed fs)
-wire_alike whole streamed pid fs alike =
-    ap (λ (us : List CarriedUnit). map (λ (u : CarriedUnit). u.unit) us)
-    (sym (same_units pid (all_marked whole fs)) ∙ ap (carried_units pid) (found_alike whole streamed pid fs alike) ∙ same_units pid (all_marked streamed fs))
+wire_alike whole streamed pid fs alike = ap (λ (us : List CarriedUnit). map (λ (u : CarriedUnit). u.unit) us) (carried_alike whole streamed pid fs alike)

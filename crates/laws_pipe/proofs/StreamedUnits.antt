@@ -1,5 +1,5 @@
 -- What both ways of `tsjob units` write of a stream.
-use Rattle.std.proofs.Common.{◌≡◌, ◌∙◌, ◌<◌, ◌≤◌, ℕ, zero, suc, ◌+◌, ◌/◌, ◌++◌, Bool, true, false, if◌then◌else◌, Option, Some, None, List, [], ◌∷◌, All, length, map, slice_get, get_or, refl, sym, ap, subst, inl, inr, arith}
+use Rattle.std.proofs.Common.{◌≡◌, ◌∙◌, ◌<◌, ◌≤◌, ℕ, zero, suc, ◌+◌, ◌/◌, ◌++◌, Bool, true, false, if◌then◌else◌, Option, Some, None, List, [], ◌∷◌, All, length, map, slice_get, get_or, refl, sym, ap, subst, ◌⊎◌, inl, inr, arith}
 use Rattle.std.specs.Io.KnownBytes.{Consumes, IsAtEnd}
 use Rattle.std.specs.Prelude.{option_map}
 use Rattle.std.proofs.lemmas.List.{append-nil, length-map}
@@ -43,7 +43,7 @@ use Rattle.job_run.specs.Outcomes.{Gives, GivesUnits}
 use Rattle.job_run.specs.Streams.{findings_for, findings_of}
 use Rattle.tsjob_cli.specs.StreamedUnits.{GoesBy, earliest, feed_of, maps_of, marking_by, pids_of, streams_from}
 use Rattle.laws_pipe.specs.StreamedUnits.{AreAlike, AreLaterByOne, AreMarkedAlike, TheSameUnits}
-use Rattle.laws_pipe.proofs.MarkedUnits.{alone_alike, wire_alike}
+use Rattle.laws_pipe.proofs.MarkedUnits.{alone_alike, carried_alike, wire_alike}
 use Rattle.laws_pipe.proofs.PipedRuns.{GivenOf, given_by_run, taken}
 use Rattle.laws_pipe.proofs.RisingUnits.{none_same}
 
@@ -132,6 +132,11 @@ all_came (Some xs) (Some ys) bytes came known reads ends =
     let split : xs ≡ came ++ ys = reads in
     sym (append-nil came) ∙ ap (λ (rest : List ℕ). came ++ rest) (sym none) ∙ sym split ∙ all
 
+-- where nothing is told, the description is of this stream
+at_end : (E : Type 0) (fed : List Fed) → have_fault fed ≡ false → E ⊎ (have_refusal fed ≡ true) → E
+at_end E fed none (inl ends) = ends
+at_end E fed none (inr refused) = absurd (refusal_told fed none refused)
+
 ended : (w : JobOptionsView) (d : Described) (bytes output : List ℕ) (stream records faults : Device) → stream.before.bytes ≡ Some bytes → records.before.bytes ≡ Some [] → records.after.bytes ≡ Some output →
     EndsStream (feed_of w d) (pids_of d) stream records faults 0 → FedBy w d bytes output
 ended w d bytes output stream records faults known empty output_is e =
@@ -139,11 +144,11 @@ ended w d bytes output stream records faults known empty output_is e =
     let quiet : e.faulty ≡ false = not_faulty e.faulty 0 refl e.status_is in
     let none : have_fault p.fed ≡ false = sym p.faulty_is ∙ quiet in
     let came : p.came ≡ bytes = all_came stream.before.bytes stream.after.bytes bytes p.came known p.passes.read (at_end (IsAtEnd stream.after.bytes) p.fed none p.ends) in
-    let all : p.fed ≡ fed_of (feed_of d) p.came = clear_is_fed (feed_of d) p.came p.fed p.fed_is none in
+    let all : p.fed ≡ fed_of (feed_of w d) p.came = clear_is_fed (feed_of w d) p.came p.fed p.fed_is none in
     record {
-      silent = ap (λ (b : List ℕ). have_fault (fed_of (feed_of w d) b)) (sym came) ∙ sym p.faulty_is ∙ quiet;
-      output_is = sym (taken records.before.bytes records.after.bytes (fed_records (fed_of (feed_of w d) p.came)) output empty output_is p.passes.written)
-          ∙ ap (λ (b : List ℕ). fed_records (fed_of (feed_of w d) b)) came;
+      silent = ap (λ (b : List ℕ). have_fault (fed_of (feed_of w d) b)) (sym came) ∙ ap have_fault (sym all) ∙ none;
+      output_is = sym (taken records.before.bytes records.after.bytes (fed_records p.fed) output empty output_is p.passes.written)
+          ∙ ap fed_records all ∙ ap (λ (b : List ℕ). fed_records (fed_of (feed_of w d) b)) came;
     }
 
 gone : (w : JobOptionsView) (d : Described) (bytes output : List ℕ) (stream records faults : Device) → stream.before.bytes ≡ Some bytes → records.before.bytes ≡ Some [] → records.after.bytes ≡ Some output →
@@ -185,41 +190,73 @@ at_place P xs i x all at =
     let same : get_or xs i x ≡ x = get_or_from_slice_get xs i x x at in
     subst P same (all i x within)
 
--- 4. All are moved by the constant of their clock
+-- 4. Both have the same findings of its PID
 
--- the units of a stream are due one after another, so none has another DTS than its own
-stream_stays : (d : Described) (bytes : List ℕ) (k : ℕ) (s : FedStreamView) → IsInRange d → have_fault (fed_of (feed_of d) bytes) ≡ false →
-    slice_get (streams_from 0 d.streams) k ≡ Some s → one_by_one s.units.pid (found_of_all bytes) ≡ true →
-    apart_wire_units s.units.pid (found_of_all bytes) ≡ wire_units s.units.pid (found_of_all bytes)
-stream_stays d bytes k s ranges silent at alone =
+-- what the whole stream and the stream that comes are marked by
+abbrev whole_marking : JobArgumentsView → List ℕ → MarkingView
+whole_marking a bytes = marking_of a.options (findings_of (carried bytes))
+
+abbrev streamed_findings : JobOptionsView → Described → List ℕ → List FindingView
+streamed_findings w d bytes = all_marked (marking_by w d) (findings_of (carried bytes))
+
+marks_of : (a : JobArgumentsView) (w : JobOptionsView) (d : Described) (bytes : List ℕ) (input : JobInputView) (k : ℕ) (t : TimedStreamView) → AreAlike a w d bytes input →
+    slice_get input.streams k ≡ Some t → AreMarkedAlike (whole_marking a bytes) (marking_by w d) t.pid
+marks_of a w d bytes input k t alike at =
+    at_place (λ t. AreMarkedAlike (whole_marking a bytes) (marking_by w d) t.pid) input.streams k t alike.marks at
+
+same_wire : (a : JobArgumentsView) (w : JobOptionsView) (d : Described) (bytes : List ℕ) (input : JobInputView) (k : ℕ) (t : TimedStreamView) → AreAlike a w d bytes input →
+    slice_get input.streams k ≡ Some t → wire_units t.pid (findings_for a.options bytes) ≡ wire_units t.pid (streamed_findings w d bytes)
+same_wire a w d bytes input k t alike at =
+    wire_alike (whole_marking a bytes) (marking_by w d) t.pid (findings_of (carried bytes)) (marks_of a w d bytes input k t alike at)
+
+same_alone : (a : JobArgumentsView) (w : JobOptionsView) (d : Described) (bytes : List ℕ) (input : JobInputView) (k : ℕ) (t : TimedStreamView) → AreAlike a w d bytes input →
+    slice_get input.streams k ≡ Some t → one_by_one t.pid (streamed_findings w d bytes) ≡ true
+same_alone a w d bytes input k t alike at =
+    sym (alone_alike (whole_marking a bytes) (marking_by w d) t.pid (findings_of (carried bytes)) (marks_of a w d bytes input k t alike at))
+    ∙ at_place (λ t. one_by_one t.pid (findings_for a.options bytes) ≡ true) input.streams k t alike.alone at
+
+same_carried : (a : JobArgumentsView) (w : JobOptionsView) (d : Described) (bytes : List ℕ) (input : JobInputView) (k : ℕ) (t : TimedStreamView) → AreAlike a w d bytes input →
+    slice_get input.streams k ≡ Some t → carried_units t.pid (findings_for a.options bytes) ≡ carried_units t.pid (streamed_findings w d bytes)
+same_carried a w d bytes input k t alike at =
+    carried_alike (whole_marking a bytes) (marking_by w d) t.pid (findings_of (carried bytes)) (marks_of a w d bytes input k t alike at)
+
+-- 5. All are moved by the constant of their clock
+
+-- the units of a stream that comes are due one after another, so no two in a row are due at one moment
+stream_apart : (w : JobOptionsView) (d : Described) (bytes : List ℕ) (k : ℕ) (s : FedStreamView) → IsInRange d → have_fault (fed_of (feed_of w d) bytes) ≡ false →
+    slice_get (streams_from 0 d.streams) k ≡ Some s → one_by_one s.units.pid (streamed_findings w d bytes) ≡ true →
+    has_same (carried_units s.units.pid (streamed_findings w d bytes)) ≡ false
+stream_apart w d bytes k s ranges silent at alone =
     let streams = streams_from 0 d.streams in
-    let us = carried_units s.units.pid (found_of_all bytes) in
-    let m = by_one_constant earliest (maps_of d) streams bytes (omega arith) (first_streams d ranges) silent in
-    let rise = each_rises earliest k (maps_of d) streams bytes (first_streams d ranges) (slice_get_within streams k s at) in
-    let none : has_same us ≡ false = none_same m.base us (subst (λ (l : List AccessUnit). RiseFrom None l) (m.moved_by k s at alone) rise) in
-    ap (λ (l : List CarriedUnit). map (λ (u : CarriedUnit). u.unit) l) (apart_stay us none)
+    let us = carried_units s.units.pid (streamed_findings w d bytes) in
+    let m = by_one_constant earliest (marking_by w d) (maps_of d) streams bytes (omega arith) (first_streams d ranges) silent in
+    let rise = each_rises earliest k (marking_by w d) (maps_of d) streams bytes (first_streams d ranges) (slice_get_within streams k s at) in
+    none_same m.base us (subst (λ (l : List AccessUnit). RiseFrom None l) (m.moved_by k s at alone) rise)
 
--- those of the streams of a job
-Stay : List FindingView → JobInputView → Type 0
-Stay findings input = (k : ℕ) (t : TimedStreamView) → slice_get input.streams k ≡ Some t → apart_wire_units t.pid findings ≡ wire_units t.pid findings
+-- so none of them in the whole stream has another DTS than its own
+Stay : JobArgumentsView → List ℕ → JobInputView → Type 0
+Stay a bytes input = (k : ℕ) (t : TimedStreamView) → slice_get input.streams k ≡ Some t →
+    apart_wire_units t.pid (findings_for a.options bytes) ≡ wire_units t.pid (findings_for a.options bytes)
 
-stay : (a : JobArgumentsView) (d : Described) (bytes : List ℕ) (input : JobInputView) → IsInRange d → have_fault (fed_of (feed_of d) bytes) ≡ false →
-    AreAlike a d (findings_of (carried bytes)) input → Stay (findings_of (carried bytes)) input
+stay : (a : JobArgumentsView) (w : JobOptionsView) (d : Described) (bytes : List ℕ) (input : JobInputView) → IsInRange d → have_fault (fed_of (feed_of w d) bytes) ≡ false →
+    AreAlike a w d bytes input → Stay a bytes input
 unfolding Stay
-stay a d bytes input ranges silent alike k t is =
-    let findings = findings_of (carried bytes) in
+stay a w d bytes input ranges silent alike k t is =
+    let streamed = streamed_findings w d bytes in
     let count : length d.streams ≡ length input.streams =
     sym (length-map d.streams (λ s. s.pid)) ∙ ap (length {A = ℕ}) alike.pids ∙ length-map input.streams (λ t. t.pid) in
     let below : k < length d.streams = let within = slice_get_within input.streams k t is in omega (arith, within, count) in
-    let b = both_at a d findings input k alike below in
+    let b = both_at a w d bytes input k alike below in
     let own : b.timed ≡ t = same_Some b.timed t (sym b.timed_is ∙ is) in
     let pid : b.described.pid ≡ t.pid = b.pid ∙ ap (λ (x : TimedStreamView). x.pid) own in
     let number : 0 + k ≡ k = omega arith in
     let place : slice_get (streams_from 0 d.streams) k ≡ Some (fed_stream k b.described.pid) =
     fed_at 0 k d.streams b.described b.described_is ∙ ap (λ (n : ℕ). Some (fed_stream n b.described.pid)) number in
-    let alone : one_by_one t.pid findings ≡ true = at_place (λ t. one_by_one t.pid findings ≡ true) input.streams k t alike.alone is in
-    subst (λ (p : ℕ). apart_wire_units p findings ≡ wire_units p findings) pid
-    (stream_stays d bytes k (fed_stream k b.described.pid) ranges silent place (subst (λ (p : ℕ). one_by_one p findings ≡ true) (sym pid) alone))
+    let alone : one_by_one b.described.pid streamed ≡ true = subst (λ (p : ℕ). one_by_one p streamed ≡ true) (sym pid) (same_alone a w d bytes input k t alike is) in
+    let apart : has_same (carried_units b.described.pid streamed) ≡ false = stream_apart w d bytes k (fed_stream k b.described.pid) ranges silent place alone in
+    let none : has_same (carried_units t.pid (findings_for a.options bytes)) ≡ false =
+    ap has_same (same_carried a w d bytes input k t alike is) ∙ ap (λ (p : ℕ). has_same (carried_units p streamed)) (sym pid) ∙ apart in
+    ap (λ (l : List CarriedUnit). map (λ (u : CarriedUnit). u.unit) l) (apart_stay (carried_units t.pid (findings_for a.options bytes)) none)
 
 with_own : (findings : List FindingView) (base : ℕ) (t : TimedStreamView) → apart_wire_units t.pid findings ≡ wire_units t.pid findings →
     IsMovedBy false findings base t → AreMoved (wire_units t.pid findings) base t.units
@@ -227,8 +264,10 @@ unfolding source_of
 with_own findings base t stays moved = subst (λ (wire : List AccessUnit). AreMoved wire base t.units) stays moved
 
 by_one : (a : JobArgumentsView) (w : JobOptionsView) (d : Described) (bytes : List ℕ) (input : JobInputView) (k : ℕ) (t : TimedStreamView) (constants : HasConstants a.options (findings_for a.options bytes) input)
-    (alike : AreAlike a w d bytes input) → slice_get input.streams k ≡ Some t → AreMoved (wire_units t.pid (findings_for a.options bytes)) (constants.constant alike.clock) t.units
-by_one a w d bytes input k t constants alike is =
+    (alike : AreAlike a w d bytes input) → Stay a bytes input → slice_get input.streams k ≡ Some t →
+    AreMoved (wire_units t.pid (findings_for a.options bytes)) (constants.constant alike.clock) t.units
+unfolding Stay
+by_one a w d bytes input k t constants alike stays is =
     let findings = findings_for a.options bytes in
     let one = at_place (λ t. IsMovedBy a.options.make_dts findings (constants.constant (clock_of input.programs t)) t) input.streams k t constants.streams is in
     let clock = at_place (λ t. clock_of input.programs t ≡ alike.clock) input.streams k t alike.one_clock is in
@@ -236,7 +275,7 @@ by_one a w d bytes input k t constants alike is =
     with_own findings (constants.constant alike.clock) t (stays k t is)
     (subst (λ (made : Bool). IsMovedBy made findings (constants.constant alike.clock) t) alike.own same)
 
--- 5. So those that are fed are whole, and begin near one another
+-- 6. So those that are fed are whole, and begin near one another
 
 -- the stream of a job that is fed as one of a description
 record JobStream (input : JobInputView) (k pid : ℕ) : Type 0 where
@@ -264,32 +303,9 @@ near_on_wire : (base apart : ℕ) (u v : AccessUnit) → (unit_at base None u).d
 unfolding unit_at dts_at
 near_on_wire base apart u v near = near
 
--- what the whole stream and the stream that comes are marked by
-abbrev whole_marking : JobArgumentsView → List ℕ → MarkingView
-whole_marking a bytes = marking_of a.options (findings_of (carried bytes))
-
-abbrev streamed_findings : JobOptionsView → Described → List ℕ → List FindingView
-streamed_findings w d bytes = all_marked (marking_by w d) (findings_of (carried bytes))
-
-marks_of : (a : JobArgumentsView) (w : JobOptionsView) (d : Described) (bytes : List ℕ) (input : JobInputView) (k : ℕ) (t : TimedStreamView) → AreAlike a w d bytes input →
-    slice_get input.streams k ≡ Some t → AreMarkedAlike (whole_marking a bytes) (marking_by w d) t.pid
-marks_of a w d bytes input k t alike at =
-    at_place (λ t. AreMarkedAlike (whole_marking a bytes) (marking_by w d) t.pid) input.streams k t alike.marks at
-
-same_wire : (a : JobArgumentsView) (w : JobOptionsView) (d : Described) (bytes : List ℕ) (input : JobInputView) (k : ℕ) (t : TimedStreamView) → AreAlike a w d bytes input →
-    slice_get input.streams k ≡ Some t → wire_units t.pid (findings_for a.options bytes) ≡ wire_units t.pid (streamed_findings w d bytes)
-same_wire a w d bytes input k t alike at =
-    wire_alike (whole_marking a bytes) (marking_by w d) t.pid (findings_of (carried bytes)) (marks_of a w d bytes input k t alike at)
-
-same_alone : (a : JobArgumentsView) (w : JobOptionsView) (d : Described) (bytes : List ℕ) (input : JobInputView) (k : ℕ) (t : TimedStreamView) → AreAlike a w d bytes input →
-    slice_get input.streams k ≡ Some t → one_by_one t.pid (streamed_findings w d bytes) ≡ true
-same_alone a w d bytes input k t alike at =
-    sym (alone_alike (whole_marking a bytes) (marking_by w d) t.pid (findings_of (carried bytes)) (marks_of a w d bytes input k t alike at))
-    ∙ at_place (λ t. one_by_one t.pid (findings_for a.options bytes) ≡ true) input.streams k t alike.alone at
-
 whole_streams : (a : JobArgumentsView) (w : JobOptionsView) (d : Described) (bytes : List ℕ) (input : JobInputView) (constants : HasConstants a.options (findings_for a.options bytes) input)
-    (alike : AreAlike a w d bytes input) → AreWhole (constants.constant alike.clock) earliest (streams_from 0 d.streams) (streamed_findings w d bytes)
-whole_streams a w d bytes input constants alike =
+    (alike : AreAlike a w d bytes input) → Stay a bytes input → AreWhole (constants.constant alike.clock) earliest (streams_from 0 d.streams) (streamed_findings w d bytes)
+whole_streams a w d bytes input constants alike stays =
     let base = constants.constant alike.clock in
     let whole = findings_for a.options bytes in
     let streamed = streamed_findings w d bytes in
@@ -300,14 +316,14 @@ whole_streams a w d bytes input constants alike =
       near = λ j k s t at_s at_t u v us vs here there.
           let x = job_stream a w d bytes input j s alike at_s in
           let y = job_stream a w d bytes input k t alike at_t in
-          let one = first_moved base (wire_units x.stream.pid whole) x.stream.units u us (by_one a w d bytes input j x.stream constants alike x.at).are
+          let one = first_moved base (wire_units x.stream.pid whole) x.stream.units u us (by_one a w d bytes input j x.stream constants alike stays x.at).are
           (same_wire a w d bytes input j x.stream alike x.at ∙ ap (λ (p : ℕ). wire_units p streamed) x.pid_is ∙ here) in
-          let other = first_moved base (wire_units y.stream.pid whole) y.stream.units v vs (by_one a w d bytes input k y.stream constants alike y.at).are
+          let other = first_moved base (wire_units y.stream.pid whole) y.stream.units v vs (by_one a w d bytes input k y.stream constants alike stays y.at).are
           (same_wire a w d bytes input k y.stream alike y.at ∙ ap (λ (p : ℕ). wire_units p streamed) y.pid_is ∙ there) in
           near_on_wire base earliest u v (alike.near j k x.stream y.stream (unit_at base None u) (unit_at base None v) x.at y.at one other);
     }
 
--- 6. Both
+-- 7. Both
 
 alike_units : (a : JobArgumentsView) (w : JobOptionsView) (d : Described) (bytes : List ℕ) (input : JobInputView) (units : List (ℕ × AccessUnit)) → HasConstants a.options (findings_for a.options bytes) input →
     IsInRange d → have_fault (fed_of (feed_of w d) bytes) ≡ false → AreMerged (map (λ t. t.units) input.streams) units → AreAlike a w d bytes input →
@@ -316,8 +332,9 @@ alike_units a w d bytes input units constants ranges silent merged alike =
     let whole = findings_for a.options bytes in
     let streamed = streamed_findings w d bytes in
     let base = constants.constant alike.clock in
+    let stays = stay a w d bytes input ranges silent alike in
     let apart = fed_apart earliest base (marking_by w d) (maps_of d) (streams_from 0 d.streams) bytes (omega arith) (first_streams d ranges) silent
-    (whole_streams a w d bytes input constants alike) in
+    (whole_streams a w d bytes input constants alike stays) in
     record {
       here = apart.here;
       there = apart.there;
@@ -327,7 +344,7 @@ alike_units a w d bytes input units constants ranges silent merged alike =
           let number : 0 + k ≡ k = omega arith in
           let place : slice_get (streams_from 0 d.streams) k ≡ Some (fed_stream k b.described.pid) =
           fed_at 0 k d.streams b.described b.described_is ∙ ap (λ (n : ℕ). Some (fed_stream n b.described.pid)) number in
-          let timed : t.units ≡ moved base None (wire_units t.pid whole) = (by_one a w d bytes input k t constants alike b.timed_is).are in
+          let timed : t.units ≡ moved base None (wire_units t.pid whole) = (by_one a w d bytes input k t constants alike stays b.timed_is).are in
           let wire : wire_units t.pid whole ≡ wire_units b.described.pid streamed =
           same_wire a w d bytes input k t alike b.timed_is ∙ ap (λ (p : ℕ). wire_units p streamed) (sym b.pid) in
           let same : units_of k units ≡ moved base None (wire_units b.described.pid streamed) =

@@ -15,10 +15,11 @@ pub fn written_is_read()
 /// units, which keep every promise. Where the DTS are the stream's own, what a demultiplexer finds in these packets on the PID
 /// of each stream of the job are all units that it finds there in the input, and no other: in order, their bytes the same,
 /// with the marks that are asked for, their stamps later by a constant, modulo 2^33, which is one for all programs of a clock
-/// of the input.
+/// of the input. If units of a data stream in a row have one DTS, all but the last are decoded a little earlier.
 ///
 /// A device that fails, or memory that runs out, ends either program earlier, with status 3. The writer held nothing
-/// before, and its bytes are known; the last sentence is of jobs whose units are due within 2^40 units of 90 kHz.
+/// before, and its bytes are known; what a demultiplexer finds is said of jobs whose units are due within 2^40 units of
+/// 90 kHz.
 pub fn goes_through()
     ensures { ThePipe }
 {
@@ -36,12 +37,13 @@ pub fn joined_is_read()
 /// all its packets over one plan, ran to its end over these bytes, `mux` refused nothing and reported nothing: its status is
 /// 0, and it wrote the packets of that job's units, which keep every promise. Where the DTS are the streams' own, what a
 /// demultiplexer finds in these packets on the PID of each stream of the job are all units that it finds in the input where
-/// the stream was found, on the PID that it had there, and no other: in order, their bytes the same, their stamps later by a
-/// constant, modulo 2^33, which is one for all programs of a clock of that input.
+/// the stream was found, on the PID that it had there, and no other: in order, their bytes the same, with the marks that are
+/// asked for, their stamps later by a constant, modulo 2^33, which is one for all programs of a clock of that input. If units
+/// of a data stream in a row have one DTS, all but the last are decoded a little earlier.
 ///
 /// A device that fails, a file that can't be opened or read, or memory that runs out, ends `tsjob` with status 3. The writer
-/// held nothing before, and its bytes are known, the files' need not be; the last sentence is of jobs whose units are due
-/// within 2^40 units of 90 kHz.
+/// held nothing before, and its bytes are known, the files' need not be; what a demultiplexer finds is said of jobs whose
+/// units are due within 2^40 units of 90 kHz.
 pub fn joined_goes_through()
     ensures { TheFilePipe }
 {

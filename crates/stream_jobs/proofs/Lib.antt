@@ -6,6 +6,7 @@ pub mod JobUnits
 mod AndThen
 mod JobInputs
 mod AskedMarks
+mod MapWarnings
 mod NewPlaces
 pub mod NewNumbersApart
 mod NewNumbersBecome

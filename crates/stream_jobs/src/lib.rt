@@ -1,7 +1,8 @@
 //! Jobs from any transport stream: a description, a plan that serves it, and the units of its streams.
 //!
-//! `mark_as_asked` sets the marks that options ask for on a demultiplexer's findings (`specs/AskedMarks`). `job_input` says what a
-//! job takes from them, its warnings, and what it refuses (`specs/JobInput`). Step by step: the packets (`specs/Packets`), the programs and streams that the options select
+//! `mark_as_asked` sets the marks that options ask for on a demultiplexer's findings (`specs/AskedMarks`). `job_input`
+//! says what a job takes from them, its warnings, and what it refuses (`specs/JobInput`). Step by step: the packets
+//! (`specs/Packets`), the programs and streams that the options select
 //! (`specs/JobOptions`, `specs/GivenNames`, `specs/JobPrograms`), their private sections (`specs/JobTables`), the information of the transport stream as a
 //! whole (`specs/Information`), the units of the streams with the stamps on the wire (`specs/WireStreams`, `specs/OddStreams`) and at
 //! moments of a run (`specs/Moments`, `specs/ProgramClocks`, `specs/ClockBases`), whose bytes are moved out of the findings last

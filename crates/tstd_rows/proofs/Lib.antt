@@ -29,6 +29,7 @@ pub mod Packets
 pub mod Rooms
 pub mod RoomRows
 pub mod WaitingRooms
+pub mod LastRoom
 pub mod VideoRows
 pub mod VideoBegins
 pub mod VideoIfAny

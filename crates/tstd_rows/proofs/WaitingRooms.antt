@@ -7,7 +7,7 @@ use Rattle.clock27.proofs.Departures.{last_left-append}
 use Rattle.tstd_rows.specs.RoomTimes.{capped, rooms_in, rooms_waiting}
 use Rattle.tstd_rows.proofs.RoomRows.{last_stopped, left_of, left_past, taken_of, taken_past}
 
-count_in : (free : ℕ) (waiting : List BufferedUnit) (current : BufferedUnit) → length (rooms_in free waiting current) ≡ free + (length (rooms_waiting waiting) + current.bytes)
+pub count_in : (free : ℕ) (waiting : List BufferedUnit) (current : BufferedUnit) → length (rooms_in free waiting current) ≡ free + (length (rooms_waiting waiting) + current.bytes)
 count_in free waiting current =
     let own : List ℕ = replicate current.bytes current.until in
     omega (

@@ -147,6 +147,7 @@ mb = 16000
 pace = 3217300
 pid = 300
 program = 65535
+pts_limit = 900000
 rbx = 20000000
 rx = 24000000
 size = 200000

@@ -161,7 +161,7 @@ fn are_left_out(alloc: Global) -> Option<bool> {
     Some(
         programs.left_out.as_slice() == LEFT_OUT.as_slice()
             && is_kept(&programs)
-            && are_changes(&findings)
+            && are_changes(alloc, &findings)
             && are_other_tables(alloc, &findings),
     )
 }

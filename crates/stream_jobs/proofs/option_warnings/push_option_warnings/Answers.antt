@@ -18,4 +18,6 @@ five old a b c d e one two more last all first second third fourth fifth =
 
 pub returns : goal.returns
 unfolding option_warnings
-returns c = five _ _ _ _ _ _ _ _ _ _ _ c.in_ok-push_pids.ensures c.in_ok-push_pids.ensures c.in_ok-push_buffers.ensures c.in_ok-push_names.ensures c.in_ok-push_pids-2.ensures
+returns c =
+    five _ _ _ _ _ _ _ _ _ _ _
+    c.in_ok-push_selections.ensures c.in_ok-push_pids.ensures c.in_ok-push_buffers.ensures c.in_ok-push_names.ensures c.in_ok-push_pids-2.ensures

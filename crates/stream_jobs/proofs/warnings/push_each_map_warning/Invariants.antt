@@ -7,5 +7,5 @@ use Rattle.stream_jobs.proofs.warnings.push_each_map_warning.Given as goal
 abbrev pub invariant-loop-program : goal.invariant-loop-program
 invariant-loop-program l =
     (findings : List FindingView) → AreChanges l.part findings l.changes →
-    l.initial.warnings.items ++ flat_map (map_warnings l.part findings) l.programs
+    l.fn.warnings.items ++ flat_map (map_warnings l.part findings) l.programs
     ≡ l.warnings.items ++ flat_map (map_warnings l.part findings) (drop l.program-index l.programs)
