@@ -1,6 +1,5 @@
 -- A service by hand.
-use Rattle.std.proofs.Common.{◌≡◌, ℕ, false, List, [], ◌∷◌, Option, Some, None, Result, Ok, Err, refl, inl, inr, subst}
-use Rattle.std.specs.Prelude.{◌==◌}
+use Rattle.std.proofs.Common.{◌≡◌, ◌<◌, ℕ, List, [], ◌∷◌, Option, Some, None, Result, Ok, Err, refl, inl, inr, subst}
 use Rattle.devices.specs.Devices.{Device, IsUntouched, Port, between}
 use Rattle.devices.specs.Files.{Files}
 use Rattle.devices.specs.Runs.{Performs}
@@ -26,7 +25,7 @@ plan_made description plan input written faults status begins empty are runs is 
 }
 
 pub none_made : (description : List ℕ) (input written faults : Device) (status : ℕ) → input.before.bytes ≡ Some description → written.before.bytes ≡ Some [] →
-    Performs MakesPlan input written faults status → (status == 0) ≡ false → PlansFor description faults (Err status)
+    Performs MakesPlan input written faults status → 0 < status → PlansFor description faults (Err status)
 none_made description input written faults status begins empty runs fails =
     record { written = written; runs = record { input = input; begins = begins; empty = empty; runs = runs }; fails = fails }
 

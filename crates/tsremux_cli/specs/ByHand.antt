@@ -1,5 +1,5 @@
 -- A service by hand: a description, a plan and the records of access units, in files, to packets.
-use Rattle.std.specs.Prelude.{◌≡◌, ◌⊎◌, ◌-◌, ◌==◌, ◌||◌, ℕ, Bool, false, if◌then◌else◌, Option, Some, None, Result, Ok, Err}
+use Rattle.std.specs.Prelude.{◌≡◌, ◌⊎◌, ◌-◌, ◌<◌, ◌==◌, ◌||◌, ℕ, Bool, if◌then◌else◌, Option, Some, None, Result, Ok, Err}
 use Rattle.std.specs.Prelude.{List, [], ◌∷◌, ◌++◌, length, slice_index}
 use Rattle.devices.specs.Devices.{Device, IsUntouched, Port, between}
 use Rattle.devices.specs.Files.{Files}
@@ -36,7 +36,7 @@ pub record WritesPlan (description plan : List ℕ) (faults : Device) : Type 0 w
 pub record WritesNone (description : List ℕ) (faults : Device) (status : ℕ) : Type 0 where
   pub written : Device
   pub runs : RunsPlan description written faults status
-  pub fails : (status == 0) ≡ false
+  pub fails : 0 < status
 
 abbrev pub PlansFor : List ℕ → Device → Result (List ℕ) ℕ → Type 0
 PlansFor description faults (Ok plan) = WritesPlan description plan faults

@@ -146,6 +146,7 @@ fn job_of<E: Sink>(
 }
 
 // The job of a service by hand; if there is none, reports why, and returns the status.
+#[tactic(auto, using(crate::proofs::ByHand::no_description, crate::proofs::ByHand::no_plan, crate::proofs::ByHand::no_records, crate::proofs::ByHand::has_job, crate::proofs::ByHand::no_room))]
 fn hand_job<F: NamedFiles, R: Source, E: Sink>(
     alloc: Global,
     description: &str,
@@ -180,6 +181,7 @@ fn hand_job<F: NamedFiles, R: Source, E: Sink>(
 }
 
 /// Writes the packets of a service by hand.
+#[tactic(auto, using(crate::proofs::ByHand::none_muxed, crate::proofs::ByHand::not_all_muxed, crate::proofs::ByHand::all_muxed))]
 pub(crate) fn mux_by_hand<F: NamedFiles, R: Source, W: Sink, E: Sink>(
     alloc: Global,
     description: &str,

@@ -13,6 +13,7 @@ use devices::NamedFiles;
 use std::alloc::Global;
 
 /// Writes the packets that words ask for.
+#[tactic(auto, using(crate::proofs::ByHand::by_hand, crate::proofs::ByHand::of_streams))]
 pub(crate) fn write_packets_for<F: NamedFiles, R: Source, W: Sink, E: Sink>(
     alloc: Global,
     words: &[&str],
