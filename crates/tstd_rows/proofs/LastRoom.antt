@@ -23,7 +23,8 @@ last_set (x ∷ us) zero v len = ap (λ (vs : List BufferedUnit). v ∷ vs) (no_
 last_set (x ∷ us) (suc i) v len = ap (λ (vs : List BufferedUnit). x ∷ vs) (last_set us i v (omega (arith, len)))
 
 -- a unit that is written as it was
-pub same_set : (items : List BufferedUnit) (n : ℕ) (u : BufferedUnit) → n ≡ length items → 0 < length items → u ≡ slice_index_or items (n - 1) u → slice_set items (n - 1) u ≡ items
+pub same_set : (items : List BufferedUnit) (n : ℕ) (u : BufferedUnit) → n ≡ length items → 0 < length items → u ≡ slice_index_or items (n - 1) u →
+    slice_set items (n - 1) u ≡ items
 same_set items n u is some last =
     let len : n - 1 + 1 ≡ length items = omega (arith, is, some) in
     last_set items (n - 1) u len ∙ sym (ends_in items (n - 1) u len last)
@@ -32,7 +33,8 @@ waiting_append : (us vs : List BufferedUnit) → rooms_waiting (us ++ vs) ≡ ro
 unfolding rooms_waiting
 waiting_append [] vs = refl
 waiting_append (u ∷ us) vs =
-    ap (λ (l : List ℕ). replicate u.bytes u.until ++ l) (waiting_append us vs) ∙ sym (append_assoc (replicate u.bytes u.until) (rooms_waiting us) (rooms_waiting vs))
+    ap (λ (l : List ℕ). replicate u.bytes u.until ++ l) (waiting_append us vs)
+    ∙ sym (append_assoc (replicate u.bytes u.until) (rooms_waiting us) (rooms_waiting vs))
 
 only_one : (u : BufferedUnit) → rooms_waiting (u ∷ []) ≡ replicate u.bytes u.until
 unfolding rooms_waiting
@@ -45,7 +47,8 @@ in_order f w x y = ap (λ (l : List ℕ). f ++ l) (append_assoc w x y) ∙ sym (
 split_last : (free : ℕ) (front : List BufferedUnit) (u current : BufferedUnit) →
     rooms_in free (front ++ u ∷ []) current ≡ (replicate free 0 ++ rooms_waiting front) ++ (replicate u.bytes u.until ++ replicate current.bytes current.until)
 split_last free front u current =
-    ap (λ (l : List ℕ). replicate free 0 ++ (l ++ replicate current.bytes current.until)) (waiting_append front (u ∷ []) ∙ ap (λ (l : List ℕ). rooms_waiting front ++ l) (only_one u))
+    ap (λ (l : List ℕ). replicate free 0 ++ (l ++ replicate current.bytes current.until))
+    (waiting_append front (u ∷ []) ∙ ap (λ (l : List ℕ). rooms_waiting front ++ l) (only_one u))
     ∙ in_order (replicate free 0) (rooms_waiting front) (replicate u.bytes u.until) (replicate current.bytes current.until)
 
 abbrev more : BufferedUnit → ℕ → BufferedUnit
@@ -85,9 +88,9 @@ as_many_joined free front u current =
       count_last front u,
     )
 
-pub joins_rooms : (from free n : ℕ) (items : List BufferedUnit) (u current : BufferedUnit) → n ≡ length items → 0 < length items → u ≡ slice_index_or items (n - 1) u →
-    current.until ≤ u.until → 0 < u.bytes →
-    raised from (rooms_in free (slice_set items (n - 1) (record { until = u.until; bytes = u.bytes + current.bytes })) (record { until = current.until; bytes = 0 }))
+pub joins_rooms : (from free n : ℕ) (items : List BufferedUnit) (u current : BufferedUnit) → n ≡ length items → 0 < length items →
+    u ≡ slice_index_or items (n - 1) u → current.until ≤ u.until → 0 < u.bytes →
+    raised from (rooms_in free (slice_set items (n - 1) (more u current.bytes)) (emptied current))
     ≡ raised from (rooms_in free items current)
 joins_rooms from free n items u current is some last low bytes =
     let len : n - 1 + 1 ≡ length items = omega (arith, is, some) in
@@ -95,8 +98,9 @@ joins_rooms from free n items u current is some last low bytes =
     ∙ joins_last from free (take (n - 1) items) u current low bytes
     ∙ ap (λ (us : List BufferedUnit). raised from (rooms_in free us current)) (sym (ends_in items (n - 1) u len last))
 
-pub joins_many : (free n : ℕ) (items : List BufferedUnit) (u current : BufferedUnit) → n ≡ length items → 0 < length items → u ≡ slice_index_or items (n - 1) u →
-    length (rooms_in free (slice_set items (n - 1) (record { until = u.until; bytes = u.bytes + current.bytes })) (record { until = current.until; bytes = 0 }))
+pub joins_many : (free n : ℕ) (items : List BufferedUnit) (u current : BufferedUnit) → n ≡ length items → 0 < length items →
+    u ≡ slice_index_or items (n - 1) u →
+    length (rooms_in free (slice_set items (n - 1) (more u current.bytes)) (emptied current))
     ≡ length (rooms_in free items current)
 joins_many free n items u current is some last =
     let len : n - 1 + 1 ≡ length items = omega (arith, is, some) in
@@ -104,12 +108,14 @@ joins_many free n items u current is some last =
     ∙ as_many_joined free (take (n - 1) items) u current
     ∙ ap (λ (us : List BufferedUnit). length (rooms_in free us current)) (sym (ends_in items (n - 1) u len last))
 
-pub joins_fits : (free n most : ℕ) (items : List BufferedUnit) (u current : BufferedUnit) → n ≡ length items → 0 < length items → u ≡ slice_index_or items (n - 1) u →
+pub joins_fits : (free n most : ℕ) (items : List BufferedUnit) (u current : BufferedUnit) → n ≡ length items → 0 < length items →
+    u ≡ slice_index_or items (n - 1) u →
     length (rooms_in free items current) < most →
-    length (rooms_in free (slice_set items (n - 1) (record { until = u.until; bytes = u.bytes + current.bytes })) (record { until = current.until; bytes = 0 })) < most
+    length (rooms_in free (slice_set items (n - 1) (more u current.bytes)) (emptied current)) < most
 joins_fits free n most items u current is some last fits = omega (arith, fits, joins_many free n items u current is some last)
 
-pub both_fit : (free n most : ℕ) (items : List BufferedUnit) (u current : BufferedUnit) → n ≡ length items → 0 < length items → u ≡ slice_index_or items (n - 1) u →
+pub both_fit : (free n most : ℕ) (items : List BufferedUnit) (u current : BufferedUnit) → n ≡ length items → 0 < length items →
+    u ≡ slice_index_or items (n - 1) u →
     length (rooms_in free items current) < most → u.bytes + current.bytes < most
 both_fit free n most items u current is some last fits =
     let len : n - 1 + 1 ≡ length items = omega (arith, is, some) in
@@ -119,19 +125,20 @@ both_fit free n most items u current is some last fits =
 -- 3. After them
 
 last_rooms : (free : ℕ) (items : List BufferedUnit) (current : BufferedUnit) →
-    rooms_in free (items ++ current ∷ []) (record { until = current.until; bytes = 0 }) ≡ rooms_in free items current
+    rooms_in free (items ++ current ∷ []) (emptied current) ≡ rooms_in free items current
 last_rooms free items current =
     split_last free items current (emptied current)
     ∙ append_assoc (replicate free 0) (rooms_waiting items) (replicate current.bytes current.until ++ [])
     ∙ ap (λ (l : List ℕ). replicate free 0 ++ (rooms_waiting items ++ l)) (append-nil (replicate current.bytes current.until))
 
 pub after_them : (free : ℕ) (items items' : List BufferedUnit) (current : BufferedUnit) → items' ≡ items ++ current ∷ [] →
-    rooms_in free items' (record { until = current.until; bytes = 0 }) ≡ rooms_in free items current
+    rooms_in free items' (emptied current) ≡ rooms_in free items current
 after_them free items items' current is = ap (λ (us : List BufferedUnit). rooms_in free us (emptied current)) is ∙ last_rooms free items current
 
 -- or memory has run out, and its bytes are dropped
-pub last_fits : (free most : ℕ) (items items' : List BufferedUnit) (current : BufferedUnit) (done : Bool) → items' ≡ (if done then items ++ current ∷ [] else items) →
-    length (rooms_in free items current) < most → length (rooms_in free items' (record { until = current.until; bytes = 0 })) < most
+pub last_fits : (free most : ℕ) (items items' : List BufferedUnit) (current : BufferedUnit) (done : Bool) →
+    items' ≡ (if done then items ++ current ∷ [] else items) →
+    length (rooms_in free items current) < most → length (rooms_in free items' (emptied current)) < most
 last_fits free most items items' current true is fits =
     let same = ap (λ (us : List BufferedUnit). length (rooms_in free us (emptied current))) is ∙ ap length (last_rooms free items current) in
     omega (arith, fits, same)
@@ -141,7 +148,7 @@ last_fits free most items items' current false is fits =
 
 -- or it has no byte
 pub none_comes : (free : ℕ) (items items' : List BufferedUnit) (current : BufferedUnit) → items' ≡ items → current.bytes ≤ 0 →
-    rooms_in free items' (record { until = current.until; bytes = 0 }) ≡ rooms_in free items current
+    rooms_in free items' (emptied current) ≡ rooms_in free items current
 none_comes free items items' current is none =
     let same : 0 ≡ current.bytes = omega (arith, none) in
     ap₂ (λ (us : List BufferedUnit) (n : ℕ). replicate free 0 ++ (rooms_waiting us ++ replicate n current.until)) is same

@@ -9,19 +9,23 @@ pub overflow_add-unit : goal.overflow_add-unit
 overflow_add-unit c =
     let rooms = c.args.self.now in
     let some : 0 < length rooms.waiting.items = omega (arith, c.in-Some.ensures.variant.0 refl, rooms.waiting.ok.0) in
-    record { fits = both_fit rooms.free rooms.waiting.len (2 ^ 64) rooms.waiting.items c.in-Some.unit.now rooms.current rooms.waiting.ok.0 some c.in-Some.ensures.value rooms.few }
+    let unit = c.in-Some.unit.now in
+    record { fits = both_fit rooms.free rooms.waiting.len (2 ^ 64) rooms.waiting.items unit rooms.current rooms.waiting.ok.0 some c.in-Some.ensures.value rooms.few }
 
 pub invariant_of-self : goal.invariant_of-self
 invariant_of-self c =
     let rooms = c.args.self.now in
     let some : 0 < length rooms.waiting.items = omega (arith, c.in-Some.ensures.variant.0 refl, rooms.waiting.ok.0) in
-    record { few = joins_fits rooms.free rooms.waiting.len (2 ^ 64) rooms.waiting.items c.in-Some.unit.now rooms.current rooms.waiting.ok.0 some c.in-Some.ensures.value rooms.few }
+    let unit = c.in-Some.unit.now in
+    record { few = joins_fits rooms.free rooms.waiting.len (2 ^ 64) rooms.waiting.items unit rooms.current rooms.waiting.ok.0 some c.in-Some.ensures.value rooms.few }
 
 pub returns-then-unit-gt0-clause-rooms : goal.returns-then-unit-gt0-clause-rooms
 returns-then-unit-gt0-clause-rooms c = λ from.
     let rooms = c.args.self.now in
     let some : 0 < length rooms.waiting.items = omega (arith, c.in-Some.ensures.variant.0 refl, rooms.waiting.ok.0) in
-    joins_rooms from rooms.free rooms.waiting.len rooms.waiting.items c.in-Some.unit.now rooms.current rooms.waiting.ok.0 some c.in-Some.ensures.value c.if-current-unit.true c.if-unit-gt0.true
+    let unit = c.in-Some.unit.now in
+    joins_rooms from rooms.free rooms.waiting.len rooms.waiting.items unit rooms.current rooms.waiting.ok.0 some c.in-Some.ensures.value
+    c.if-current-unit.true c.if-unit-gt0.true
 
 pub returns-then-unit-gt0-clause-many : goal.returns-then-unit-gt0-clause-many
 returns-then-unit-gt0-clause-many c =
@@ -33,11 +37,11 @@ pub invariant_of-self-then-current-gt0 : goal.invariant_of-self-then-current-gt0
 invariant_of-self-then-current-gt0 c =
     let rooms = c.args.self.now in
     let same : c.match-back_mut.self.1.1.0.items ≡ rooms.waiting.items = elim c.match-back_mut.branch [
-        in-Some+else-current-unit w ↦
+      | in-Some+else-current-unit w ↦
           let some : 0 < length rooms.waiting.items = omega (arith, w.in-Some.ensures.variant.0 refl, rooms.waiting.ok.0) in
           let last = same_set rooms.waiting.items rooms.waiting.len w.in-Some.unit.now rooms.waiting.ok.0 some w.in-Some.ensures.value in
           rw w.self-is elim w.else-current-unit.branch [
-              else-current-unit-via-then-current-unit+else-unit-gt0 w' ↦ rw w'.self-is last
+            | else-current-unit-via-then-current-unit+else-unit-gt0 w' ↦ rw w'.self-is last
             | else-current-unit-via-else-current-unit w' ↦ rw w'.self-is last
           ]
       | in_default w ↦ rw w.self-is refl
@@ -50,11 +54,11 @@ pub returns-in_ok-push_back-clause-rooms : goal.returns-in_ok-push_back-clause-r
 returns-in_ok-push_back-clause-rooms c = λ from.
     let rooms = c.args.self.now in
     let same : c.match-back_mut.self.1.1.0.items ≡ rooms.waiting.items = elim c.match-back_mut.branch [
-        in-Some+else-current-unit w ↦
+      | in-Some+else-current-unit w ↦
           let some : 0 < length rooms.waiting.items = omega (arith, w.in-Some.ensures.variant.0 refl, rooms.waiting.ok.0) in
           let last = same_set rooms.waiting.items rooms.waiting.len w.in-Some.unit.now rooms.waiting.ok.0 some w.in-Some.ensures.value in
           rw w.self-is elim w.else-current-unit.branch [
-              else-current-unit-via-then-current-unit+else-unit-gt0 w' ↦ rw w'.self-is last
+            | else-current-unit-via-then-current-unit+else-unit-gt0 w' ↦ rw w'.self-is last
             | else-current-unit-via-else-current-unit w' ↦ rw w'.self-is last
           ]
       | in_default w ↦ rw w.self-is refl
@@ -66,11 +70,11 @@ pub returns-in_ok-push_back-clause-many : goal.returns-in_ok-push_back-clause-ma
 returns-in_ok-push_back-clause-many c =
     let rooms = c.args.self.now in
     let same : c.match-back_mut.self.1.1.0.items ≡ rooms.waiting.items = elim c.match-back_mut.branch [
-        in-Some+else-current-unit w ↦
+      | in-Some+else-current-unit w ↦
           let some : 0 < length rooms.waiting.items = omega (arith, w.in-Some.ensures.variant.0 refl, rooms.waiting.ok.0) in
           let last = same_set rooms.waiting.items rooms.waiting.len w.in-Some.unit.now rooms.waiting.ok.0 some w.in-Some.ensures.value in
           rw w.self-is elim w.else-current-unit.branch [
-              else-current-unit-via-then-current-unit+else-unit-gt0 w' ↦ rw w'.self-is last
+            | else-current-unit-via-then-current-unit+else-unit-gt0 w' ↦ rw w'.self-is last
             | else-current-unit-via-else-current-unit w' ↦ rw w'.self-is last
           ]
       | in_default w ↦ rw w.self-is refl
@@ -82,11 +86,11 @@ pub returns-else-current-gt0-clause-many : goal.returns-else-current-gt0-clause-
 returns-else-current-gt0-clause-many c =
     let rooms = c.args.self.now in
     let same : c.match-back_mut.self.1.1.0.items ≡ rooms.waiting.items = elim c.match-back_mut.branch [
-        in-Some+else-current-unit w ↦
+      | in-Some+else-current-unit w ↦
           let some : 0 < length rooms.waiting.items = omega (arith, w.in-Some.ensures.variant.0 refl, rooms.waiting.ok.0) in
           let last = same_set rooms.waiting.items rooms.waiting.len w.in-Some.unit.now rooms.waiting.ok.0 some w.in-Some.ensures.value in
           rw w.self-is elim w.else-current-unit.branch [
-              else-current-unit-via-then-current-unit+else-unit-gt0 w' ↦ rw w'.self-is last
+            | else-current-unit-via-then-current-unit+else-unit-gt0 w' ↦ rw w'.self-is last
             | else-current-unit-via-else-current-unit w' ↦ rw w'.self-is last
           ]
       | in_default w ↦ rw w.self-is refl
