@@ -60,7 +60,7 @@ entered_kept rate r due x (d ∷ ds) =
     rw (sum_by-cons (λ s. cond (has_entered (removal_time rate r due) x s) 1 0) d ds, sum_by-cons (λ s. cond (is_in_main_buffer rate r x due s) 1 0) d ds, gone_test x (due * rate * r))
     (omega (arith, entered_kept rate r due x ds))
 
-no_more : (rate r x due : ℕ) (o : Option DueTime) (ds : List ℕ) → (o ≡ None) ⊎ (o ≡ Some (due_time rate r due)) → entered (until_at o) x ds ≤ kept rate r x due ds
+pub no_more : (rate r x due : ℕ) (o : Option DueTime) (ds : List ℕ) → (o ≡ None) ⊎ (o ≡ Some (due_time rate r due)) → entered (until_at o) x ds ≤ kept rate r x due ds
 unfolding until_at
 no_more rate r x due o ds (inl none) = rw none (omega (arith, none_entered x ds))
 no_more rate r x due o ds (inr some) = rw some (omega (arith, entered_kept rate r due x ds))
@@ -88,16 +88,16 @@ later_left rate r prev p ps le =
     ∙ drop_at (payload_of_packet rate r prev p) (pes_left rate r (last_left rate prev (bytes_from r (188 * p.slot) 188)) ps) p.size (left_packet rate r prev p le)
 
 -- a packet more: the bytes of it that are in the main buffer, and those of the packets after it
-record OneMore (rate : ℕ) (h h' : Held) (p : Arriving) (due : Option DueTime) (qs : List Packet) : Type 0 where
-  rx : h'.rx ≡ h.rx
-  until : until_of h'.parts ≡ until_at due
-  few : length (arrivals_of h'.parts) ≤ 188 * suc p.index
-  main : (x : ℕ) → main_fullness rate h'.parts x
+pub record OneMore (rate : ℕ) (h h' : Held) (p : Arriving) (due : Option DueTime) (qs : List Packet) : Type 0 where
+  pub rx : h'.rx ≡ h.rx
+  pub until : until_of h'.parts ≡ until_at due
+  pub few : length (arrivals_of h'.parts) ≤ 188 * suc p.index
+  pub main : (x : ℕ) → main_fullness rate h'.parts x
       ≡ main_fullness rate h.parts x + entered (until_at due) x (take (timed_packet p).size (pes_left rate h.rx (last_of rate h.parts) (timed_packet p ∷ qs)))
-  later : (x : ℕ) (us : List AccessUnit) → kept_each rate h'.rx x us qs (pes_left rate h'.rx (last_of rate h'.parts) qs)
+  pub later : (x : ℕ) (us : List AccessUnit) → kept_each rate h'.rx x us qs (pes_left rate h'.rx (last_of rate h'.parts) qs)
       ≡ kept_each rate h.rx x us qs (drop (timed_packet p).size (pes_left rate h.rx (last_of rate h.parts) (timed_packet p ∷ qs)))
 
-one_more : (rate low : ℕ) (h : Held) (p : Arriving) (qs : List Packet) (before : Option DueTime) → low ≤ p.index → p.index < most_packets → length (arrivals_of h.parts) ≤ 188 * low →
+pub one_more : (rate low : ℕ) (h : Held) (p : Arriving) (qs : List Packet) (before : Option DueTime) → low ≤ p.index → p.index < most_packets → length (arrivals_of h.parts) ≤ 188 * low →
     p.enters ≡ true → until_of h.parts ≡ until_at before → OneMore rate h (after h (AtRate rate) p) p (due_with p.begins before) qs
 one_more rate low h p qs before first early few enters e =
     let takes = taken_in h rate p early (omega (arith, few, first)) in

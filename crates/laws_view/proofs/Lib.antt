@@ -25,6 +25,9 @@ pub mod RunClocks
 pub mod CarriedMain
 pub mod RunUnits
 pub mod MuxedMain
+pub mod VideoBytes
+pub mod VideoExcesses
+pub mod MuxedVideo
 pub mod UnitsInTime
 pub mod MuxedLate
 pub mod FirstTables

@@ -7,6 +7,7 @@ pub mod MeasuredStreams
 pub mod MuxedStreams
 pub mod MainExcesses
 pub mod ViewedRuns
+pub mod VideoExcesses
 pub mod WindowLows
 pub mod HeldWindows
 pub mod ClockedWindows

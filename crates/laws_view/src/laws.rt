@@ -8,6 +8,7 @@ ghost use Rattle.laws_view.specs.MeasuredStreams.{MeasuredStreamLaw};
 ghost use Rattle.laws_view.specs.MuxedStreams.{JobNoExcessLaw, MuxedStreamLaw};
 ghost use Rattle.laws_view.specs.TimedStreams.{ClockedStreamLaw, RateOrderLaw, TimedStreamLaw};
 ghost use Rattle.laws_view.specs.TransportHighs.{ClockedTransportLaw, RateTransportLaw, TimedTransportLaw, TransportHighLaw, TransportWithoutLaw, WindowTransportLaw};
+ghost use Rattle.laws_view.specs.VideoExcesses.{JobElementaryLaw, RunElementaryLaw};
 ghost use Rattle.laws_view.specs.ViewedRuns.{JobFirstLaw, JobLateLaw, JobLateUnitsLaw, JobMainLaw, RunFirstLaw, RunLateLaw, RunLateUnitsLaw, RunMainLaw};
 ghost use Rattle.laws_view.specs.WholeStreams.{LastEventsLaw, WholeStreamLaw};
 ghost use Rattle.laws_view.specs.WindowHighs.{ClockedHighLaw, HighWithoutLaw, RateHighLaw, TimedHighLaw, WholeHighLaw, WindowHighLaw, WindowMostLaw};
@@ -97,6 +98,13 @@ pub fn muxed_streams()
 pub fn muxed_main_buffers()
     ensures run { RunMainLaw }
     ensures jobs { JobMainLaw }
+{}
+
+/// States that there is no excess of the elementary stream buffer of video there either (ISO/IEC 13818-1, 2.4.2.3), wherever the stream's buffers
+/// begin: its line says no more than its size, if that is the size of the description.
+pub fn muxed_video_buffers()
+    ensures run { RunElementaryLaw }
+    ensures jobs { JobElementaryLaw }
 {}
 
 /// States that the buffers of a stream do so if no unit of it is due before 2 s after the begin: PAT and PMT precede its packets (ISO/IEC

@@ -1,0 +1,8 @@
+use Rattle.laws_view.proofs.MuxedVideo.{job_elementary_law, run_elementary_law}
+use Rattle.laws_view.proofs.laws.muxed_video_buffers.Goals as goal
+
+pub returns-clause-run : goal.returns-clause-run
+returns-clause-run c = run_elementary_law
+
+pub returns-clause-jobs : goal.returns-clause-jobs
+returns-clause-jobs c = job_elementary_law

@@ -1,0 +1,55 @@
+-- Of what a multiplexer wrote, viewed at its rate, no elementary stream buffer of video ever holds more than its size (ISO/IEC 13818-1, 2.4.2.3).
+use Rattle.std.specs.Prelude.{◌≡◌, ℕ, ◌≤◌, false, List, [], ◌∷◌, flat_map, Option, Some, None}
+use Rattle.std.specs.Option.{option_to_list}
+use Rattle.ts_packet.specs.PidList.{cut_packets}
+use Rattle.slot_contents.specs.Contents.{run_bytes}
+use Rattle.pes_packet.specs.AccessUnits.{AccessUnit}
+use Rattle.description.specs.Ranges.{IsInRange}
+use Rattle.plan_timing.specs.Promised.{Promised}
+use Rattle.mux_core.specs.Scheduled.{Scheduled}
+use Rattle.mux_core.specs.Headline.{UnitsKept}
+use Rattle.mux_core.specs.Histories.{content_at}
+use Rattle.mux_core.specs.WholeJobs.{capacity_for, first_refused, job_history, output_of}
+use Rattle.arrival.specs.declared.arrival.Arrival.{Arrival}
+use Rattle.arrival.specs.declared.arrival.Arrival.TheVariants.{AtRate}
+use Rattle.tstd_rows.specs.Held.{Held, empty}
+use Rattle.tstd_rows.specs.HeldVideo.{VideoEnteredView, VideoSizes}
+use Rattle.tstd_rows.specs.Entering.{after}
+use Rattle.tstd_rows.specs.EnteringVideo.{video_of}
+use Rattle.tstd_rows.specs.declared.arriving.Arriving.{Arriving}
+use Rattle.ts_report.specs.Choices.{RequestView}
+use Rattle.ts_report.specs.Entries.{EntryState}
+use Rattle.ts_report.specs.VideoFigures.{figures_with}
+use Rattle.laws_view.specs.StreamPackets.{most_packets}
+use Rattle.laws_view.specs.ViewedRuns.{IsViewedAs}
+use Rattle.laws_view.specs.WholeStreams.{IsWhole, stream_packets}
+
+-- packets enter buffers one after another: what has ended with each in the two buffers of video
+unfoldable pub video_each : Option VideoSizes → Held → Arrival → List Arriving → List VideoEnteredView
+video_each sizes h arrival [] = []
+video_each sizes h arrival (p ∷ ps) = video_of sizes h arrival p ∷ video_each sizes (after h arrival p) arrival ps
+
+-- no excess of the elementary stream buffer is told of such a stream: the line `elementary` says no more than its size, with none of the
+-- stream's packets has an excess ended, and none is under way at the end
+pub record NoElementaryExcess (request : RequestView) (rate : ℕ) (packets : List (List ℕ)) (e : EntryState) (sizes : VideoSizes) (whole : IsWhole request rate packets e) : Type 0 where
+  pub most : (figures_with sizes e.held).elementary_most ≤ sizes.elementary
+  pub none_ended : flat_map (λ v. option_to_list v.elementary)
+      (video_each e.video (empty rate e.held.rx e.held.main.size) (AtRate rate) (stream_packets request e whole.begun.before (whole.begun.first ∷ whole.begun.later))) ≡ []
+  pub none_under_way : (figures_with sizes e.held).elementary ≡ None
+
+-- so of each stream of the description that is viewed with an elementary stream buffer of the size of the description, however its
+-- multiplexing buffer leaks and wherever the buffers begin
+abbrev pub RunElementaryLaw : Type 0
+RunElementaryLaw = (d : Scheduled) (units : ℕ → List AccessUnit) (slots : ℕ) (request : RequestView) (e : EntryState) (k : ℕ) (sizes : VideoSizes) →
+    IsInRange d.description → Promised d.description d.schedule → UnitsKept d units → slots ≤ most_packets → (viewed : IsViewedAs d request k e) →
+    (whole : IsWhole request d.description.rate (cut_packets (run_bytes (content_at d units) 0 slots)) e) →
+    e.video ≡ Some sizes → sizes.elementary ≡ viewed.stream.main →
+    NoElementaryExcess request d.description.rate (cut_packets (run_bytes (content_at d units) 0 slots)) e sizes whole
+
+-- so of a whole job of which no unit is refused, over a plan that keeps its conditions or two in turn
+abbrev pub JobElementaryLaw : Type 0
+JobElementaryLaw = (d : Scheduled) (units : List (ℕ × AccessUnit)) (slots : ℕ) (request : RequestView) (e : EntryState) (k : ℕ) (sizes : VideoSizes) →
+    IsInRange d.description → Promised d.description d.schedule → first_refused d (capacity_for units) [] units ≡ None → slots ≤ most_packets →
+    (viewed : IsViewedAs d request k e) → (whole : IsWhole request d.description.rate (cut_packets (output_of false d (job_history units slots))) e) →
+    e.video ≡ Some sizes → sizes.elementary ≡ viewed.stream.main →
+    NoElementaryExcess request d.description.rate (cut_packets (output_of false d (job_history units slots))) e sizes whole
