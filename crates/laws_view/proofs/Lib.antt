@@ -28,6 +28,8 @@ pub mod MuxedMain
 pub mod VideoBytes
 pub mod VideoExcesses
 pub mod MuxedVideo
+pub mod LeakExcesses
+pub mod MuxedLeaks
 pub mod UnitsInTime
 pub mod MuxedLate
 pub mod FirstTables

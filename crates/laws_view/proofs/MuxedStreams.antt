@@ -34,12 +34,12 @@ use Rattle.laws_view.proofs.MeasuredStreams.{no_fuller}
 use Rattle.laws_view.proofs.RateStreams.{whole_stream_law}
 
 -- bytes that find room begin no excess
-room_after : (step size prev : ℕ) (ts : List ℕ) → AreOver false step size prev ts → excess_after step size prev None ts ≡ None
+pub room_after : (step size prev : ℕ) (ts : List ℕ) → AreOver false step size prev ts → excess_after step size prev None ts ≡ None
 unfolding excess_after AreOver
 room_after step size prev [] room = refl
 room_after step size prev (t ∷ ts) room = rw room.0 (room_after step size (max t prev + step) ts room.1)
 
-room_ended : (step size prev : ℕ) (ts : List ℕ) → AreOver false step size prev ts → excesses_ended step size prev None ts ≡ []
+pub room_ended : (step size prev : ℕ) (ts : List ℕ) → AreOver false step size prev ts → excesses_ended step size prev None ts ≡ []
 unfolding excesses_ended AreOver
 room_ended step size prev [] room = refl
 room_ended step size prev (t ∷ ts) room = rw room.0 (room_ended step size (max t prev + step) ts room.1)

@@ -63,14 +63,14 @@ leaked_late r leak prev (p ∷ ps) left late =
     ap (λ (l : List ℕ). departures leak prev l) (sym (take-append-drop p.size left)) ∙ departures-append leak prev mine others in
     let many : length here ≡ p.size = length-departures leak prev mine ∙ late.0 in
     let first : take p.size (departures leak prev left) ≡ here = ap (λ (l : List ℕ). take p.size l) two ∙ take_at here rest p.size many in
-    let then : drop p.size (departures leak prev left) ≡ rest = ap (λ (l : List ℕ). drop p.size l) two ∙ drop_at here rest p.size many in
+    let after_it : drop p.size (departures leak prev left) ≡ rest = ap (λ (l : List ℕ). drop p.size l) two ∙ drop_at here rest p.size many in
     let low : ℕ = 188 * p.slot * r in
     let later : All (λ d. low ≤ d) here =
     All-weaker (λ d. low + leak ≤ d) (λ d. low ≤ d) (λ d h. omega (arith, h)) here (earliest leak prev low mine late.1) in
     (
       subst (λ (l : List ℕ). length l ≡ p.size) (sym first) many,
       subst (λ (l : List ℕ). All (λ d. low ≤ d) l) (sym first) later,
-      subst (λ (l : List ℕ). NoneLeavesEarly r ps l) (sym then) (leaked_late r leak (last_left leak prev mine) ps others late.2),
+      subst (λ (l : List ℕ). NoneLeavesEarly r ps l) (sym after_it) (leaked_late r leak (last_left leak prev mine) ps others late.2),
     )
 
 small_parts : (xs ys : List Packet) → All (λ p. p.size ≤ 188) (xs ++ ys) → All (λ p. p.size ≤ 188) xs × All (λ p. p.size ≤ 188) ys

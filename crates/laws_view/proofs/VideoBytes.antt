@@ -1,7 +1,7 @@
 -- What the packets of a video stream leave in its elementary stream buffer, as the bytes of each come (ISO/IEC 13818-1, 2.4.2.3).
 use Rattle.std.proofs.Common.{◌≡◌, ◌∙◌, sym, ℕ, suc, ◌+◌, ◌-◌, ◌*◌, ◌≤◌, ◌<◌, true, false, List, [], ◌∷◌, ◌++◌, length, map, take, drop, Option, Some, None, refl, ap, ap₂, subst, inl, inr, arith, All}
 use Rattle.std.proofs.lemmas.Bool.Decides.{eqb_tells}
-use Rattle.std.proofs.lemmas.List.{append-nil, length-append, take_at, drop_at}
+use Rattle.std.proofs.lemmas.List.{append_assoc, append-nil, length-append, take_at, drop_at}
 use Rattle.clock27.specs.Arrival.{bytes_from}
 use Rattle.clock27.specs.Departure.{departures, last_left}
 use Rattle.clock27.proofs.Departures.{departures-append, last_left-append, length-departures}
@@ -9,7 +9,7 @@ use Rattle.tstd.proofs.ByteRows.{length-row}
 use Rattle.pes_packet.specs.AccessUnits.{AccessUnit}
 use Rattle.unit_timing.specs.MainBuffer.{mb_fullness}
 use Rattle.unit_timing.specs.Schedule.{Packet}
-use Rattle.unit_timing.specs.Transport.{pes_left}
+use Rattle.unit_timing.specs.Transport.{of_payloads, pes_left}
 use Rattle.unit_timing.proofs.TransportBuffer.{pes_left-cons}
 use Rattle.tstd.specs.Carried.{timed_pes_packets}
 use Rattle.arrival.specs.declared.arrival.Arrival.TheVariants.{AtRate}
@@ -136,6 +136,8 @@ record OneLeaks (rate leak : ℕ) (h h' : Held) (p : Arriving) (due : Option Due
       kept_each rate h'.rx x us qs (departures leak (last_leaked rate leak h'.parts) (pes_left rate h'.rx (last_of rate h'.parts) qs))
       ≡ kept_each rate h.rx x us qs
       (drop (timed_packet p).size (departures leak (last_leaked rate leak h.parts) (pes_left rate h.rx (last_of rate h.parts) (timed_packet p ∷ qs))))
+  left : payload_left rate h'.parts ++ pes_left rate h'.rx (last_of rate h'.parts) qs
+      ≡ payload_left rate h.parts ++ pes_left rate h.rx (last_of rate h.parts) (timed_packet p ∷ qs)
 
 one_leaks : (rate leak low : ℕ) (h : Held) (p : Arriving) (qs : List Packet) (before : Option DueTime) → low ≤ p.index → p.index < most_packets →
     length (arrivals_of h.parts) ≤ 188 * low → p.enters ≡ true → until_of h.parts ≡ until_at before →
@@ -170,6 +172,8 @@ one_leaks rate leak low h p qs before first early few enters e =
     record {
       held = λ x. leaks.held x ∙ ap (λ (l : List ℕ). elementary_held rate leak h.parts x + entered (until_at (due_with p.begins before)) x l) (sym here);
       later = λ x us. ap₂ (λ (r : ℕ) (l : List ℕ). kept_each rate r x us qs l) one.alike.rx (all ∙ sym rest);
+      left = ap₂ (λ (l m : List ℕ). l ++ m) leaks.left after_it ∙ append_assoc (payload_left rate h.parts) ds es
+          ∙ ap (λ (l : List ℕ). payload_left rate h.parts ++ l) (sym (pes_left-cons rate h.rx prev q qs));
     }
 
 -- what they leave there is no more than the bytes of their units that are there
@@ -190,6 +194,20 @@ leaked_each rate leak low x h (p ∷ ps) (u ∷ us) before come few follows e =
     (subst (λ (r : ℕ). Follows rate r due ps us) (sym m.rx) follows.2) m.until in
     let ds : List ℕ = departures leak (last_leaked rate leak h.parts) (pes_left rate h.rx (last_of rate h.parts) (timed_packet p ∷ qs)) in
     omega (arith, rest, k.later x us, k.held x, no_more rate h.rx x u.dts due (take (timed_packet p).size ds) follows.1)
+
+-- the bytes that they bring to the multiplexing buffer, one packet after another
+pub payload_each : (rate low : ℕ) (h : Held) (ps : List Arriving) (us : List AccessUnit) (before : Option DueTime) → ComeFrom low ps →
+    length (arrivals_of h.parts) ≤ 188 * low → Follows rate h.rx before ps us → until_of h.parts ≡ until_at before →
+    payload_left rate (after_each h (AtRate rate) ps).parts ≡ payload_left rate h.parts ++ pes_left rate h.rx (last_of rate h.parts) (map timed_packet ps)
+unfolding after_each ComeFrom Follows of_payloads
+payload_each rate low h [] us before come few follows e = sym (append-nil (payload_left rate h.parts))
+payload_each rate low h (p ∷ ps) [] before come few follows e = absurd follows
+payload_each rate low h (p ∷ ps) (u ∷ us) before come few follows e =
+    let qs : List Packet = map timed_packet ps in
+    let m = one_more rate low h p qs before come.0 come.1 few follows.0 e in
+    let k = one_leaks rate 0 low h p qs before come.0 come.1 few follows.0 e in
+    let due : Option DueTime = due_with p.begins before in
+    payload_each rate (suc p.index) (after h (AtRate rate) p) ps us due come.2 m.few (subst (λ (r : ℕ). Follows rate r due ps us) (sym m.rx) follows.2) m.until ∙ k.left
 
 -- and than a model has of them and of those before in a main buffer that they enter so late
 pub later_leaked : (rate rx size low x leak id base0 : ℕ) (cuts : List CutUnit) (ps : List Arriving) (front back : List Packet) → ComeFrom low ps →

@@ -1,5 +1,5 @@
 -- An elementary stream buffer that never holds more than its size has no excess.
-use Rattle.std.proofs.Common.{◌≡◌, ◌∙◌, sym, ℕ, ◌+◌, ◌-◌, ◌*◌, ◌≤◌, Bool, true, false, List, [], ◌∷◌, Option, Some, None, if◌then◌else◌, refl, ap, subst, inl, inr, arith}
+use Rattle.std.proofs.Common.{◌≡◌, ◌∙◌, sym, ℕ, ◌+◌, ◌-◌, ◌*◌, ◌≤◌, nat_lt, Bool, true, false, List, [], ◌∷◌, Option, Some, None, if◌then◌else◌, refl, ap, subst, inl, inr, arith}
 use Rattle.std.specs.Prelude.{flat_map}
 use Rattle.std.specs.Option.{option_to_list}
 use Rattle.std.proofs.lemmas.Bool.{le-ltb}
@@ -7,6 +7,7 @@ use Rattle.std.proofs.lemmas.Bool.Decides.{eqb_tells}
 use Rattle.clock27.specs.Peak.{greatest_at}
 use Rattle.arrival.specs.declared.arrival.Arrival.{Arrival}
 use Rattle.arrival.specs.Arrivals.{times_at}
+use Rattle.tstd_rows.specs.declared.excess.Excess.{Excess}
 use Rattle.tstd_rows.specs.History.{Part}
 use Rattle.tstd_rows.specs.History.Part.{Passes, Carries, Begins}
 use Rattle.tstd_rows.specs.MainExcess.{ended_at}
@@ -14,7 +15,7 @@ use Rattle.tstd_rows.specs.VideoViewed.{elementary_held, leaked_after}
 use Rattle.tstd_rows.specs.declared.unit_seen.DueTime.{DueTime}
 use Rattle.tstd_rows.specs.declared.arriving.Arriving.{Arriving}
 use Rattle.tstd_rows.specs.Held.{Held, carried, passed}
-use Rattle.tstd_rows.specs.HeldVideo.{VideoEnteredView, VideoSizes, elementary_found, elementary_under_way, nothing_found, video_found}
+use Rattle.tstd_rows.specs.HeldVideo.{VideoEnteredView, VideoSizes, elementary_found, elementary_under_way, last_entry, nothing_found, video_found}
 use Rattle.tstd_rows.specs.Entering.{after, after_begin, after_header, after_lead, after_payload, after_unit, lead_in, size_of, takes_in, with_packet}
 use Rattle.tstd_rows.specs.EnteringVideo.{payload_video, video_of, video_with}
 use Rattle.laws_view.specs.StreamPackets.{after_each}
@@ -40,14 +41,17 @@ none_under_way rate leak size (Carries times ∷ before) few =
     rw (le-ltb size found fits) refl
 
 -- and none ends with bytes that come
+either : (b : Bool) (o : Option Excess) → o ≡ None → (if b then None else o) ≡ None
+either true o none = refl
+either false o none = none
+
 none_ends : (sizes : VideoSizes) (rate : ℕ) (before : List Part) (times : List ℕ) → elementary_under_way rate sizes.leak sizes.elementary before ≡ None →
     (video_found (Some sizes) rate before times).elementary ≡ None
 unfolding video_found ended_at
-none_ends sizes rate before times none = rw none (either _)
-  where
-    either : (b : Bool) → (if b then None else None) ≡ None {A = _}
-    either true = refl
-    either false = refl
+none_ends sizes rate before times none =
+    let last : ℕ = last_entry rate sizes.leak before times in
+    either (nat_lt sizes.elementary (elementary_found rate sizes.leak before times)) (ended_at (elementary_under_way rate sizes.leak sizes.elementary before) last)
+    (ap (λ (u : Option Excess). ended_at u last) none)
 
 none_goes : (sizes : VideoSizes) (h : Held) (enters : Bool) (times : List ℕ) → elementary_under_way h.rate sizes.leak sizes.elementary h.parts ≡ None →
     (if enters then video_found (Some sizes) h.rate h.parts times else nothing_found).elementary ≡ None
@@ -79,11 +83,11 @@ held_payload h enters n times rate leak x = elim (eqb_tells n 0) [
 ]
 
 -- what stands before the payload of a packet, and the unit that begins
-record Before (h c : Held) : Type 0 where
-  rate : c.rate ≡ h.rate
-  held : (rate leak x : ℕ) → elementary_held rate leak c.parts x ≡ elementary_held rate leak h.parts x
+pub record Before (h c : Held) : Type 0 where
+  pub rate : c.rate ≡ h.rate
+  pub held : (rate leak x : ℕ) → elementary_held rate leak c.parts x ≡ elementary_held rate leak h.parts x
 
-before_payload : (h : Held) (arrival : Arrival) (p : Arriving) (size lead : ℕ) → Before h (after_unit h arrival p size lead)
+pub before_payload : (h : Held) (arrival : Arrival) (p : Arriving) (size lead : ℕ) → Before h (after_unit h arrival p size lead)
 before_payload h arrival p size lead =
     let a : Held = after_lead h arrival p lead in
     let b : Held = after_header h arrival p size lead in

@@ -1,11 +1,13 @@
--- Of what a multiplexer wrote, viewed at its rate, no elementary stream buffer of video ever holds more than its size (ISO/IEC 13818-1, 2.4.2.3).
-use Rattle.std.specs.Prelude.{◌≡◌, ℕ, ◌≤◌, false, List, [], ◌∷◌, flat_map, Option, Some, None}
+-- Of what a multiplexer wrote, viewed at its rate, no elementary stream buffer of video ever holds more than its size (ISO/IEC 13818-1, 2.4.2.3),
+-- nor does a multiplexing buffer.
+use Rattle.std.specs.Prelude.{◌≡◌, ℕ, ◌*◌, ◌≤◌, false, List, [], ◌∷◌, flat_map, Option, Some, None}
 use Rattle.std.specs.Option.{option_to_list}
 use Rattle.ts_packet.specs.PidList.{cut_packets}
 use Rattle.slot_contents.specs.Contents.{run_bytes}
 use Rattle.pes_packet.specs.AccessUnits.{AccessUnit}
 use Rattle.description.specs.Ranges.{IsInRange}
 use Rattle.plan_timing.specs.Promised.{Promised}
+use Rattle.unit_timing.specs.declared.multiplexing_buffer.MultiplexingBuffer.{MultiplexingBuffer}
 use Rattle.mux_core.specs.Scheduled.{Scheduled}
 use Rattle.mux_core.specs.Headline.{UnitsKept}
 use Rattle.mux_core.specs.Histories.{content_at}
@@ -21,7 +23,7 @@ use Rattle.ts_report.specs.Choices.{RequestView}
 use Rattle.ts_report.specs.Entries.{EntryState}
 use Rattle.ts_report.specs.VideoFigures.{figures_with}
 use Rattle.laws_view.specs.StreamPackets.{most_packets}
-use Rattle.laws_view.specs.ViewedRuns.{IsViewedAs}
+use Rattle.laws_view.specs.ViewedRuns.{FromTheFirst, IsViewedAs}
 use Rattle.laws_view.specs.WholeStreams.{IsWhole, stream_packets}
 
 -- packets enter buffers one after another: what has ended with each in the two buffers of video
@@ -29,8 +31,8 @@ unfoldable pub video_each : Option VideoSizes → Held → Arrival → List Arri
 video_each sizes h arrival [] = []
 video_each sizes h arrival (p ∷ ps) = video_of sizes h arrival p ∷ video_each sizes (after h arrival p) arrival ps
 
--- no excess of the elementary stream buffer is told of such a stream: the line `elementary` says no more than its size, with none of the
--- stream's packets has an excess ended, and none is under way at the end
+-- the elementary stream buffer of such a stream has no excess: the line `elementary` says no more than its size, with none of the stream's
+-- packets has an excess ended, and none is under way at the end
 pub record NoElementaryExcess (request : RequestView) (rate : ℕ) (packets : List (List ℕ)) (e : EntryState) (sizes : VideoSizes) (whole : IsWhole request rate packets e) : Type 0 where
   pub most : (figures_with sizes e.held).elementary_most ≤ sizes.elementary
   pub none_ended : flat_map (λ v. option_to_list v.elementary)
@@ -53,3 +55,25 @@ JobElementaryLaw = (d : Scheduled) (units : List (ℕ × AccessUnit)) (slots : �
     (viewed : IsViewedAs d request k e) → (whole : IsWhole request d.description.rate (cut_packets (output_of false d (job_history units slots))) e) →
     e.video ≡ Some sizes → sizes.elementary ≡ viewed.stream.main →
     NoElementaryExcess request d.description.rate (cut_packets (output_of false d (job_history units slots))) e sizes whole
+
+-- the multiplexing buffer of such a stream has no excess: the line `multiplexing` says no more than its size, with none of the stream's packets
+-- has an excess ended, and none is under way at the end
+pub record NoMultiplexingExcess (request : RequestView) (rate : ℕ) (packets : List (List ℕ)) (e : EntryState) (sizes : VideoSizes) (whole : IsWhole request rate packets e) : Type 0 where
+  pub most : (figures_with sizes e.held).multiplexing_most ≤ sizes.multiplexing
+  pub none_ended : flat_map (λ v. v.multiplexing)
+      (video_each e.video (empty rate e.held.rx e.held.main.size) (AtRate rate) (stream_packets request e whole.begun.before (whole.begun.first ∷ whole.begun.later))) ≡ []
+  pub none_under_way : (figures_with sizes e.held).multiplexing ≡ None
+
+-- a multiplexing buffer of that size, which a byte takes the time to leave that it takes at the rate of the description: a whole number of the
+-- view's units of time, which the view does not round up
+pub record LeaksAs (rate rx : ℕ) (b : MultiplexingBuffer) (sizes : VideoSizes) : Type 0 where
+  pub size : sizes.multiplexing ≡ b.size
+  pub leak : sizes.leak * b.rbx ≡ rate * rx
+
+-- so of each stream of the description that is viewed so, whose buffers begin with the first packet of its PID
+abbrev pub RunMultiplexingLaw : Type 0
+RunMultiplexingLaw = (d : Scheduled) (units : ℕ → List AccessUnit) (slots : ℕ) (request : RequestView) (e : EntryState) (k : ℕ) (b : MultiplexingBuffer) (sizes : VideoSizes) →
+    IsInRange d.description → Promised d.description d.schedule → UnitsKept d units → slots ≤ most_packets → (viewed : IsViewedAs d request k e) →
+    (whole : IsWhole request d.description.rate (cut_packets (run_bytes (content_at d units) 0 slots)) e) → FromTheFirst e.pid whole.begun.before →
+    viewed.stream.multiplexing ≡ Some b → e.video ≡ Some sizes → LeaksAs d.description.rate viewed.stream.rx b sizes →
+    NoMultiplexingExcess request d.description.rate (cut_packets (run_bytes (content_at d units) 0 slots)) e sizes whole

@@ -8,7 +8,7 @@ ghost use Rattle.laws_view.specs.MeasuredStreams.{MeasuredStreamLaw};
 ghost use Rattle.laws_view.specs.MuxedStreams.{JobNoExcessLaw, MuxedStreamLaw};
 ghost use Rattle.laws_view.specs.TimedStreams.{ClockedStreamLaw, RateOrderLaw, TimedStreamLaw};
 ghost use Rattle.laws_view.specs.TransportHighs.{ClockedTransportLaw, RateTransportLaw, TimedTransportLaw, TransportHighLaw, TransportWithoutLaw, WindowTransportLaw};
-ghost use Rattle.laws_view.specs.VideoExcesses.{JobElementaryLaw, RunElementaryLaw};
+ghost use Rattle.laws_view.specs.VideoExcesses.{JobElementaryLaw, RunElementaryLaw, RunMultiplexingLaw};
 ghost use Rattle.laws_view.specs.ViewedRuns.{JobFirstLaw, JobLateLaw, JobLateUnitsLaw, JobMainLaw, RunFirstLaw, RunLateLaw, RunLateUnitsLaw, RunMainLaw};
 ghost use Rattle.laws_view.specs.WholeStreams.{LastEventsLaw, WholeStreamLaw};
 ghost use Rattle.laws_view.specs.WindowHighs.{ClockedHighLaw, HighWithoutLaw, RateHighLaw, TimedHighLaw, WholeHighLaw, WindowHighLaw, WindowMostLaw};
@@ -101,10 +101,12 @@ pub fn muxed_main_buffers()
 {}
 
 /// States that there is no excess of the elementary stream buffer of video there either (ISO/IEC 13818-1, 2.4.2.3), wherever the stream's buffers
-/// begin: its line says no more than its size, if that is the size of the description.
+/// begin: its line says no more than its size, if that is the size of the description. Nor is there one of its multiplexing buffer, if buffers begin
+/// with the first packet of its PID and a byte takes a whole number of the view's units of time to leave it.
 pub fn muxed_video_buffers()
     ensures run { RunElementaryLaw }
     ensures jobs { JobElementaryLaw }
+    ensures multiplexing { RunMultiplexingLaw }
 {}
 
 /// States that the buffers of a stream do so if no unit of it is due before 2 s after the begin: PAT and PMT precede its packets (ISO/IEC

@@ -1,3 +1,4 @@
+use Rattle.laws_view.proofs.MuxedLeaks.{run_multiplexing_law}
 use Rattle.laws_view.proofs.MuxedVideo.{job_elementary_law, run_elementary_law}
 use Rattle.laws_view.proofs.laws.muxed_video_buffers.Goals as goal
 
@@ -6,3 +7,6 @@ returns-clause-run c = run_elementary_law
 
 pub returns-clause-jobs : goal.returns-clause-jobs
 returns-clause-jobs c = job_elementary_law
+
+pub returns-clause-multiplexing : goal.returns-clause-multiplexing
+returns-clause-multiplexing c = run_multiplexing_law
