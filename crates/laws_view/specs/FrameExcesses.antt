@@ -1,6 +1,6 @@
 -- Of what a multiplexer wrote, viewed at its rate by access units, no main buffer of sound ever holds more than its size, with each access unit
 -- removed at its own decoding time (ISO/IEC 13818-1, 2.4.2.3). The statement alone: it has no proof yet.
-use Rattle.std.specs.Prelude.{◌≡◌, ◌×◌, ℕ, ◌+◌, ◌≤◌, List, [], ◌∷◌, ◌++◌, length, reverse, slice_get, Option, Some, None}
+use Rattle.std.specs.Prelude.{◌≡◌, ℕ, ◌+◌, ◌≤◌, List, [], ◌∷◌, ◌++◌, length, reverse, slice_get, Option, Some, None}
 use Rattle.ts_packet.specs.PidList.{cut_packets}
 use Rattle.slot_contents.specs.Contents.{run_bytes}
 use Rattle.pes_packet.specs.AccessUnits.{AccessUnit}
