@@ -1,5 +1,5 @@
 -- The multiplexing buffers of a run that a multiplexer wrote, in a view, where a byte takes a whole number of units of time to leave them.
-use Rattle.std.proofs.Common.{◌≡◌, ◌∙◌, sym, ℕ, zero, suc, ◌+◌, ◌*◌, ◌/◌, ◌<◌, ◌≤◌, List, [], ◌∷◌, ◌++◌, length, map, drop, Option, None, refl, ap, ap₂, subst, arith}
+use Rattle.std.proofs.Common.{◌≡◌, ◌∙◌, sym, ℕ, zero, suc, ◌+◌, ◌*◌, ◌/◌, ◌<◌, ◌≤◌, false, List, [], ◌∷◌, ◌++◌, length, map, drop, Option, Some, None, refl, ap, ap₂, subst, arith}
 use Rattle.std.specs.Prelude.{flat_map}
 use Rattle.std.proofs.Math.Nat.{mul-div_cancel_left, mul-pos}
 use Rattle.std.proofs.lemmas.List.{map-append}
@@ -8,6 +8,7 @@ use Rattle.clock27.specs.Fullness.{fullness}
 use Rattle.clock27.proofs.Scale.{departures-scale, fullness-scale}
 use Rattle.ts_packet.specs.PidList.{Entry, cut_packets}
 use Rattle.pes_packet.specs.AccessUnits.{AccessUnit}
+use Rattle.pes_packet.specs.Units.{units_of}
 use Rattle.slot_contents.specs.Contents.{run_bytes}
 use Rattle.description.specs.Described.{DescribedStream}
 use Rattle.unit_timing.specs.Schedule.{Packet}
@@ -17,8 +18,11 @@ use Rattle.unit_timing.proofs.MomentLemmas.{left_scaled}
 use Rattle.tstd.specs.Carried.{packets_on}
 use Rattle.tstd.specs.PidPackets.{packets_from}
 use Rattle.mux_core.specs.Histories.{content_at, owned_stream}
+use Rattle.mux_core.specs.WholeJobs.{job_history, output_of}
+use Rattle.mux_core.proofs.JobWriting.{output_bytes}
 use Rattle.mux_core.proofs.KnownRanges.{stream_range}
 use Rattle.mux_core.proofs.Whole.{headline}
+use Rattle.laws_run.proofs.MonitoredJobs.{job_kept}
 use Rattle.arrival.specs.declared.arrival.Arrival.TheVariants.{AtRate}
 use Rattle.tstd_rows.specs.History.{arrivals_of, payload_left, until_of}
 use Rattle.tstd_rows.specs.VideoViewed.{multiplexing_buffer, multiplexing_held, multiplexing_under_way}
@@ -29,8 +33,9 @@ use Rattle.tstd_rows.proofs.OverBytes.{none_over}
 use Rattle.tstd_rows.proofs.VideoParts.{video_figures}
 use Rattle.laws_view.specs.StreamPackets.{after_each}
 use Rattle.laws_view.specs.CarriedStreams.{cut_senders}
-use Rattle.laws_view.specs.WholeStreams.{followed, known_at_begin, stream_packets}
-use Rattle.laws_view.specs.VideoExcesses.{RunMultiplexingLaw, video_each}
+use Rattle.laws_view.specs.WholeStreams.{IsWhole, followed, known_at_begin, stream_packets}
+use Rattle.laws_view.specs.ViewedRuns.{FromTheFirst}
+use Rattle.laws_view.specs.VideoExcesses.{JobMultiplexingLaw, LeaksAs, NoMultiplexingExcess, RunMultiplexingLaw, video_each}
 use Rattle.laws_view.proofs.EnteredBytes.{ComeFrom}
 use Rattle.laws_view.proofs.MainBytes.{timed_packet, until_at}
 use Rattle.laws_view.proofs.KeptBytes.{Follows}
@@ -121,3 +126,11 @@ run_multiplexing_law d units slots request e k b sizes ranges promised kept few 
           ∙ none_each sizes h (AtRate rate) ps (subst (λ (g : Held). HasRoom rate leak size g.parts) whole.held room);
       none_under_way = ap (λ (r : ℕ). multiplexing_under_way r leak size e.held.parts) same ∙ room_after leak size 0 (payload_left rate e.held.parts) room;
     }
+
+pub job_multiplexing_law : JobMultiplexingLaw
+job_multiplexing_law d units slots request e k b sizes ranges promised none few viewed =
+    let each : ℕ → List AccessUnit = λ j. units_of j units in
+    let same : run_bytes (content_at d each) 0 slots ≡ output_of false d (job_history units slots) = sym (output_bytes (content_at d each) 0 slots) in
+    subst (λ (bytes : List ℕ). (whole : IsWhole request d.description.rate (cut_packets bytes) e) → FromTheFirst e.pid whole.begun.before → viewed.stream.multiplexing ≡ Some b →
+    e.video ≡ Some sizes → LeaksAs d.description.rate viewed.stream.rx b sizes → NoMultiplexingExcess request d.description.rate (cut_packets bytes) e sizes whole) same
+    (run_multiplexing_law d each slots request e k b sizes ranges promised (job_kept d units ranges none) few viewed)

@@ -1,5 +1,5 @@
 -- The elementary stream buffers of a run that a multiplexer wrote, in a view.
-use Rattle.std.proofs.Common.{◌≡◌, ◌∙◌, sym, ℕ, ◌+◌, ◌≤◌, false, List, [], ◌∷◌, ◌++◌, length, map, take, drop, Option, Some, None, refl, ap, subst, arith, All}
+use Rattle.std.proofs.Common.{◌≡◌, ◌∙◌, sym, ℕ, ◌+◌, ◌*◌, ◌≤◌, false, List, [], ◌∷◌, ◌++◌, length, map, take, drop, Option, Some, None, refl, ap, subst, arith, All}
 use Rattle.std.specs.Prelude.{flat_map}
 use Rattle.std.specs.Option.{option_to_list}
 use Rattle.std.proofs.lemmas.List.{map-append, take-append-drop, take_at, drop_at}
@@ -66,8 +66,7 @@ leaked_late r leak prev (p ∷ ps) left late =
     let after_it : drop p.size (departures leak prev left) ≡ rest = ap (λ (l : List ℕ). drop p.size l) two ∙ drop_at here rest p.size many in
     let low : ℕ = 188 * p.slot * r in
     let later : All (λ d. low ≤ d) here =
-    All-weaker (λ d. low + leak ≤ d) (λ d. low ≤ d) (λ d h. omega (arith, h)) here (earliest leak prev low mine late.1) in
-    (
+    All-weaker (λ d. low + leak ≤ d) (λ d. low ≤ d) (λ d h. omega (arith, h)) here (earliest leak prev low mine late.1) in (
       subst (λ (l : List ℕ). length l ≡ p.size) (sym first) many,
       subst (λ (l : List ℕ). All (λ d. low ≤ d) l) (sym first) later,
       subst (λ (l : List ℕ). NoneLeavesEarly r ps l) (sym after_it) (leaked_late r leak (last_left leak prev mine) ps others late.2),

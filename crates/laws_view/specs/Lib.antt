@@ -8,7 +8,6 @@ pub mod MuxedStreams
 pub mod MainExcesses
 pub mod ViewedRuns
 pub mod VideoExcesses
-pub mod FrameExcesses
 pub mod WindowLows
 pub mod HeldWindows
 pub mod ClockedWindows

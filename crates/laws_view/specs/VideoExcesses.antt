@@ -77,3 +77,10 @@ RunMultiplexingLaw = (d : Scheduled) (units : ℕ → List AccessUnit) (slots : 
     (whole : IsWhole request d.description.rate (cut_packets (run_bytes (content_at d units) 0 slots)) e) → FromTheFirst e.pid whole.begun.before →
     viewed.stream.multiplexing ≡ Some b → e.video ≡ Some sizes → LeaksAs d.description.rate viewed.stream.rx b sizes →
     NoMultiplexingExcess request d.description.rate (cut_packets (run_bytes (content_at d units) 0 slots)) e sizes whole
+
+abbrev pub JobMultiplexingLaw : Type 0
+JobMultiplexingLaw = (d : Scheduled) (units : List (ℕ × AccessUnit)) (slots : ℕ) (request : RequestView) (e : EntryState) (k : ℕ) (b : MultiplexingBuffer) (sizes : VideoSizes) →
+    IsInRange d.description → Promised d.description d.schedule → first_refused d (capacity_for units) [] units ≡ None → slots ≤ most_packets →
+    (viewed : IsViewedAs d request k e) → (whole : IsWhole request d.description.rate (cut_packets (output_of false d (job_history units slots))) e) →
+    FromTheFirst e.pid whole.begun.before → viewed.stream.multiplexing ≡ Some b → e.video ≡ Some sizes → LeaksAs d.description.rate viewed.stream.rx b sizes →
+    NoMultiplexingExcess request d.description.rate (cut_packets (output_of false d (job_history units slots))) e sizes whole

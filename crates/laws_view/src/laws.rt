@@ -8,7 +8,7 @@ ghost use Rattle.laws_view.specs.MeasuredStreams.{MeasuredStreamLaw};
 ghost use Rattle.laws_view.specs.MuxedStreams.{JobNoExcessLaw, MuxedStreamLaw};
 ghost use Rattle.laws_view.specs.TimedStreams.{ClockedStreamLaw, RateOrderLaw, TimedStreamLaw};
 ghost use Rattle.laws_view.specs.TransportHighs.{ClockedTransportLaw, RateTransportLaw, TimedTransportLaw, TransportHighLaw, TransportWithoutLaw, WindowTransportLaw};
-ghost use Rattle.laws_view.specs.VideoExcesses.{JobElementaryLaw, RunElementaryLaw, RunMultiplexingLaw};
+ghost use Rattle.laws_view.specs.VideoExcesses.{JobElementaryLaw, JobMultiplexingLaw, RunElementaryLaw, RunMultiplexingLaw};
 ghost use Rattle.laws_view.specs.ViewedRuns.{JobFirstLaw, JobLateLaw, JobLateUnitsLaw, JobMainLaw, RunFirstLaw, RunLateLaw, RunLateUnitsLaw, RunMainLaw};
 ghost use Rattle.laws_view.specs.WholeStreams.{LastEventsLaw, WholeStreamLaw};
 ghost use Rattle.laws_view.specs.WindowHighs.{ClockedHighLaw, HighWithoutLaw, RateHighLaw, TimedHighLaw, WholeHighLaw, WindowHighLaw, WindowMostLaw};
@@ -107,6 +107,7 @@ pub fn muxed_video_buffers()
     ensures run { RunElementaryLaw }
     ensures jobs { JobElementaryLaw }
     ensures multiplexing { RunMultiplexingLaw }
+    ensures jobs_multiplexing { JobMultiplexingLaw }
 {}
 
 /// States that the buffers of a stream do so if no unit of it is due before 2 s after the begin: PAT and PMT precede its packets (ISO/IEC

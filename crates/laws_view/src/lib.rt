@@ -8,7 +8,7 @@
 //! - `WindowHighs`, `TransportHighs`: the greatest of the main and transport buffer; `FirstHighs`: both in the window where they begin.
 //! - `MainExcesses`: when a main buffer has no excess; `MeasuredStreams`: what measuring the same bytes finds.
 //! - `MuxedStreams`, `ViewedRuns`: a multiplexer's output, with no late unit and no main buffer too full, and when its tables come first.
-//! - `VideoExcesses`: a multiplexer's output, with no elementary stream buffer of video too full.
+//! - `VideoExcesses`: a multiplexer's output, with neither buffer of video too full.
 //! - `CarriedStreams`: which packets carry units, and their clock references; `AsMeasured`: when the figures equal the measured numbers.
 //!
 //! - [`laws`]: the last lines of a stream are about all packets of its PID and say no more than the measured numbers, and the same numbers
