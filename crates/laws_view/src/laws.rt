@@ -100,16 +100,6 @@ pub fn muxed_main_buffers()
     ensures jobs { JobMainLaw }
 {}
 
-/// States that there is no excess of the elementary stream buffer of video there either (ISO/IEC 13818-1, 2.4.2.3), wherever the stream's buffers
-/// begin: its line says no more than its size, if that is the size of the description. Nor is there one of its multiplexing buffer, if buffers begin
-/// with the first packet of its PID and a byte takes a whole number of the view's units of time to leave it.
-pub fn muxed_video_buffers()
-    ensures run { RunElementaryLaw }
-    ensures jobs { JobElementaryLaw }
-    ensures multiplexing { RunMultiplexingLaw }
-    ensures jobs_multiplexing { JobMultiplexingLaw }
-{}
-
 /// States that the buffers of a stream do so if no unit of it is due before 2 s after the begin: PAT and PMT precede its packets (ISO/IEC
 /// 13818-1, 2.4.4), so the view knows of it by then, whatever else is viewed.
 pub fn muxed_after_tables()
@@ -123,6 +113,16 @@ pub fn muxed_after_tables()
 pub fn muxed_units()
     ensures run { RunLateLaw }
     ensures jobs { JobLateLaw }
+{}
+
+/// States that there is no excess of the elementary stream buffer of video there either (ISO/IEC 13818-1, 2.4.2.3), wherever the stream's buffers
+/// begin: its line says no more than its size, if that is the size of the description. Nor is there one of its multiplexing buffer, if buffers begin
+/// with the first packet of its PID and a byte takes a whole number of the view's units of time to leave it.
+pub fn muxed_video_buffers()
+    ensures run { RunElementaryLaw }
+    ensures jobs { JobElementaryLaw }
+    ensures multiplexing { RunMultiplexingLaw }
+    ensures jobs_multiplexing { JobMultiplexingLaw }
 {}
 
 /// States that the greatest numbers of bytes in both buffers of a stream at a constant rate that carries units on a PID, whoever wrote it, are
