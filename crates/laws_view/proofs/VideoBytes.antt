@@ -45,7 +45,8 @@ passed_left h n times rate = elim (eqb_tells n 0) [
   | inr some ↦ rw some.0 refl
 ]
 
-pub begin_held : (h : Held) (due : Option DueTime) (rate leak x : ℕ) → elementary_held rate leak (after_begin h due).parts x ≡ elementary_held rate leak h.parts x
+pub begin_held : (h : Held) (due : Option DueTime) (rate leak x : ℕ) →
+    elementary_held rate leak (after_begin h due).parts x ≡ elementary_held rate leak h.parts x
 unfolding after_begin elementary_held
 begin_held h None rate leak x = refl
 begin_held h (Some due) rate leak x = refl
@@ -207,11 +208,13 @@ payload_each rate low h (p ∷ ps) (u ∷ us) before come few follows e =
     let m = one_more rate low h p qs before come.0 come.1 few follows.0 e in
     let k = one_leaks rate 0 low h p qs before come.0 come.1 few follows.0 e in
     let due : Option DueTime = due_with p.begins before in
-    payload_each rate (suc p.index) (after h (AtRate rate) p) ps us due come.2 m.few (subst (λ (r : ℕ). Follows rate r due ps us) (sym m.rx) follows.2) m.until ∙ k.left
+    payload_each rate (suc p.index) (after h (AtRate rate) p) ps us due come.2 m.few
+    (subst (λ (r : ℕ). Follows rate r due ps us) (sym m.rx) follows.2) m.until ∙ k.left
 
 -- and than a model has of them and of those before in a main buffer that they enter so late
 pub later_leaked : (rate rx size low x leak id base0 : ℕ) (cuts : List CutUnit) (ps : List Arriving) (front back : List Packet) → ComeFrom low ps →
-    Follows rate rx None ps (drop (length front) (cut_senders cuts)) → map timed_packet ps ≡ back → All (λ p. p.size ≤ 188) front → All (λ p. p.size ≤ 188) back →
+    Follows rate rx None ps (drop (length front) (cut_senders cuts)) → map timed_packet ps ≡ back → All (λ p. p.size ≤ 188) front →
+    All (λ p. p.size ≤ 188) back →
     All (IsCut id base0) cuts → packet_sizes (front ++ back) ≡ take (length (front ++ back)) (sizes_of (cut_pieces cuts)) →
     elementary_held rate leak (after_each (empty rate rx size) (AtRate rate) ps).parts x
     ≤ mb_fullness rate rx x (timed_pes_packets id base0 (cut_units cuts)) (pes_left rate rx 0 front ++ departures leak 0 (pes_left rate rx 0 back))
@@ -221,7 +224,8 @@ later_leaked rate rx size low x leak id base0 cuts ps front back come follows sa
     let before : List ℕ = pes_left rate rx 0 front in
     let after_it : List ℕ = departures leak 0 (pes_left rate rx 0 back) in
     let all = leaked_each rate leak low x (empty rate rx size) ps (drop (length front) (cut_senders cuts)) None come (omega arith) follows refl in
-    let here : kept_each rate rx x vs (map timed_packet ps) (departures leak 0 (pes_left rate rx 0 (map timed_packet ps))) ≡ kept_each rate rx x vs back after_it =
+    let here : kept_each rate rx x vs (map timed_packet ps) (departures leak 0 (pes_left rate rx 0 (map timed_packet ps)))
+    ≡ kept_each rate rx x vs back after_it =
     ap (λ (xs : List Packet). kept_each rate rx x vs xs (departures leak 0 (pes_left rate rx 0 xs))) same in
     let more = kept_later rate rx x (cut_senders cuts) front back before after_it (many_left rate rx 0 front small) in
     let many : length (before ++ after_it) ≡ total (packet_sizes (front ++ back)) =
