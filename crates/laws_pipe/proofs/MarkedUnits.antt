@@ -3,12 +3,16 @@ use Rattle.std.proofs.Common.{◌≡◌, ◌∙◌, ◌&&◌, ℕ, Bool, true, f
 use Rattle.pes_packet.specs.AccessUnits.{AccessUnit}
 use Rattle.demux.specs.Laws.{found_of, has_pid}
 use Rattle.demux.specs.Views.{FindingView}
+use Rattle.packet_sync.specs.Slips.{carried}
 use Rattle.es_units.specs.CarriedUnits.{CarriedUnit, RoleView, Ignored, carried_units, role_of, wire_units}
 use Rattle.es_units.proofs.CarriedUnits.{same_units}
 use Rattle.es_feed.specs.EachStream.{if_start, next_starts, one_by_one, starts_next}
-use Rattle.given_marks.specs.Marking.{MarkingView, all_marked}
+use Rattle.given_marks.specs.Marking.{MarkingView, all_marked, is_aligned, type_of}
 use Rattle.given_marks.proofs.MarkedFindings.{marked_by_pid}
-use Rattle.laws_pipe.specs.StreamedUnits.{AreMarkedAlike}
+use Rattle.stream_jobs.specs.AskedMarks.{marking_of}
+use Rattle.job_run.specs.Streams.{findings_of}
+use Rattle.tsjob_cli.specs.StreamedUnits.{access_of}
+use Rattle.laws_pipe.specs.StreamedUnits.{AreMarkedAlike, AskAlike}
 
 -- 1. Whether units are one PES packet each is for the findings of the PID to say
 
@@ -60,3 +64,15 @@ carried_alike whole streamed pid fs alike =
 pub wire_alike : (whole streamed : MarkingView) (pid : ℕ) (fs : List FindingView) → AreMarkedAlike whole streamed pid →
     wire_units pid (all_marked whole fs) ≡ wire_units pid (all_marked streamed fs)
 wire_alike whole streamed pid fs alike = ap (λ (us : List CarriedUnit). map (λ (u : CarriedUnit). u.unit) us) (carried_alike whole streamed pid fs alike)
+
+-- 3. No access points
+
+pub ask_alike : AskAlike
+unfolding marking_of access_of
+ask_alike a w d bytes pid none other aligned =
+    let whole : (marking_of a.options (findings_of (carried bytes))).access ≡ [] = rw none refl in
+    let streamed : access_of w.mark_access d.streams ≡ [] = rw other refl in
+    record {
+      typed = ap (type_of pid) (whole ∙ sym streamed);
+      aligned = ap (λ (pids : List ℕ). is_aligned pids (Some pid)) aligned;
+    }

@@ -90,3 +90,8 @@ pub record WriteTheSame (a : JobArgumentsView) (w : JobOptionsView) (d : Describ
 abbrev pub TheSameUnits : Type 0
 TheSameUnits = (words : List Text) (a : JobArgumentsView) (w : JobOptionsView) (d : Described) (bytes whole streamed : List ℕ) (one records told : Device) (status : ℕ) (other passed silent : Device) → IsInRange d →
     WritesUnits words a bytes whole one records told status → StreamsUnits w d bytes streamed other passed silent → WriteTheSame a w d bytes whole streamed
+
+-- both ask for the same marks if neither asks for those of access points, and both for the same alignment or for none
+abbrev pub AskAlike : Type 0
+AskAlike = (a : JobArgumentsView) (w : JobOptionsView) (d : Described) (bytes : List ℕ) (pid : ℕ) → a.options.mark_access ≡ false → w.mark_access ≡ false →
+    a.options.aligned ≡ w.aligned → AreMarkedAlike (marking_of a.options (findings_of (carried bytes))) (marking_by w d) pid

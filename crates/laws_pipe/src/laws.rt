@@ -1,7 +1,7 @@
 //! One job, written and read. Each function does nothing: its contract is the law.
 ghost use Rattle.laws_pipe.specs.PipedFiles.{JoinedIsRead, TheFilePipe};
 ghost use Rattle.laws_pipe.specs.PipedJobs.{ThePipe, WrittenIsRead};
-ghost use Rattle.laws_pipe.specs.StreamedUnits.{TheSameUnits};
+ghost use Rattle.laws_pipe.specs.StreamedUnits.{AskAlike, TheSameUnits};
 
 /// States that a job that `tsjob` writes, whatever the stream and the options of its command line, `mux` reads as that
 /// description, that plan and these units: nothing is wrong with it, no record is refused as one, and no byte is left after
@@ -53,11 +53,12 @@ pub fn joined_goes_through()
 
 /// States that `tsjob units` and `tsjob units --stream` write the same units, stream by stream and in order, due later by one
 /// time for all streams: if `tsjob units` ran to its end over the bytes of a stream and wrote records, and `tsjob units
-/// --stream` went by a description of the job's streams over the same bytes to their end and reported nothing.
+/// --stream` went by a description of the job's streams over the same bytes to their end and reported nothing (`same`).
 ///
 /// This is so for a job whose DTS are the stream's own and whose programs are on one clock, if its streams begin within
 /// three seconds of one another, each of their units is one PES packet that nothing interrupts, and both ways ask for the
-/// same marks.
+/// same marks. They do if neither asks for `--mark-access` and both ask for the same `--aligned`, or for none (`marks`).
 pub fn streamed_as_whole()
-    ensures { TheSameUnits }
+    ensures same { TheSameUnits }
+    ensures marks { AskAlike }
 {}
