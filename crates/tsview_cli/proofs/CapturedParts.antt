@@ -64,7 +64,7 @@ slip_state s slip = refl
 
 slip_events : (s : AnalysisState) (slip : Slip) → events_of s (IsSlip slip ∷ []) ≡ timed s (slip_event slip)
 unfolding events_of part_events
-slip_events s slip = refl
+slip_events s slip = append-nil (timed s (slip_event slip))
 
 size_state : (s : AnalysisState) (other : OtherPackets) → after_parts s (IsSize other ∷ []) ≡ with_event s (size_event other)
 unfolding after_parts after_part
@@ -72,7 +72,7 @@ size_state s other = refl
 
 size_events : (s : AnalysisState) (other : OtherPackets) → events_of s (IsSize other ∷ []) ≡ timed s (size_event other)
 unfolding events_of part_events
-size_events s other = refl
+size_events s other = append-nil (timed s (size_event other))
 
 -- an event of the input
 event_more : (first before now : ViewedParts) (s : AnalysisState) (parts : List Part) (part : Part) (event : Event) → after_parts (after_parts s parts) (part ∷ []) ≡ with_event (after_parts s parts) event →
