@@ -135,6 +135,16 @@ fn typed_pid(stream: &StreamDescription) -> TypedPid
     }
 }
 
+// The PID of each of these streams, and its stream_type.
+fn typed_pids(alloc: Global, streams: &[StreamDescription]) -> Result<Vec<TypedPid>, AllocError>
+    ensures { IfOk result (λ types. types.items ≡ map spec.typed_pid streams.now) }
+{
+    streams
+        .iter()
+        .map(|stream| typed_pid(stream))
+        .collect(alloc)
+}
+
 // Those of streams, if access points are to be marked.
 #[tactic(auto, unfolding(crate::specs::StreamedUnits::access_of))]
 fn access_of(
@@ -147,10 +157,7 @@ fn access_of(
     if !asked {
         return Ok(Vec::new(alloc));
     }
-    streams
-        .iter()
-        .map(|stream| typed_pid(stream))
-        .collect(alloc)
+    typed_pids(alloc, streams)
 }
 
 // The marks that options ask for of the streams of a description.
