@@ -82,7 +82,7 @@ tsview: ## Prove and build tsview (19 minutes more).
 on-air: binary tsjob tsair ## Air a stream from a feeder to a loopback socket (examples/on-air).
 	sh examples/on-air/run.sh $(TSJOB) $(BINARY) $(TSAIR)
 
-# `make soak HOURS=24` takes a day. SOAK has further words of tools/soak: `SOAK='--seed 7 --without gap'`.
+# `make soak` takes at least five minutes, with HOURS=24 two hours. SOAK has further words of tools/soak: `SOAK='--seed 7 --speed 1'`.
 HOURS ?= 1
 soak: binary tsjob tsair tsview ## Air two live encoders with faults for an hour (tools/soak).
 	tools/soak --seconds $$(($(HOURS) * 3600)) $(SOAK) $(TSJOB) $(BINARY) $(TSAIR) $(TSVIEW)

@@ -159,7 +159,7 @@ class Stream:
 
     def __init__(self, data):
         data, slips, self.fields = in_step(data)
-        self.count, self.pids, self.lines, self.bad = len(data) // 188, {}, slips, 0
+        self.count, self.pids, self.lines, self.bad, self.references = len(data) // 188, {}, slips, 0, []
         accesses = {at // 188 for at in range(0, len(data) - 187, 188) if adaptation_flags(data[at: at + 188]) & jobs.RANDOM_ACCESS}
         for packet in range(self.count):
             fields = syntax.read_packet(data[188 * packet: 188 * packet + 188])
@@ -170,6 +170,9 @@ class Stream:
                 self.lines.append(f"packet {packet} errored")
             elif fields["pid"] != 8191:
                 self.pids.setdefault(fields["pid"], Pid(fields["pid"], accesses)).step(packet, fields)
+            if not isinstance(fields, int) and not fields["error"] and adaptation_flags(data[188 * packet: 188 * packet + 188]) & 0x10:
+                base = int.from_bytes(data[188 * packet + 6: 188 * packet + 11], "big") >> 7
+                self.references.append((packet, fields["pid"], base))
         if len(data) % 188:
             self.lines.append(f"rest of {len(data) % 188} bytes")
         for pid in self.pids.values():
@@ -177,6 +180,23 @@ class Stream:
 
     def found(self, pid):
         return self.pids[pid].found if pid in self.pids else []
+
+    def time_text(self, pid, clock):
+        """Gives teletext without PTS the times at which it came: each PES packet has what its clock showed last when it was whole, and is a
+        unit with its flags and its long header."""
+        shown = [(packet, base) for packet, of, base in self.references if of == clock]
+        stamps = [value[2] for _, _, kind, value in self.found(pid) if kind == "pes" and value[0] == 0xBD]
+        if not shown or not stamps or any(pts is not None for pts in stamps):
+            return
+        timed, last = [], shown[0][1]
+        for packet, begun, kind, value in self.found(pid):
+            while shown and shown[0][0] <= packet:
+                last = shown.pop(0)[1]
+            if kind == "pes" and value[0] == 0xBD:
+                value = (value[0], last, last, *value[3:])
+            timed.append((packet, begun, kind, (value[0], False) if kind == "truncated" else value))
+        self.pids[pid].found = timed
+        self.fields = [(of, field) for of, field in self.fields if of != pid or field not in (ALIGNMENT, FLAGS, LONG)]
 
     def sections(self, pid, table):
         """The sections of a PID with a table_id, of the long form, in force now, each with the packet in which it ends."""

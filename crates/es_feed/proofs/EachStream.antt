@@ -1,5 +1,6 @@
 -- What is fed of each stream of bytes, by one constant.
-use Rattle.std.proofs.Common.{◌≡◌, ◌∙◌, ◌<◌, ◌≤◌, ℕ, zero, suc, ◌+◌, ◌-◌, ◌*◌, ◌/◌, ◌++◌, ◌^◌, true, Option, Some, None, List, [], ◌∷◌, All, map, length, take, drop, slice_get, refl, sym, ap, subst, arith, drop-drop, length-drop, length-take-le, mul-le-mul_right, take-append-drop}
+use Rattle.std.proofs.Common.{◌≡◌, ◌∙◌, ◌<◌, ◌≤◌, ℕ, zero, suc, ◌+◌, ◌-◌, ◌*◌, ◌/◌, ◌++◌, ◌^◌, true, Option, Some, None, List, [], ◌∷◌, All, map, length, take}
+use Rattle.std.proofs.Common.{drop, slice_get, refl, sym, ap, subst, arith, drop-drop, length-drop, length-take-le, mul-le-mul_right, take-append-drop}
 use Rattle.std.specs.List.{concat}
 use Rattle.std.specs.Simd.{first_chunks}
 use Rattle.std.proofs.lemmas.List.{append_assoc, append-nil, length-map}
@@ -38,14 +39,16 @@ events : MarkingView → StreamState → List (List ℕ) → List Event
 events m s [] = []
 events m s (p ∷ ps) = map Finds (all_marked m (found_in s p)) ++ (shows (pcr_at s.packets p) ++ events m (taken s p) ps)
 
-finding_events : (feed : FeedView) (fs : List FindingView) (es : List Event) → fed_events feed (map Finds fs ++ es) ≡ fed_all feed fs ++ fed_events (after_all feed fs) es
+finding_events : (feed : FeedView) (fs : List FindingView) (es : List Event) → fed_events feed (map Finds fs ++ es) ≡ fed_all feed fs
+    ++ fed_events (after_all feed fs) es
 unfolding fed_events fed_event after_event fed_all after_all
 finding_events feed [] es = refl
 finding_events feed (f ∷ fs) es =
     ap (λ (xs : List Fed). fed_one feed f ++ xs) (finding_events (after_one feed f) fs es)
     ∙ sym (append_assoc (fed_one feed f) (fed_all (after_one feed f) fs) (fed_events (after_all (after_one feed f) fs) es))
 
-clock_events : (feed : FeedView) (pcr : Option FoundPcr) (es : List Event) → fed_events feed (shows pcr ++ es) ≡ fed_pcr feed pcr ++ fed_events (after_pcr feed pcr) es
+clock_events : (feed : FeedView) (pcr : Option FoundPcr) (es : List Event) → fed_events feed (shows pcr ++ es) ≡ fed_pcr feed pcr
+    ++ fed_events (after_pcr feed pcr) es
 unfolding fed_events fed_event after_event shows fed_pcr after_pcr
 clock_events feed None es = refl
 clock_events feed (Some pcr) es = refl
@@ -62,10 +65,12 @@ packet_events s feed (p ∷ ps) es =
     let on = after_pcr next pcr in
     let same : on.marking ≡ feed.marking = packet_marking feed (found_in s p) pcr in
     let rest = fed_events (after_packets (taken s p) on ps) es in
-    ap (λ (l : List Event). fed_events feed l) (append_assoc (map Finds found) (shows pcr ++ later) es ∙ ap (λ (l : List Event). map Finds found ++ l) (append_assoc (shows pcr) later es))
+    ap (λ (l : List Event). fed_events feed l)
+    (append_assoc (map Finds found) (shows pcr ++ later) es ∙ ap (λ (l : List Event). map Finds found ++ l) (append_assoc (shows pcr) later es))
     ∙ finding_events feed found (shows pcr ++ (later ++ es))
     ∙ ap (λ (xs : List Fed). fed_all feed found ++ xs) (clock_events next pcr (later ++ es)
-    ∙ ap (λ (xs : List Fed). fed_pcr next pcr ++ xs) (ap (λ (k : MarkingView). fed_events on (events k (taken s p) ps ++ es)) (sym same) ∙ packet_events (taken s p) on ps es))
+    ∙ ap (λ (xs : List Fed). fed_pcr next pcr ++ xs)
+    (ap (λ (k : MarkingView). fed_events on (events k (taken s p) ps ++ es)) (sym same) ∙ packet_events (taken s p) on ps es))
     ∙ sym (append_assoc (fed_all feed found) (fed_pcr next pcr) (fed_packets (taken s p) on ps ++ rest))
     ∙ sym (append_assoc (fed_all feed found ++ fed_pcr next pcr) (fed_packets (taken s p) on ps) rest)
 
@@ -93,7 +98,8 @@ finds_in m s (p ∷ ps) =
     let later = events m (taken s p) ps in
     finds_more (map Finds found) (shows pcr ++ later)
     ∙ ap (λ (l : List FindingView). l ++ finds (shows pcr ++ later)) (finds_found found)
-    ∙ ap (λ (l : List FindingView). found ++ l) (finds_more (shows pcr) later ∙ ap (λ (l : List FindingView). l ++ finds later) (finds_shown pcr) ∙ finds_in m (taken s p) ps)
+    ∙ ap (λ (l : List FindingView). found ++ l)
+    (finds_more (shows pcr) later ∙ ap (λ (l : List FindingView). l ++ finds later) (finds_shown pcr) ∙ finds_in m (taken s p) ps)
     ∙ sym (marked_both m (found_in s p) (found_in_all (taken s p) ps))
 
 -- 2. Bytes as packets
@@ -103,7 +109,8 @@ put_back zero bytes = refl
 put_back (suc k) bytes =
     let at : 188 * suc k ≡ 188 + 188 * k = omega arith in
     append_assoc (take 188 bytes) (concat (first_chunks 188 k (drop 188 bytes))) (drop (188 * suc k) bytes)
-    ∙ ap (λ (xs : List ℕ). take 188 bytes ++ (concat (first_chunks 188 k (drop 188 bytes)) ++ xs)) (ap (λ (i : ℕ). drop i bytes) at ∙ sym (drop-drop (188 * k) 188 bytes))
+    ∙ ap (λ (xs : List ℕ). take 188 bytes ++ (concat (first_chunks 188 k (drop 188 bytes)) ++ xs))
+    (ap (λ (i : ℕ). drop i bytes) at ∙ sym (drop-drop (188 * k) 188 bytes))
     ∙ ap (λ (xs : List ℕ). take 188 bytes ++ xs) (put_back k (drop 188 bytes))
     ∙ take-append-drop 188 bytes
 
@@ -111,7 +118,8 @@ sizes : (k : ℕ) (bytes : List ℕ) → 188 * k ≤ length bytes → All is_pac
 sizes zero bytes fits = All-nil is_packet
 sizes (suc k) bytes fits =
     let left : length (drop 188 bytes) ≡ length bytes - 188 = length-drop 188 bytes in
-    All-cons is_packet (take 188 bytes) (first_chunks 188 k (drop 188 bytes)) (length-take-le 188 bytes (omega (arith, fits))) (sizes k (drop 188 bytes) (omega (arith, left, fits)))
+    All-cons is_packet (take 188 bytes) (first_chunks 188 k (drop 188 bytes)) (length-take-le 188 bytes (omega (arith, fits)))
+    (sizes k (drop 188 bytes) (omega (arith, left, fits)))
 
 chunk_count : (k : ℕ) (bytes : List ℕ) → length (first_chunks 188 k bytes) ≡ k
 chunk_count zero bytes = refl
@@ -157,11 +165,13 @@ all_fed first bytes =
     let fs = all_marked first.marking (rest_found (carried bytes)) in
     let same : (after_packets start first ps).marking ≡ first.marking = packets_marking start first ps in
     ap (λ (k : MarkingView). fed_packets start first ps ++ fed_to_end (after_packets start first ps) (all_marked k (rest_found (carried bytes)))) same
-    ∙ sym (packet_events start first ps (map Finds fs) ∙ ap (λ (xs : List Fed). fed_packets start first ps ++ xs) (last_events (after_packets start first ps) fs))
+    ∙ sym (packet_events start first ps (map Finds fs)
+    ∙ ap (λ (xs : List Fed). fed_packets start first ps ++ xs) (last_events (after_packets start first ps) fs))
 
 -- 3. Streams before their first unit
 
-first_at : (streams : List FedStreamView) (k : ℕ) (x : Key) → slice_get (keys streams) k ≡ Some x → (s : FedStreamView) × (slice_get streams k ≡ Some s) × (key s ≡ x)
+first_at : (streams : List FedStreamView) (k : ℕ) (x : Key) → slice_get (keys streams) k ≡ Some x →
+    (s : FedStreamView) × (slice_get streams k ≡ Some s) × (key s ≡ x)
 first_at [] k x at = absurd cc
 first_at (s ∷ streams) zero x at = (s, refl, let is : key s ≡ x = cc in is)
 first_at (s ∷ streams) (suc k) x at = first_at streams k x at
@@ -182,7 +192,8 @@ first_keys streams a = record {
       a.own j k s.0 t.0 s.1 t.1 (ap (λ (z : Key). z.pid) s.2 ∙ same ∙ sym (ap (λ (z : Key). z.pid) t.2));
 }
 
-first_waits : (earliest : ℕ) (marking : MarkingView) (maps : List MapView) (streams : List FedStreamView) → earliest < 2 ^ 33 → AreFirst streams → AreWaiting earliest (keys streams) (feed_first earliest marking maps streams)
+first_waits : (earliest : ℕ) (marking : MarkingView) (maps : List MapView) (streams : List FedStreamView) → earliest < 2 ^ 33 → AreFirst streams →
+    AreWaiting earliest (keys streams) (feed_first earliest marking maps streams)
 unfolding AreUnfed
 first_waits earliest marking maps streams early a = record {
   are = first_keys streams a;
@@ -216,7 +227,9 @@ by_one_constant earliest marking maps streams bytes early a none =
           let units : s.units ≡ none_so_far pid true = ap (λ (t : FedStreamView). t.units) is in
           let before : s.before ≡ None = ap (λ (t : FedStreamView). t.before) is in
           ap (λ (xs : List Fed). units_fed k xs) all
-          ∙ m.are_moved k s at (subst (λ u. AreAlone u (finds es)) (sym units) (subst (λ (l : List FindingView). AreAlone (none_so_far pid true) l) (sym found) (alone_first pid true fs alone)))
+          ∙ m.are_moved k s at
+          (subst (λ u. AreAlone u (finds es)) (sym units)
+          (subst (λ (l : List FindingView). AreAlone (none_so_far pid true) l) (sym found) (alone_first pid true fs alone)))
           ∙ ap (λ (b : Option ℕ). moved m.base b (map (λ (w : CarriedUnit). w.unit) (to_come s.units (finds es)))) before
           ∙ ap (λ u. moved m.base None (map (λ (w : CarriedUnit). w.unit) (to_come u (finds es)))) units
           ∙ ap (λ (l : List FindingView). moved m.base None (map (λ (w : CarriedUnit). w.unit) (to_come (none_so_far pid true) l))) found

@@ -1,5 +1,6 @@
 -- What is fed of each stream, step by step, where nothing is told.
-use Rattle.std.proofs.Common.{◌≡◌, ◌≢◌, ◌∙◌, ◌⊎◌, ◌<◌, ℕ, zero, suc, ◌+◌, ◌++◌, eqb, Bool, true, false, Option, Some, None, List, [], ◌∷◌, map, slice_get, refl, sym, ap, ap₂, subst, inl, inr, arith}
+use Rattle.std.proofs.Common.{◌≡◌, ◌≢◌, ◌∙◌, ◌⊎◌, ◌<◌, ℕ, zero, suc, ◌+◌, ◌++◌, eqb, Bool, true, false, Option, Some, None, List, [], ◌∷◌, map, slice_get, refl}
+use Rattle.std.proofs.Common.{sym, ap, ap₂, subst, inl, inr, arith}
 use Rattle.std.specs.Option.{option_to_list}
 use Rattle.std.proofs.lemmas.Bool.Decides.{eqb_tells}
 use Rattle.std.proofs.lemmas.Grind.{flat_map-append}
@@ -11,13 +12,15 @@ use Rattle.es_units.specs.CarriedUnits.{CarriedUnit, role_of}
 use Rattle.es_units.specs.Stamps.{dts_after, moved}
 use Rattle.es_units.specs.UnitSteps.{UnitsSoFar, after_finding, ended_unit, goes_on_as, made_whole}
 use Rattle.es_feed.specs.EachStream.{fed_if, have_fault, units_fed}
-use Rattle.es_feed.specs.Feeding.{Fed, FedStreamView, FeedView, after_found, after_one, before_with, fed_by, fed_ends, fed_last, fed_one, fed_with, origin_after, place_from, stream_with, whole_by}
+use Rattle.es_feed.specs.Feeding.{Fed, FedStreamView, FeedView, after_found, after_one, before_with, fed_by, fed_ends, fed_last, fed_one, fed_with}
+use Rattle.es_feed.specs.Feeding.{origin_after, place_from, stream_with, whole_by}
 use Rattle.es_feed.specs.Ticks.{after_own, fed_own, without_unit}
 use Rattle.es_feed.specs.declared.due.Due.{Due}
 use Rattle.es_feed.specs.declared.found_pcr.FoundPcr.{FoundPcr}
 use Rattle.es_feed.specs.declared.origin.Origin.{Origin}
 use Rattle.es_feed.proofs.OneStream.{fixed, other_role}
-use Rattle.es_feed.proofs.FedSteps.{Gives, HasBase, Out, Rests, clock_out, fault_split, finding_gives, finding_rests, fixes_fixed, given_before, given_others, given_units, units_in}
+use Rattle.es_feed.proofs.FedSteps.{Gives, HasBase, Out, Rests, clock_out, fault_split, finding_gives, finding_rests, fixes_fixed, given_before, given_others}
+use Rattle.es_feed.proofs.FedSteps.{given_units, units_in}
 use Rattle.es_feed.proofs.ListedStreams.{AreKeys, Key, get_set_other, get_set_same, key, key_at, keys, not_placed, placed, set_keys}
 use Rattle.es_feed.proofs.OwnUnits.{AreAlone, alone_after, alone_without, to_come, to_come_early, to_come_more}
 
@@ -52,11 +55,13 @@ finds (e ∷ es) = found_by e ++ finds es
 
 -- a stream of which it gives nothing
 unfoldable pub Skips : Event → FedStreamView → Type 0
-Skips e r = (es : List Event) → AreAlone r.units (finds (e ∷ es)) → (to_come r.units (finds (e ∷ es)) ≡ to_come r.units (finds es)) × AreAlone r.units (finds es)
+Skips e r = (es : List Event) → AreAlone r.units (finds (e ∷ es)) →
+    (to_come r.units (finds (e ∷ es)) ≡ to_come r.units (finds es)) × AreAlone r.units (finds es)
 
 -- a stream that is t after it, and of which it gives w
 unfoldable pub Takes : Event → FedStreamView → FedStreamView → Option CarriedUnit → Type 0
-Takes e s t w = (es : List Event) → AreAlone s.units (finds (e ∷ es)) → (to_come s.units (finds (e ∷ es)) ≡ option_to_list w ++ to_come t.units (finds es)) × AreAlone t.units (finds es)
+Takes e s t w = (es : List Event) → AreAlone s.units (finds (e ∷ es)) →
+    (to_come s.units (finds (e ∷ es)) ≡ option_to_list w ++ to_come t.units (finds es)) × AreAlone t.units (finds es)
 
 pub record StepRests (feed : FeedView) (e : Event) : Type 0 where
   pub rests : Rests feed (after_event feed e) (fed_event feed e)
@@ -108,14 +113,18 @@ clock_takes : (pcr : FoundPcr) (s : FedStreamView) → Takes (Shows pcr) s (with
 unfolding Takes finds found_by
 clock_takes pcr s es alone = (to_come_early s.units (finds es) alone, alone_without s.units (finds es) alone)
 
-other_skips : (ks : List Key) (ss : List FedStreamView) (f : FindingView) (j k : ℕ) (s r : FedStreamView) (own : Bool) → AreKeys ks → keys ss ≡ ks → slice_get ss j ≡ Some s → has_pid s.units.pid f.pid ≡ true →
+other_skips : (ks : List Key) (ss : List FedStreamView) (f : FindingView) (j k : ℕ) (s r : FedStreamView) (own : Bool) → AreKeys ks → keys ss ≡ ks →
+    slice_get ss j ≡ Some s → has_pid s.units.pid f.pid ≡ true →
     k ≢ j → slice_get ss k ≡ Some r → has_pid r.units.pid f.pid ≡ own → Skips (Finds f) r
 other_skips ks ss f j k s r true are is at has apart there own =
-    absurd (apart (are.own k j (key r) (key s) (ap (λ (l : List Key). slice_get l k) (sym is) ∙ key_at ss k r there) (ap (λ (l : List Key). slice_get l j) (sym is) ∙ key_at ss j s at)
+    absurd (apart
+    (are.own k j (key r) (key s) (ap (λ (l : List Key). slice_get l k) (sym is) ∙ key_at ss k r there)
+    (ap (λ (l : List Key). slice_get l j) (sym is) ∙ key_at ss j s at)
     (same_pid r.units.pid s.units.pid f.pid own has)))
 other_skips ks ss f j k s r false are is at has apart there own = finding_skips f r own
 
-finding_step : (ks : List Key) (feed : FeedView) (f : FindingView) (place : Option ℕ) → AreKeys ks → keys feed.streams ≡ ks → place_from f.pid 0 feed.streams ≡ place → have_fault (fed_one feed f) ≡ false →
+finding_step : (ks : List Key) (feed : FeedView) (f : FindingView) (place : Option ℕ) → AreKeys ks → keys feed.streams ≡ ks →
+    place_from f.pid 0 feed.streams ≡ place → have_fault (fed_one feed f) ≡ false →
     Step feed (Finds f)
 unfolding Step after_event fed_event
 finding_step ks feed f None are is at none = inl (record {
@@ -163,7 +172,8 @@ pub record Advances (base k : ℕ) (s : FedStreamView) (e : Event) (es : List Ev
   pub come : to_come s.units (finds (e ∷ es)) ≡ option_to_list given ++ to_come after.units (finds es)
   pub alone : AreAlone after.units (finds es)
 
-pub rests_on : (base k : ℕ) (feed : FeedView) (e : Event) (es : List Event) (s : FedStreamView) → StepRests feed e → k < 255 → slice_get feed.streams k ≡ Some s → AreAlone s.units (finds (e ∷ es)) →
+pub rests_on : (base k : ℕ) (feed : FeedView) (e : Event) (es : List Event) (s : FedStreamView) → StepRests feed e → k < 255 →
+    slice_get feed.streams k ≡ Some s → AreAlone s.units (finds (e ∷ es)) →
     Advances base k s e es (after_event feed e) (fed_event feed e)
 unfolding Skips moved dts_after units_in
 rests_on base k feed e es s r few at alone =
@@ -178,13 +188,15 @@ rests_on base k feed e es s r few at alone =
       alone = skips.1;
     }
 
-gives_other : (base k : ℕ) (ks : List Key) (feed : FeedView) (e : Event) (es : List Event) (s : FedStreamView) (g : StepGives feed e) → AreKeys ks → keys feed.streams ≡ ks → k ≢ g.place → slice_get feed.streams k ≡ Some s →
+gives_other : (base k : ℕ) (ks : List Key) (feed : FeedView) (e : Event) (es : List Event) (s : FedStreamView) (g : StepGives feed e) → AreKeys ks →
+    keys feed.streams ≡ ks → k ≢ g.place → slice_get feed.streams k ≡ Some s →
     AreAlone s.units (finds (e ∷ es)) → Advances base k s e es (after_event feed e) (fed_event feed e)
 unfolding Skips moved dts_after units_in
 gives_other base k ks feed e es s g are is apart at alone =
     let skips = g.skips k s apart at es alone in
     let w = g.gives in
-    let number : g.stream.number ≡ g.place = are.number g.place (key g.stream) (ap (λ (l : List Key). slice_get l g.place) (sym is) ∙ key_at feed.streams g.place g.stream w.at) in
+    let number : g.stream.number ≡ g.place =
+    are.number g.place (key g.stream) (ap (λ (l : List Key). slice_get l g.place) (sym is) ∙ key_at feed.streams g.place g.stream w.at) in
     record {
       after = s;
       at = ap (λ (ss : List FedStreamView). slice_get ss k) w.streams
@@ -197,17 +209,21 @@ gives_other base k ks feed e es s g are is apart at alone =
       alone = skips.1;
     }
 
-gives_own : (base : ℕ) (ks : List Key) (feed : FeedView) (e : Event) (es : List Event) (g : StepGives feed e) → AreKeys ks → keys feed.streams ≡ ks → HasBase g.gives.due feed.origin g.whole base →
-    have_fault (fed_event feed e) ≡ false → AreAlone g.stream.units (finds (e ∷ es)) → Advances base g.place g.stream e es (after_event feed e) (fed_event feed e)
+gives_own : (base : ℕ) (ks : List Key) (feed : FeedView) (e : Event) (es : List Event) (g : StepGives feed e) → AreKeys ks → keys feed.streams ≡ ks →
+    HasBase g.gives.due feed.origin g.whole base →
+    have_fault (fed_event feed e) ≡ false → AreAlone g.stream.units (finds (e ∷ es)) →
+    Advances base g.place g.stream e es (after_event feed e) (fed_event feed e)
 unfolding Takes
 gives_own base ks feed e es g are is here none alone =
     let takes = g.takes es alone in
     let w = g.gives in
-    let number : g.stream.number ≡ g.place = are.number g.place (key g.stream) (ap (λ (l : List Key). slice_get l g.place) (sym is) ∙ key_at feed.streams g.place g.stream w.at) in
+    let number : g.stream.number ≡ g.place =
+    are.number g.place (key g.stream) (ap (λ (l : List Key). slice_get l g.place) (sym is) ∙ key_at feed.streams g.place g.stream w.at) in
     let told : have_fault (option_to_list (fed_with w.due feed.origin g.stream.number g.stream.before g.whole)) ≡ false = ap have_fault (sym w.fed_is) ∙ none in
     record {
       after = stream_with w.due feed.origin g.after g.whole;
-      at = ap (λ (ss : List FedStreamView). slice_get ss g.place) w.streams ∙ get_set_same feed.streams g.place g.stream (stream_with w.due feed.origin g.after g.whole) w.at;
+      at = ap (λ (ss : List FedStreamView). slice_get ss g.place) w.streams
+          ∙ get_set_same feed.streams g.place g.stream (stream_with w.due feed.origin g.after g.whole) w.at;
       given = g.whole;
       units = ap (λ (n : ℕ). units_fed n (fed_event feed e)) (sym number) ∙ ap (λ (xs : List Fed). units_fed g.stream.number xs) w.fed_is
           ∙ given_units w.due feed.origin g.stream.number base g.stream.before g.whole here told;
@@ -217,8 +233,10 @@ gives_own base ks feed e es g are is here none alone =
       alone = takes.1;
     }
 
-pub gives_by : (base k : ℕ) (ks : List Key) (feed : FeedView) (e : Event) (es : List Event) (s : FedStreamView) (g : StepGives feed e) → AreKeys ks → keys feed.streams ≡ ks → HasBase g.gives.due feed.origin g.whole base →
-    have_fault (fed_event feed e) ≡ false → slice_get feed.streams k ≡ Some s → AreAlone s.units (finds (e ∷ es)) → ((eqb k g.place ≡ true) × (k ≡ g.place)) ⊎ ((eqb k g.place ≡ false) × (k ≢ g.place)) →
+pub gives_by : (base k : ℕ) (ks : List Key) (feed : FeedView) (e : Event) (es : List Event) (s : FedStreamView) (g : StepGives feed e) → AreKeys ks →
+    keys feed.streams ≡ ks → HasBase g.gives.due feed.origin g.whole base →
+    have_fault (fed_event feed e) ≡ false → slice_get feed.streams k ≡ Some s → AreAlone s.units (finds (e ∷ es)) →
+    ((eqb k g.place ≡ true) × (k ≡ g.place)) ⊎ ((eqb k g.place ≡ false) × (k ≢ g.place)) →
     Advances base k s e es (after_event feed e) (fed_event feed e)
 gives_by base k ks feed e es s g are is here none at alone (inr apart) = gives_other base k ks feed e es s g are is apart.1 at alone
 gives_by base k ks feed e es s g are is here none at alone (inl same) =
@@ -242,8 +260,10 @@ unfolding Step
 step_fixed base feed e (inl r) is = r.rests.origin ∙ is
 step_fixed base feed e (inr g) is = g.gives.origin ∙ (fixes_fixed g.gives.due feed.origin g.whole base is).then_fixed
 
-pub step_advances : (base k : ℕ) (ks : List Key) (feed : FeedView) (e : Event) (es : List Event) (s : FedStreamView) → Step feed e → AreKeys ks → keys feed.streams ≡ ks → k < 255 → feed.origin ≡ fixed base →
-    have_fault (fed_event feed e) ≡ false → slice_get feed.streams k ≡ Some s → AreAlone s.units (finds (e ∷ es)) → Advances base k s e es (after_event feed e) (fed_event feed e)
+pub step_advances : (base k : ℕ) (ks : List Key) (feed : FeedView) (e : Event) (es : List Event) (s : FedStreamView) → Step feed e → AreKeys ks →
+    keys feed.streams ≡ ks → k < 255 → feed.origin ≡ fixed base →
+    have_fault (fed_event feed e) ≡ false → slice_get feed.streams k ≡ Some s → AreAlone s.units (finds (e ∷ es)) →
+    Advances base k s e es (after_event feed e) (fed_event feed e)
 unfolding Step
 step_advances base k ks feed e es s (inl r) are is few known none at alone = rests_on base k feed e es s r few at alone
 step_advances base k ks feed e es s (inr g) are is few known none at alone =
@@ -291,13 +311,16 @@ last_own d base k t ts from none =
     let number = from_head k t ts from in
     let own = moved base t.before (units_in w) in
     flat_map-append (fed_if t.number) one rest
-    ∙ ap (λ (us : List AccessUnit). us ++ units_fed t.number rest) (given_units d (fixed base) t.number base t.before w fixes.here (fault_split one rest none).0)
+    ∙ ap (λ (us : List AccessUnit). us ++ units_fed t.number rest)
+    (given_units d (fixed base) t.number base t.before w fixes.here (fault_split one rest none).0)
     ∙ ap (λ (o : Origin). own ++ units_fed t.number (fed_last d o ts)) fixes.then_fixed
     ∙ ap (λ (us : List AccessUnit). own ++ us) (last_none d base (k + 1) t.number ts (from_next k t ts from) (omega (arith, number)))
     ∙ append-nil own
 
-last_later : (d : Due) (base k i : ℕ) (t : FedStreamView) (ts : List FedStreamView) (us : List AccessUnit) → AreFrom k (t ∷ ts) → have_fault (fed_last d (fixed base) (t ∷ ts)) ≡ false →
-    (have_fault (fed_last d (fixed base) ts) ≡ false → units_fed ((k + 1) + i) (fed_last d (fixed base) ts) ≡ us) → units_fed (k + suc i) (fed_last d (fixed base) (t ∷ ts)) ≡ us
+last_later : (d : Due) (base k i : ℕ) (t : FedStreamView) (ts : List FedStreamView) (us : List AccessUnit) → AreFrom k (t ∷ ts) →
+    have_fault (fed_last d (fixed base) (t ∷ ts)) ≡ false →
+    (have_fault (fed_last d (fixed base) ts) ≡ false → units_fed ((k + 1) + i) (fed_last d (fixed base) ts) ≡ us) →
+    units_fed (k + suc i) (fed_last d (fixed base) (t ∷ ts)) ≡ us
 unfolding fed_last
 last_later d base k i t ts us from none rest_is =
     let w = ended_unit false t.units.unit in
@@ -306,14 +329,17 @@ last_later d base k i t ts us from none rest_is =
     let fixes = fixes_fixed d (fixed base) w base refl in
     let number = from_head k t ts from in
     let n : k + suc i ≡ (k + 1) + i = omega arith in
-    let clear : have_fault (fed_last d (fixed base) ts) ≡ false = ap (λ (o : Origin). have_fault (fed_last d o ts)) (sym fixes.then_fixed) ∙ (fault_split one rest none).1 in
+    let clear : have_fault (fed_last d (fixed base) ts) ≡ false = ap (λ (o : Origin). have_fault (fed_last d o ts)) (sym fixes.then_fixed)
+    ∙ (fault_split one rest none).1 in
     flat_map-append (fed_if (k + suc i)) one rest
-    ∙ ap (λ (us : List AccessUnit). us ++ units_fed (k + suc i) rest) (given_others d (fixed base) t.number (k + suc i) t.before w (λ same. let no : ⊥ = omega (arith, same, number) in no))
+    ∙ ap (λ (us : List AccessUnit). us ++ units_fed (k + suc i) rest)
+    (given_others d (fixed base) t.number (k + suc i) t.before w (λ same. let no : ⊥ = omega (arith, same, number) in no))
     ∙ ap (λ (o : Origin). units_fed (k + suc i) (fed_last d o ts)) fixes.then_fixed
     ∙ ap (λ (m : ℕ). units_fed m (fed_last d (fixed base) ts)) n
     ∙ rest_is clear
 
-pub last_moved : (d : Due) (base k i : ℕ) (ss : List FedStreamView) (s : FedStreamView) → AreFrom k ss → slice_get ss i ≡ Some s → have_fault (fed_last d (fixed base) ss) ≡ false →
+pub last_moved : (d : Due) (base k i : ℕ) (ss : List FedStreamView) (s : FedStreamView) → AreFrom k ss → slice_get ss i ≡ Some s →
+    have_fault (fed_last d (fixed base) ss) ≡ false →
     units_fed (k + i) (fed_last d (fixed base) ss) ≡ moved base s.before (units_in (ended_unit false s.units.unit))
 last_moved d base k i [] s from at none = absurd cc
 last_moved d base k zero (t ∷ ts) s from at none =
@@ -322,4 +348,5 @@ last_moved d base k zero (t ∷ ts) s from at none =
     ap (λ (n : ℕ). units_fed n (fed_last d (fixed base) (t ∷ ts))) n ∙ last_own d base k t ts from none
     ∙ ap (λ (x : FedStreamView). moved base x.before (units_in (ended_unit false x.units.unit))) same
 last_moved d base k (suc i) (t ∷ ts) s from at none =
-    last_later d base k i t ts (moved base s.before (units_in (ended_unit false s.units.unit))) from none (λ clear. last_moved d base (k + 1) i ts s (from_next k t ts from) at clear)
+    last_later d base k i t ts (moved base s.before (units_in (ended_unit false s.units.unit))) from none
+    (λ clear. last_moved d base (k + 1) i ts s (from_next k t ts from) at clear)

@@ -1,5 +1,6 @@
 -- What is fed of each stream, where the first unit of all fixes the constant.
-use Rattle.std.proofs.Common.{◌≡◌, ◌≢◌, ◌∙◌, ◌⊎◌, ◌<◌, ◌≤◌, ℕ, zero, suc, ◌+◌, ◌++◌, ◌^◌, eqb, true, false, Option, Some, None, Result, List, [], ◌∷◌, length, slice_get, slice_set, refl, sym, ap, ap₂, subst, inl, inr, arith}
+use Rattle.std.proofs.Common.{◌≡◌, ◌≢◌, ◌∙◌, ◌⊎◌, ◌<◌, ◌≤◌, ℕ, zero, suc, ◌+◌, ◌++◌, ◌^◌, eqb, true, false, Option, Some, None, Result, List, [], ◌∷◌, length}
+use Rattle.std.proofs.Common.{slice_get, slice_set, refl, sym, ap, ap₂, subst, inl, inr, arith}
 use Rattle.std.specs.Option.{option_to_list}
 use Rattle.std.proofs.lemmas.Bool.Decides.{eqb_tells}
 use Rattle.std.proofs.lemmas.Grind.{flat_map-append}
@@ -11,19 +12,22 @@ use Rattle.es_units.specs.Stamps.{distance, dts_after, dts_at, moved, unit_at}
 use Rattle.es_units.specs.UnitSteps.{ended_unit}
 use Rattle.es_units.proofs.MovedUnits.{moved_in_turn}
 use Rattle.es_feed.specs.EachStream.{BeginsAt, fed_if, have_fault, units_fed}
-use Rattle.es_feed.specs.Feeding.{Fed, FedStreamView, FeedView, at_moment, before_with, base_of, due_of, fed_ends, fed_last, fed_with, origin_after, stream_with}
+use Rattle.es_feed.specs.Feeding.{Fed, FedStreamView, FeedView, at_moment, before_with, base_of, due_of, fed_ends, fed_last, fed_with, origin_after}
+use Rattle.es_feed.specs.Feeding.{stream_with}
 use Rattle.es_feed.specs.Origins.{no_origin}
 use Rattle.es_feed.specs.declared.due.Due.{Due}
 use Rattle.es_feed.specs.declared.origin.Origin.{Origin}
 use Rattle.es_feed.proofs.OneStream.{fixed}
 use Rattle.es_feed.proofs.FedSteps.{Fixes, HasBase, fault_split, fixes_first, fixes_fixed, given_ok, units_in}
-use Rattle.es_feed.proofs.FedEach.{AreFrom, Event, Step, StepGives, StepRests, after_event, fed_event, fed_events, finds, gives_by, last_moved, rests_on, step, step_advances, step_fixed, step_keys, units_of_all}
+use Rattle.es_feed.proofs.FedEach.{AreFrom, Event, Step, StepGives, StepRests, after_event, fed_event, fed_events, finds, gives_by, last_moved, rests_on, step}
+use Rattle.es_feed.proofs.FedEach.{step_advances, step_fixed, step_keys, units_of_all}
 use Rattle.es_feed.proofs.ListedStreams.{AreKeys, Key, get_set_other, get_set_same, key, key_at, keys}
 use Rattle.es_feed.proofs.OwnUnits.{AreAlone, to_come, to_come_last}
 
 -- 1. Once it is fixed
 
-units_more : (base k : ℕ) (before after : Option ℕ) (given : Option CarriedUnit) (all later : List CarriedUnit) (fed more : List Fed) → units_fed k fed ≡ moved base before (units_in given) →
+units_more : (base k : ℕ) (before after : Option ℕ) (given : Option CarriedUnit) (all later : List CarriedUnit) (fed more : List Fed) →
+    units_fed k fed ≡ moved base before (units_in given) →
     after ≡ dts_after base before (units_in given) → all ≡ option_to_list given ++ later → units_fed k more ≡ moved base after (units_of_all later) →
     units_fed k (fed ++ more) ≡ moved base before (units_of_all all)
 unfolding units_in
@@ -42,7 +46,8 @@ from_keys ks ss are is i t at =
     let number : t.number ≡ i = are.number i (key t) (ap (λ (l : List Key). slice_get l i) (sym is) ∙ key_at ss i t at) in
     omega (arith, number)
 
-ends_moved : (base k : ℕ) (ks : List Key) (feed : FeedView) (s : FedStreamView) → AreKeys ks → keys feed.streams ≡ ks → feed.origin ≡ fixed base → slice_get feed.streams k ≡ Some s →
+ends_moved : (base k : ℕ) (ks : List Key) (feed : FeedView) (s : FedStreamView) → AreKeys ks → keys feed.streams ≡ ks → feed.origin ≡ fixed base →
+    slice_get feed.streams k ≡ Some s →
     have_fault (fed_ends feed) ≡ false → units_fed k (fed_ends feed) ≡ moved base s.before (units_of_all (to_come s.units []))
 unfolding units_in
 ends_moved base k ks feed s are is known at none =
@@ -54,8 +59,10 @@ ends_moved base k ks feed s are is known at none =
     ∙ last_moved d base 0 k feed.streams s (from_keys ks feed.streams are is) at clear
     ∙ ap (λ (ws : List CarriedUnit). moved base s.before (units_of_all ws)) (sym (to_come_last s.units))
 
-fixed_moved : (base k : ℕ) (ks : List Key) (feed : FeedView) (es : List Event) (s : FedStreamView) → AreKeys ks → keys feed.streams ≡ ks → k < 255 → feed.origin ≡ fixed base → slice_get feed.streams k ≡ Some s →
-    AreAlone s.units (finds es) → have_fault (fed_events feed es) ≡ false → units_fed k (fed_events feed es) ≡ moved base s.before (units_of_all (to_come s.units (finds es)))
+fixed_moved : (base k : ℕ) (ks : List Key) (feed : FeedView) (es : List Event) (s : FedStreamView) → AreKeys ks → keys feed.streams ≡ ks → k < 255 →
+    feed.origin ≡ fixed base → slice_get feed.streams k ≡ Some s →
+    AreAlone s.units (finds es) → have_fault (fed_events feed es) ≡ false →
+    units_fed k (fed_events feed es) ≡ moved base s.before (units_of_all (to_come s.units (finds es)))
 unfolding fed_events finds
 fixed_moved base k ks feed [] s are is few known at alone none = ends_moved base k ks feed s are is known at none
 fixed_moved base k ks feed (e ∷ es) s are is few known at alone none =
@@ -63,7 +70,8 @@ fixed_moved base k ks feed (e ∷ es) s are is few known at alone none =
     let two = fault_split (fed_event feed e) (fed_events next es) none in
     let st = step ks feed e are is two.0 in
     let a = step_advances base k ks feed e es s st are is few known two.0 at alone in
-    units_more base k s.before a.after.before a.given (to_come s.units (finds (e ∷ es))) (to_come a.after.units (finds es)) (fed_event feed e) (fed_events next es) a.units a.before a.come
+    units_more base k s.before a.after.before a.given (to_come s.units (finds (e ∷ es))) (to_come a.after.units (finds es)) (fed_event feed e)
+    (fed_events next es) a.units a.before a.come
     (fixed_moved base k ks next es a.after are (step_keys ks feed e st is) few (step_fixed base feed e st known) a.at a.alone two.1)
 
 -- 2. Before the first unit of all
@@ -79,8 +87,10 @@ in_range e w = omega arith
 unfoldable pub AreUnfed : List FedStreamView → Type 0
 AreUnfed ss = (i : ℕ) (t : FedStreamView) → slice_get ss i ≡ Some t → t.before ≡ None
 
-begins_with : (d : Due) (o : Origin) (n count : ℕ) (before : Option ℕ) (u : CarriedUnit) (more : List Fed) → base_of d o u ≡ distance d.earliest u.unit.dts → before ≡ None → d.earliest < 2 ^ 33 → n < count →
-    have_fault (option_to_list (fed_with d o n before (Some u)) ++ more) ≡ false → BeginsAt d.earliest count (option_to_list (fed_with d o n before (Some u)) ++ more)
+begins_with : (d : Due) (o : Origin) (n count : ℕ) (before : Option ℕ) (u : CarriedUnit) (more : List Fed) → base_of d o u ≡ distance d.earliest u.unit.dts →
+    before ≡ None → d.earliest < 2 ^ 33 → n < count →
+    have_fault (option_to_list (fed_with d o n before (Some u)) ++ more) ≡ false →
+    BeginsAt d.earliest count (option_to_list (fed_with d o n before (Some u)) ++ more)
 unfolding fed_with BeginsAt unit_at dts_at
 begins_with d o n count before u more base unfed early few none =
     let ok = given_ok d o n (distance d.earliest u.unit.dts) before u more base none in
@@ -106,7 +116,8 @@ numbers_next : (count : ℕ) (t : FedStreamView) (ts : List FedStreamView) → (
     (i : ℕ) (u : FedStreamView) → slice_get ts i ≡ Some u → u.number < count
 numbers_next count t ts below i u at = below (suc i) u at
 
-same_given : (d : Due) (o : Origin) (n base : ℕ) (before : Option ℕ) (w : Option CarriedUnit) → HasBase d o w base → fed_with d o n before w ≡ fed_with d (fixed base) n before w
+same_given : (d : Due) (o : Origin) (n base : ℕ) (before : Option ℕ) (w : Option CarriedUnit) → HasBase d o w base →
+    fed_with d o n before w ≡ fed_with d (fixed base) n before w
 unfolding fed_with
 same_given d o n base before None here = refl
 same_given d o n base before (Some u) here =
@@ -118,9 +129,11 @@ same_last : (d : Due) (base : ℕ) (t : FedStreamView) (ts : List FedStreamView)
     ≡ option_to_list (fed_with d (fixed base) t.number t.before w) ++ fed_last d (origin_after d (fixed base) w) ts
 same_last d base t ts w fixes =
     let known = fixes_fixed d (fixed base) w base refl in
-    ap₂ (λ (one : Option Fed) (o : Origin). option_to_list one ++ fed_last d o ts) (same_given d no_origin t.number base t.before w fixes.here) (fixes.then_fixed ∙ sym known.then_fixed)
+    ap₂ (λ (one : Option Fed) (o : Origin). option_to_list one ++ fed_last d o ts) (same_given d no_origin t.number base t.before w fixes.here)
+    (fixes.then_fixed ∙ sym known.then_fixed)
 
-last_first_by : (d : Due) (count : ℕ) (t : FedStreamView) (ts : List FedStreamView) (w : Option CarriedUnit) → ended_unit false t.units.unit ≡ w → d.earliest < 2 ^ 33 → t.before ≡ None → t.number < count →
+last_first_by : (d : Due) (count : ℕ) (t : FedStreamView) (ts : List FedStreamView) (w : Option CarriedUnit) → ended_unit false t.units.unit ≡ w →
+    d.earliest < 2 ^ 33 → t.before ≡ None → t.number < count →
     have_fault (fed_last d no_origin (t ∷ ts)) ≡ false → (have_fault (fed_last d no_origin ts) ≡ false → LastFirst d count ts) → LastFirst d count (t ∷ ts)
 unfolding fed_last origin_after fed_with
 last_first_by d count t ts None is early unfed few none later =
@@ -143,10 +156,12 @@ last_first_by d count t ts (Some u) is early unfed few none later =
       range = in_range d.earliest u.unit.dts;
       same = one ∙ same_last d base t ts (Some u) fixes ∙ sym (ap (λ (w : Option CarriedUnit). here (fixed base) w) is);
       begins = subst (λ (xs : List Fed). BeginsAt d.earliest count xs) (sym one)
-          (begins_with d no_origin t.number count t.before u (fed_last d (origin_after d no_origin (Some u)) ts) (fixes.here u refl) unfed early few (ap have_fault (sym one) ∙ none));
+          (begins_with d no_origin t.number count t.before u (fed_last d (origin_after d no_origin (Some u)) ts) (fixes.here u refl) unfed early few
+          (ap have_fault (sym one) ∙ none));
     }
 
-last_first : (d : Due) (count : ℕ) (ss : List FedStreamView) → d.earliest < 2 ^ 33 → AreUnfed ss → ((i : ℕ) (t : FedStreamView) → slice_get ss i ≡ Some t → t.number < count) →
+last_first : (d : Due) (count : ℕ) (ss : List FedStreamView) → d.earliest < 2 ^ 33 → AreUnfed ss →
+    ((i : ℕ) (t : FedStreamView) → slice_get ss i ≡ Some t → t.number < count) →
     have_fault (fed_last d no_origin ss) ≡ false → LastFirst d count ss
 unfolding fed_last BeginsAt
 last_first d count [] early unfed few none = record { base = 0; range = omega arith; same = refl; begins = tt }
@@ -176,13 +191,15 @@ pub record AreWaiting (earliest : ℕ) (ks : List Key) (feed : FeedView) : Type 
 place_below : (ks : List Key) (ss : List FedStreamView) (k : ℕ) (s : FedStreamView) → keys ss ≡ ks → slice_get ss k ≡ Some s → k < length ks
 place_below ks ss k s is at = slice_get_within ks k (key s) (ap (λ (l : List Key). slice_get l k) (sym is) ∙ key_at ss k s at)
 
-number_below : (ks : List Key) (ss : List FedStreamView) (k : ℕ) (s : FedStreamView) → AreKeys ks → keys ss ≡ ks → slice_get ss k ≡ Some s → s.number < length ks
+number_below : (ks : List Key) (ss : List FedStreamView) (k : ℕ) (s : FedStreamView) → AreKeys ks → keys ss ≡ ks → slice_get ss k ≡ Some s →
+    s.number < length ks
 number_below ks ss k s are is at =
     let number : s.number ≡ k = are.number k (key s) (ap (λ (l : List Key). slice_get l k) (sym is) ∙ key_at ss k s at) in
     let below = place_below ks ss k s is at in
     omega (arith, number, below)
 
-ends_first : (earliest : ℕ) (ks : List Key) (feed : FeedView) → AreWaiting earliest ks feed → have_fault (fed_ends feed) ≡ false → MovedByFirst earliest (length ks) feed []
+ends_first : (earliest : ℕ) (ks : List Key) (feed : FeedView) → AreWaiting earliest ks feed → have_fault (fed_ends feed) ≡ false →
+    MovedByFirst earliest (length ks) feed []
 unfolding fed_events finds units_in
 ends_first earliest ks feed w none =
     let d = due_of feed in
@@ -205,8 +222,10 @@ ends_first earliest ks feed w none =
     }
 
 -- a step that feeds nothing
-rests_first : (earliest : ℕ) (ks : List Key) (feed : FeedView) (e : Event) (es : List Event) (r : StepRests feed e) → AreWaiting earliest ks feed → have_fault (fed_events feed (e ∷ es)) ≡ false →
-    (AreWaiting earliest ks (after_event feed e) → have_fault (fed_events (after_event feed e) es) ≡ false → MovedByFirst earliest (length ks) (after_event feed e) es) →
+rests_first : (earliest : ℕ) (ks : List Key) (feed : FeedView) (e : Event) (es : List Event) (r : StepRests feed e) → AreWaiting earliest ks feed →
+    have_fault (fed_events feed (e ∷ es)) ≡ false →
+    (AreWaiting earliest ks (after_event feed e) → have_fault (fed_events (after_event feed e) es) ≡ false →
+    MovedByFirst earliest (length ks) (after_event feed e) es) →
     MovedByFirst earliest (length ks) feed (e ∷ es)
 unfolding fed_events AreUnfed
 rests_first earliest ks feed e es r w none later =
@@ -231,7 +250,8 @@ rests_first earliest ks feed e es r w none later =
           let below = place_below ks feed.streams k s w.is at in
           let fits : k < 255 = let few = w.few in omega (arith, below, few) in
           let a = rests_on rest.base k feed e es s r fits at alone in
-          units_more rest.base k s.before a.after.before a.given (to_come s.units (finds (e ∷ es))) (to_come a.after.units (finds es)) (fed_event feed e) (fed_events next es) a.units a.before a.come
+          units_more rest.base k s.before a.after.before a.given (to_come s.units (finds (e ∷ es))) (to_come a.after.units (finds es)) (fed_event feed e)
+          (fed_events next es) a.units a.before a.come
           (rest.are_moved k a.after a.at a.alone);
     }
 
@@ -239,15 +259,18 @@ unfed_by : (ss ts : List FedStreamView) (j i : ℕ) (s after t : FedStreamView) 
     AreUnfed ss → slice_get ts i ≡ Some t → ((eqb i j ≡ true) × (i ≡ j)) ⊎ ((eqb i j ≡ false) × (i ≢ j)) → t.before ≡ None
 unfolding AreUnfed
 unfed_by ss ts j i s after t are at new unfed there (inl same) =
-    let is : Some after ≡ Some t = sym (get_set_same ss j s after at) ∙ ap (λ (l : List FedStreamView). slice_get l j) (sym are) ∙ ap (λ (n : ℕ). slice_get ts n) (sym same.1) ∙ there in
+    let is : Some after ≡ Some t = sym (get_set_same ss j s after at) ∙ ap (λ (l : List FedStreamView). slice_get l j) (sym are)
+    ∙ ap (λ (n : ℕ). slice_get ts n) (sym same.1) ∙ there in
     let one : after ≡ t = cc in
     ap (λ (x : FedStreamView). x.before) (sym one) ∙ new
 unfed_by ss ts j i s after t are at new unfed there (inr apart) =
     unfed i t (sym (get_set_other ss j i after apart.1) ∙ ap (λ (l : List FedStreamView). slice_get l i) (sym are) ∙ there)
 
 -- a step that gives no unit, of a stream
-gives_none : (earliest : ℕ) (ks : List Key) (feed : FeedView) (e : Event) (es : List Event) (g : StepGives feed e) → g.whole ≡ None → AreWaiting earliest ks feed → have_fault (fed_events feed (e ∷ es)) ≡ false →
-    (AreWaiting earliest ks (after_event feed e) → have_fault (fed_events (after_event feed e) es) ≡ false → MovedByFirst earliest (length ks) (after_event feed e) es) →
+gives_none : (earliest : ℕ) (ks : List Key) (feed : FeedView) (e : Event) (es : List Event) (g : StepGives feed e) → g.whole ≡ None →
+    AreWaiting earliest ks feed → have_fault (fed_events feed (e ∷ es)) ≡ false →
+    (AreWaiting earliest ks (after_event feed e) → have_fault (fed_events (after_event feed e) es) ≡ false →
+    MovedByFirst earliest (length ks) (after_event feed e) es) →
     MovedByFirst earliest (length ks) feed (e ∷ es)
 unfolding fed_events AreUnfed Step fed_with origin_after before_with
 gives_none earliest ks feed e es g whole w none later =
@@ -267,19 +290,23 @@ gives_none earliest ks feed e es g whole w none later =
       unfed = λ i t at. unfed_by feed.streams next.streams g.place i g.stream after t v.streams v.at unfed_after w.unfed at (eqb_tells i g.place);
     } in
     let rest = later waits two.1 in
-    let empty : fed_event feed e ≡ [] = v.fed_is ∙ ap (λ (x : Option CarriedUnit). option_to_list (fed_with v.due feed.origin g.stream.number g.stream.before x)) whole in
+    let empty : fed_event feed e ≡ [] =
+    v.fed_is ∙ ap (λ (x : Option CarriedUnit). option_to_list (fed_with v.due feed.origin g.stream.number g.stream.before x)) whole in
     record {
       base = rest.base;
       range = rest.range;
       begins = subst (λ (xs : List Fed). BeginsAt earliest (length ks) (xs ++ fed_events next es)) (sym empty) rest.begins;
       are_moved = λ k s at alone.
-          let a = gives_by rest.base k ks feed e es s g w.are w.is (λ u some. absurd (let no : None ≡ Some u = sym whole ∙ some in cc)) two.0 at alone (eqb_tells k g.place) in
-          units_more rest.base k s.before a.after.before a.given (to_come s.units (finds (e ∷ es))) (to_come a.after.units (finds es)) (fed_event feed e) (fed_events next es) a.units a.before a.come
+          let a = gives_by rest.base k ks feed e es s g w.are w.is (λ u some. absurd (let no : None ≡ Some u = sym whole ∙ some in cc)) two.0 at alone
+          (eqb_tells k g.place) in
+          units_more rest.base k s.before a.after.before a.given (to_come s.units (finds (e ∷ es))) (to_come a.after.units (finds es)) (fed_event feed e)
+          (fed_events next es) a.units a.before a.come
           (rest.are_moved k a.after a.at a.alone);
     }
 
 -- the step that gives the first unit of all
-gives_first : (earliest : ℕ) (ks : List Key) (feed : FeedView) (e : Event) (es : List Event) (g : StepGives feed e) (u : CarriedUnit) → g.whole ≡ Some u → AreWaiting earliest ks feed →
+gives_first : (earliest : ℕ) (ks : List Key) (feed : FeedView) (e : Event) (es : List Event) (g : StepGives feed e) (u : CarriedUnit) → g.whole ≡ Some u →
+    AreWaiting earliest ks feed →
     have_fault (fed_events feed (e ∷ es)) ≡ false → MovedByFirst earliest (length ks) feed (e ∷ es)
 unfolding fed_events Step AreUnfed
 gives_first earliest ks feed e es g u whole w none =
@@ -287,7 +314,8 @@ gives_first earliest ks feed e es g u whole w none =
     let v = g.gives in
     let base = distance v.due.earliest u.unit.dts in
     let two = fault_split (fed_event feed e) (fed_events next es) none in
-    let fixes : Fixes v.due feed.origin g.whole base = subst (λ (x : Option CarriedUnit). Fixes v.due feed.origin x base) (sym whole) (fixes_first v.due feed.origin u w.unknown) in
+    let fixes : Fixes v.due feed.origin g.whole base =
+    subst (λ (x : Option CarriedUnit). Fixes v.due feed.origin x base) (sym whole) (fixes_first v.due feed.origin u w.unknown) in
     let st : Step feed e = inr g in
     let known : next.origin ≡ fixed base = v.origin ∙ fixes.then_fixed in
     let due : v.due.earliest ≡ earliest = v.due_is ∙ w.earliest_is in
@@ -299,25 +327,31 @@ gives_first earliest ks feed e es g u whole w none =
       range = in_range v.due.earliest u.unit.dts;
       begins = subst (λ (n : ℕ). BeginsAt n (length ks) (fed_event feed e ++ fed_events next es)) due
           (subst (λ (xs : List Fed). BeginsAt v.due.earliest (length ks) (xs ++ fed_events next es)) (sym one)
-          (begins_with v.due feed.origin g.stream.number (length ks) g.stream.before u (fed_events next es) (fixes.here u whole) (w.unfed g.place g.stream v.at) early
+          (begins_with v.due feed.origin g.stream.number (length ks) g.stream.before u (fed_events next es) (fixes.here u whole) (w.unfed g.place g.stream v.at)
+          early
           (number_below ks feed.streams g.place g.stream w.are w.is v.at) (ap (λ (xs : List Fed). have_fault (xs ++ fed_events next es)) (sym one) ∙ none)));
       are_moved = λ k s at alone.
           let below = place_below ks feed.streams k s w.is at in
           let fits : k < 255 = let few = w.few in omega (arith, below, few) in
           let a = gives_by base k ks feed e es s g w.are w.is fixes.here two.0 at alone (eqb_tells k g.place) in
-          units_more base k s.before a.after.before a.given (to_come s.units (finds (e ∷ es))) (to_come a.after.units (finds es)) (fed_event feed e) (fed_events next es) a.units a.before a.come
+          units_more base k s.before a.after.before a.given (to_come s.units (finds (e ∷ es))) (to_come a.after.units (finds es)) (fed_event feed e)
+          (fed_events next es) a.units a.before a.come
           (fixed_moved base k ks next es a.after w.are (step_keys ks feed e st w.is) fits known a.at a.alone two.1);
     }
 
-gives_some : (earliest : ℕ) (ks : List Key) (feed : FeedView) (e : Event) (es : List Event) (g : StepGives feed e) (whole : Option CarriedUnit) → g.whole ≡ whole → AreWaiting earliest ks feed →
+gives_some : (earliest : ℕ) (ks : List Key) (feed : FeedView) (e : Event) (es : List Event) (g : StepGives feed e) (whole : Option CarriedUnit) →
+    g.whole ≡ whole → AreWaiting earliest ks feed →
     have_fault (fed_events feed (e ∷ es)) ≡ false →
-    (AreWaiting earliest ks (after_event feed e) → have_fault (fed_events (after_event feed e) es) ≡ false → MovedByFirst earliest (length ks) (after_event feed e) es) →
+    (AreWaiting earliest ks (after_event feed e) → have_fault (fed_events (after_event feed e) es) ≡ false →
+    MovedByFirst earliest (length ks) (after_event feed e) es) →
     MovedByFirst earliest (length ks) feed (e ∷ es)
 gives_some earliest ks feed e es g None whole w none later = gives_none earliest ks feed e es g whole w none later
 gives_some earliest ks feed e es g (Some u) whole w none later = gives_first earliest ks feed e es g u whole w none
 
-step_first : (earliest : ℕ) (ks : List Key) (feed : FeedView) (e : Event) (es : List Event) → Step feed e → AreWaiting earliest ks feed → have_fault (fed_events feed (e ∷ es)) ≡ false →
-    (AreWaiting earliest ks (after_event feed e) → have_fault (fed_events (after_event feed e) es) ≡ false → MovedByFirst earliest (length ks) (after_event feed e) es) →
+step_first : (earliest : ℕ) (ks : List Key) (feed : FeedView) (e : Event) (es : List Event) → Step feed e → AreWaiting earliest ks feed →
+    have_fault (fed_events feed (e ∷ es)) ≡ false →
+    (AreWaiting earliest ks (after_event feed e) → have_fault (fed_events (after_event feed e) es) ≡ false →
+    MovedByFirst earliest (length ks) (after_event feed e) es) →
     MovedByFirst earliest (length ks) feed (e ∷ es)
 unfolding Step
 step_first earliest ks feed e es (inl r) w none later = rests_first earliest ks feed e es r w none later
@@ -331,7 +365,9 @@ ends_clear : (feed : FeedView) → have_fault (fed_events feed []) ≡ false →
 unfolding fed_events
 ends_clear feed none = none
 
-pub first_moved : (earliest : ℕ) (ks : List Key) (feed : FeedView) (es : List Event) → AreWaiting earliest ks feed → have_fault (fed_events feed es) ≡ false → MovedByFirst earliest (length ks) feed es
+pub first_moved : (earliest : ℕ) (ks : List Key) (feed : FeedView) (es : List Event) → AreWaiting earliest ks feed → have_fault (fed_events feed es) ≡ false →
+    MovedByFirst earliest (length ks) feed es
 first_moved earliest ks feed [] w none = ends_first earliest ks feed w (ends_clear feed none)
 first_moved earliest ks feed (e ∷ es) w none =
-    step_first earliest ks feed e es (step ks feed e w.are w.is (event_clear feed e es none)) w none (λ waits clear. first_moved earliest ks (after_event feed e) es waits clear)
+    step_first earliest ks feed e es (step ks feed e w.are w.is (event_clear feed e es none)) w none
+    (λ waits clear. first_moved earliest ks (after_event feed e) es waits clear)

@@ -1,5 +1,6 @@
 -- The map of which a finding has a version.
-use Rattle.std.proofs.Common.{◌≡◌, ◌∙◌, ◌<◌, ◌≤◌, ℕ, ◌+◌, Bool, if◌then◌else◌, true, false, Option, Some, None, List, length, drop, get_or, slice_get, slice_set, refl, sym, ap, add-one, inl, inr, ◌⊎◌, arith}
+use Rattle.std.proofs.Common.{◌≡◌, ◌∙◌, ◌<◌, ◌≤◌, ℕ, ◌+◌, Bool, if◌then◌else◌, true, false, Option, Some, None, List, length, drop, get_or, slice_get}
+use Rattle.std.proofs.Common.{slice_set, refl, sym, ap, add-one, inl, inr, ◌⊎◌, arith}
 use Rattle.std.specs.Prelude.{is_some}
 use Rattle.std.proofs.Math.Seq.{drop-cons}
 use Rattle.std.proofs.lemmas.List.{drop_all}
@@ -9,14 +10,16 @@ use Rattle.es_feed.specs.declared.feed_fault.NewMap.{NewMap}
 use Rattle.psi_tables.specs.ProgramMap.{StreamView}
 use Rattle.es_feed.specs.declared.fed_map.NamedStream.{NamedStream}
 use Rattle.es_feed.specs.Maps.{MapView}
-use Rattle.es_feed.specs.Maps.{change_of, change_place, map_change, map_from, map_with, maps_after, new_map, set_at, set_place, current_found, first_other, is_named}
+use Rattle.es_feed.specs.Maps.{change_of, change_place, map_change, map_from, map_with, maps_after, new_map, set_at, set_place, current_found, first_other}
+use Rattle.es_feed.specs.Maps.{is_named}
 
 map_step : (f : FindingView) (k : ℕ) (ms : List MapView) (other : MapView) → k < length ms →
     map_from f k (drop k ms) ≡ (if is_some (current_found (get_or ms k other).program_number f) then Some k else map_from f (k + 1) (drop (k + 1) ms))
 unfolding map_from
 map_step f k ms other below = rw (drop-cons ms k other below, add-one k) refl
 
-pub map_at : (other : MapView) (f : FindingView) (k : ℕ) (ms : List MapView) (has own : Bool) → k < length ms → has ≡ is_some (current_found (get_or ms k other).program_number f) → has ≡ own →
+pub map_at : (other : MapView) (f : FindingView) (k : ℕ) (ms : List MapView) (has own : Bool) → k < length ms →
+    has ≡ is_some (current_found (get_or ms k other).program_number f) → has ≡ own →
     map_from f k (drop k ms) ≡ (if own then Some k else map_from f (k + 1) (drop (k + 1) ms))
 map_at other f k ms has own below is so =
     map_step f k ms other below ∙ ap (λ (b : Bool). if b then Some k else map_from f (k + 1) (drop (k + 1) ms)) (sym is ∙ so)
@@ -25,7 +28,8 @@ pub map_end : (f : FindingView) (k : ℕ) (ms : List MapView) → length ms ≤ 
 unfolding map_from
 map_end f k ms over = rw (drop_all k ms over) refl
 
-there : (ms : List MapView) (k : ℕ) → k < length ms → ((x : MapView) × (k < length ms) × (slice_get ms k ≡ Some x) × (get_or ms k x ≡ x)) ⊎ ((length ms ≤ k) × (slice_get ms k ≡ None)) →
+there : (ms : List MapView) (k : ℕ) → k < length ms →
+    ((x : MapView) × (k < length ms) × (slice_get ms k ≡ Some x) × (get_or ms k x ≡ x)) ⊎ ((length ms ≤ k) × (slice_get ms k ≡ None)) →
     (m : MapView) × (slice_get ms k ≡ Some m)
 there ms k below (inl one) = (one.0, one.2)
 there ms k below (inr none) = absurd (let no : ⊥ = omega (arith, below, none.0) in no)
@@ -38,11 +42,13 @@ pub no_map_new : (f : FindingView) (ms : List MapView) → None ≡ map_from f 0
 unfolding change_place
 no_map_new f ms none = rw (sym none) refl
 
-after_is : (f : FindingView) (ms : List MapView) (k : ℕ) (m : MapView) → Some k ≡ map_from f 0 ms → slice_get ms k ≡ Some m → maps_after f ms ≡ slice_set ms k (map_with m (current_found m.program_number f))
+after_is : (f : FindingView) (ms : List MapView) (k : ℕ) (m : MapView) → Some k ≡ map_from f 0 ms → slice_get ms k ≡ Some m →
+    maps_after f ms ≡ slice_set ms k (map_with m (current_found m.program_number f))
 unfolding set_place set_at
 after_is f ms k m at is = rw (sym at) (rw is refl)
 
-new_is : (f : FindingView) (ms : List MapView) (k : ℕ) (m : MapView) → Some k ≡ map_from f 0 ms → slice_get ms k ≡ Some m → new_map f ms ≡ map_change m f.packet (current_found m.program_number f)
+new_is : (f : FindingView) (ms : List MapView) (k : ℕ) (m : MapView) → Some k ≡ map_from f 0 ms → slice_get ms k ≡ Some m →
+    new_map f ms ≡ map_change m f.packet (current_found m.program_number f)
 unfolding change_place change_of
 new_is f ms k m at is = rw (sym at) (rw is refl)
 

@@ -1,5 +1,6 @@
 -- What is fed of packets.
-use Rattle.std.proofs.Common.{◌≡◌, ◌∙◌, ◌<◌, ◌≤◌, ℕ, ◌+◌, ◌*◌, ◌++◌, ◌/◌, false, Option, Some, None, List, [], ◌∷◌, All, length, take, drop, slice_get, refl, sym, ap, ap₂, arith, take-add, length-append, drop_at}
+use Rattle.std.proofs.Common.{◌≡◌, ◌∙◌, ◌<◌, ◌≤◌, ℕ, ◌+◌, ◌*◌, ◌++◌, ◌/◌, false, Option, Some, None, List, [], ◌∷◌, All, length, take, drop, slice_get, refl}
+use Rattle.std.proofs.Common.{sym, ap, ap₂, arith, take-add, length-append, drop_at}
 use Rattle.std.specs.List.{concat}
 use Rattle.std.specs.Simd.{first_chunks}
 use Rattle.std.proofs.lemmas.List.{append_assoc, append-nil, map-append}
@@ -14,11 +15,13 @@ use Rattle.demux.specs.Views.{FindingView}
 use Rattle.es_feed.specs.Clocks.{is_on, pcr_at}
 use Rattle.es_feed.specs.Maps.{MapView}
 use Rattle.es_feed.specs.declared.found_pcr.FoundPcr.{FoundPcr}
-use Rattle.es_feed.specs.Feeding.{Fed, FedStreamView, FeedView, after_at, after_all, after_one, after_place, fed_all, fed_ends, fed_to_end, greatest_of, place_from, watched}
+use Rattle.es_feed.specs.Feeding.{Fed, FedStreamView, FeedView, after_at, after_all, after_one, after_place, fed_all, fed_ends, fed_to_end, greatest_of}
+use Rattle.es_feed.specs.Feeding.{place_from, watched}
 use Rattle.es_feed.specs.Laws.{FedWithoutClock}
 use Rattle.es_feed.specs.Maps.{clock_pid, map_from, set_place}
 use Rattle.es_feed.specs.StreamFeeding.{PacketFeedView, TakesPackets, fed_rest, is_packet}
-use Rattle.es_feed.specs.Ticks.{after_end_at, after_late, after_own, after_packet, after_packets, after_passed, after_pcr, after_shown, after_tick, fed_packet, fed_packets, fed_pcr, is_tick, late_in, passed_from, with_shown, with_tick}
+use Rattle.es_feed.specs.Ticks.{after_end_at, after_late, after_own, after_packet, after_packets, after_passed, after_pcr, after_shown, after_tick, fed_packet}
+use Rattle.es_feed.specs.Ticks.{fed_packets, fed_pcr, is_tick, late_in, passed_from, with_shown, with_tick}
 use Rattle.es_feed.proofs.FedUnits.{in_turn}
 use Rattle.given_marks.specs.Marking.{MarkingView, all_marked, marked}
 
@@ -29,7 +32,8 @@ unfolding taken_all
 taken_more s [] qs = refl
 taken_more s (p ∷ ps) qs = taken_more (taken s p) ps qs
 
-pub after_more : (s : StreamState) (feed : FeedView) (ps qs : List (List ℕ)) → after_packets s feed (ps ++ qs) ≡ after_packets (taken_all s ps) (after_packets s feed ps) qs
+pub after_more : (s : StreamState) (feed : FeedView) (ps qs : List (List ℕ)) →
+    after_packets s feed (ps ++ qs) ≡ after_packets (taken_all s ps) (after_packets s feed ps) qs
 unfolding taken_all after_packets
 after_more s feed [] qs = refl
 after_more s feed (p ∷ ps) qs = after_more (taken s p) (after_packet feed (found_in s p) (pcr_at s.packets p)) ps qs
@@ -69,7 +73,8 @@ pub record TakenSoFar (old new : PacketFeedView) (bytes : List ℕ) (at : ℕ) (
 
 pub none_taken : (s : PacketFeedView) (bytes : List ℕ) (fed : List Fed) → TakenSoFar s s bytes 0 fed fed
 unfolding taken_all after_packets fed_packets
-none_taken s bytes fed = record { packets = []; sizes = All-nil is_packet; are = refl; within = omega arith; demux_is = refl; feed_is = refl; fed_is = sym (append-nil fed) }
+none_taken s bytes fed =
+    record { packets = []; sizes = All-nil is_packet; are = refl; within = omega arith; demux_is = refl; feed_is = refl; fed_is = sym (append-nil fed) }
 
 one_taken : (s : StreamState) (feed : FeedView) (p : List ℕ) → taken_all s (p ∷ []) ≡ taken s p
 unfolding taken_all
@@ -99,7 +104,8 @@ one_more old mid new bytes rest packet at before middle after so is long front s
       are = concat-append ps (packet ∷ []) ∙ ap (λ (xs : List ℕ). concat ps ++ xs) (append-nil packet ∙ front ∙ ap (λ (r : List ℕ). take 188 r) is)
           ∙ ap (λ (xs : List ℕ). xs ++ take 188 (drop at bytes)) so.are ∙ sym (take-add at 188 bytes);
       within = long;
-      demux_is = takes ∙ ap (λ (s : StreamState). taken s packet) d ∙ sym (one_taken (taken_all old.demux ps) mid.feed packet) ∙ sym (taken_more old.demux ps (packet ∷ []));
+      demux_is = takes ∙ ap (λ (s : StreamState). taken s packet) d ∙ sym (one_taken (taken_all old.demux ps) mid.feed packet)
+          ∙ sym (taken_more old.demux ps (packet ∷ []));
       feed_is = feeds ∙ sym (one_after mid.demux mid.feed packet) ∙ ap (λ (s : StreamState). after_packets s mid.feed (packet ∷ [])) d
           ∙ ap (λ (t : FeedView). after_packets (taken_all old.demux ps) t (packet ∷ [])) f ∙ sym (after_more old.demux old.feed ps (packet ∷ []));
       fed_is = grows ∙ ap (λ (xs : List Fed). middle ++ xs) (sym (one_fed mid.demux mid.feed packet))
@@ -110,7 +116,8 @@ one_more old mid new bytes rest packet at before middle after so is long front s
           ∙ ap (λ (xs : List Fed). before ++ xs) (sym (fed_more old.demux old.feed ps (packet ∷ [])));
     }
 
-pub all_taken : (old new : PacketFeedView) (bytes : List ℕ) (at : ℕ) (before after : List Fed) → TakenSoFar old new bytes at before after → length bytes < at + 188 →
+pub all_taken : (old new : PacketFeedView) (bytes : List ℕ) (at : ℕ) (before after : List Fed) → TakenSoFar old new bytes at before after →
+    length bytes < at + 188 →
     TakesPackets old new bytes at before after
 all_taken old new bytes at before after so few = record {
   packets = so.packets;
@@ -283,6 +290,7 @@ without_clock s feed (p ∷ ps) none =
       ap (λ (xs : List Fed). (fed_all feed found ++ xs) ++ fed_packets (taken s p) (after_packet feed (found_in s p) pcr) ps) (not_fed next pcr left)
           ∙ ap (λ (xs : List Fed). xs ++ fed_packets (taken s p) (after_packet feed (found_in s p) pcr) ps) (append-nil (fed_all feed found))
           ∙ ap (λ (t : FeedView). fed_all feed found ++ fed_packets (taken s p) t ps) (not_after next pcr left)
-          ∙ ap (λ (xs : List Fed). fed_all feed found ++ xs) (later.1 ∙ ap (λ (k : MarkingView). fed_all next (all_marked k (found_in_all (taken s p) ps))) same)
+          ∙ ap (λ (xs : List Fed). fed_all feed found ++ xs)
+          (later.1 ∙ ap (λ (k : MarkingView). fed_all next (all_marked k (found_in_all (taken s p) ps))) same)
           ∙ sym (in_turn feed found more) ∙ ap (λ (l : List FindingView). fed_all feed l) both,
     )

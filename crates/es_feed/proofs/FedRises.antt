@@ -1,5 +1,6 @@
 -- The DTS of each stream rise, whatever is told.
-use Rattle.std.proofs.Common.{◌≡◌, ◌≢◌, ◌∙◌, ◌⊎◌, ◌<◌, ℕ, zero, suc, ◌+◌, ◌++◌, ◌==◌, eqb, ◌^◌, ◌||◌, Bool, true, false, if◌then◌else◌, IfSome, Option, Some, None, Err, List, [], ◌∷◌, slice_get, slice_set, refl, sym, ap, ap₂, subst, inl, inr, arith}
+use Rattle.std.proofs.Common.{◌≡◌, ◌≢◌, ◌∙◌, ◌⊎◌, ◌<◌, ℕ, zero, suc, ◌+◌, ◌++◌, ◌==◌, eqb, ◌^◌, ◌||◌, Bool, true, false, if◌then◌else◌, IfSome, Option, Some}
+use Rattle.std.proofs.Common.{None, Err, List, [], ◌∷◌, slice_get, slice_set, refl, sym, ap, ap₂, subst, inl, inr, arith}
 use Rattle.std.specs.Option.{option_to_list}
 use Rattle.std.specs.Prelude.{nat_le}
 use Rattle.std.proofs.lemmas.Bool.Decides.{eqb_tells, nat_tests}
@@ -15,9 +16,13 @@ use Rattle.es_units.specs.declared.stamps.StampFault.TheVariants.{DtsNotIncreasi
 use Rattle.es_units.proofs.StampFaults.{or_none}
 use Rattle.es_feed.specs.Clocks.{is_on, jump_of}
 use Rattle.es_feed.specs.EachStream.{RiseFrom, fed_if, units_fed}
-use Rattle.es_feed.specs.Feeding.{Fed, FedStreamView, FeedView, after_at, after_found, after_one, after_place, ahead_of, at_moment, base_of, before_with, due_of, fed_at, fed_by, fed_ends, fed_last, fed_one, fed_place, fed_with, greatest_of, last_dts, after_unit, fed_unit, map_fed, origin_after, other_fed, packet_fault, packet_fed, place_from, restart_fed, restart_in, seen_in, seen_place, stream_with, told_by, told_fed, told_first, told_of, unless_ahead, unless_fault, watched, whole_by, greatest_pts_limit}
+use Rattle.es_feed.specs.Feeding.{Fed, FedStreamView, FeedView, after_at, after_found, after_one, after_place, ahead_of, at_moment, base_of, before_with}
+use Rattle.es_feed.specs.Feeding.{due_of, fed_at, fed_by, fed_ends, fed_last, fed_one, fed_place, fed_with, greatest_of, last_dts, after_unit, fed_unit}
+use Rattle.es_feed.specs.Feeding.{map_fed, origin_after, other_fed, packet_fault, packet_fed, place_from, restart_fed, restart_in, seen_in, seen_place}
+use Rattle.es_feed.specs.Feeding.{stream_with, told_by, told_fed, told_first, told_of, unless_ahead, unless_fault, watched, whole_by, greatest_pts_limit}
 use Rattle.es_feed.specs.Maps.{clock_pid, new_map, other_stream}
-use Rattle.es_feed.specs.Ticks.{after_end, after_end_at, after_late, after_passed, after_shown, after_tick, fed_end, fed_end_at, fed_late, fed_passed, fed_shown, fed_tick, is_silence, is_tick, jump_fed, last_unit, late_in, passed_from, silence, tick, with_shown, without_unit}
+use Rattle.es_feed.specs.Ticks.{after_end, after_end_at, after_late, after_passed, after_shown, after_tick, fed_end, fed_end_at, fed_late, fed_passed}
+use Rattle.es_feed.specs.Ticks.{fed_shown, fed_tick, is_silence, is_tick, jump_fed, last_unit, late_in, passed_from, silence, tick, with_shown, without_unit}
 use Rattle.es_feed.specs.declared.due.Due.{Due}
 use Rattle.es_feed.specs.declared.feed_fault.ClockJump.{ClockJump}
 use Rattle.es_feed.specs.declared.feed_fault.FeedFault.{FeedFault}
@@ -67,15 +72,20 @@ over_before base b stamp is =
     let some = some_distance d (no_less (d == 0) (nat_le (2 ^ 32) d) (DtsNotIncreasing (distance stamp (b + base))) is) in
     omega (arith, some)
 
-above : (base : ℕ) (before : Option ℕ) (u : AccessUnit) → unit_fault greatest_pts_limit base before u ≡ None → IfSome before (λ dts. dts < (unit_at base before u).dts)
+above : (base : ℕ) (before : Option ℕ) (u : AccessUnit) → unit_fault greatest_pts_limit base before u ≡ None →
+    IfSome before (λ dts. dts < (unit_at base before u).dts)
 unfolding unit_at dts_at
 above base None u none = tt
 above base (Some b) u none =
-    over_before base b u.dts (or_none (dts_not_increasing base (Some b) u.dts) (or_fault (pts_out_of_range greatest_pts_limit base (dts_at base (Some b) u.dts) u.pts) (dts_too_far (dts_at base (Some b) u.dts))) none).0
+    over_before base b u.dts
+    (or_none (dts_not_increasing base (Some b) u.dts)
+    (or_fault (pts_out_of_range greatest_pts_limit base (dts_at base (Some b) u.dts) u.pts) (dts_too_far (dts_at base (Some b) u.dts))) none).0
 
-ahead_rises : (n : ℕ) (before ahead : Option ℕ) (u : AccessUnit) → IfSome before (λ dts. dts < u.dts) → Rises before (last_dts before (unless_ahead ahead u)) (fed_if n (n, unless_ahead ahead u))
+ahead_rises : (n : ℕ) (before ahead : Option ℕ) (u : AccessUnit) → IfSome before (λ dts. dts < u.dts) →
+    Rises before (last_dts before (unless_ahead ahead u)) (fed_if n (n, unless_ahead ahead u))
 unfolding RiseFrom last_of unless_ahead last_dts fed_if
-ahead_rises n before None u over = subst (λ (us : List AccessUnit). Rises before (Some u.dts) us) (sym (own_unit n u)) (record { rise = (over, tt); last = refl })
+ahead_rises n before None u over =
+    subst (λ (us : List AccessUnit). Rises before (Some u.dts) us) (sym (own_unit n u)) (record { rise = (over, tt); last = refl })
 ahead_rises n before (Some by) u over = nothing_rises before
 
 unless_rises : (n : ℕ) (before greatest : Option ℕ) (fault : Option StampFault) (u : AccessUnit) → (fault ≡ None → IfSome before (λ dts. dts < u.dts)) →
@@ -84,12 +94,14 @@ unfolding unless_fault last_dts fed_if
 unless_rises n before greatest None u over = ahead_rises n before (ahead_of greatest u.dts) u (over refl)
 unless_rises n before greatest (Some fault) u over = nothing_rises before
 
-given_rises : (d : Due) (o : Origin) (n : ℕ) (before : Option ℕ) (w : Option CarriedUnit) → Rises before (before_with d o before w) (units_fed n (option_to_list (fed_with d o n before w)))
+given_rises : (d : Due) (o : Origin) (n : ℕ) (before : Option ℕ) (w : Option CarriedUnit) →
+    Rises before (before_with d o before w) (units_fed n (option_to_list (fed_with d o n before w)))
 unfolding fed_with before_with
 given_rises d o n before None = nothing_rises before
 given_rises d o n before (Some u) =
     let base = base_of d o u in
-    subst (λ (us : List AccessUnit). Rises before (last_dts before (at_moment d.greatest base before u.unit)) us) (sym (append-nil (fed_if n (n, at_moment d.greatest base before u.unit))))
+    subst (λ (us : List AccessUnit). Rises before (last_dts before (at_moment d.greatest base before u.unit)) us)
+    (sym (append-nil (fed_if n (n, at_moment d.greatest base before u.unit))))
     (unless_rises n before d.greatest (unit_fault greatest_pts_limit base before u.unit) (unit_at base before u.unit) (λ none. above base before u.unit none))
 
 -- 2. A step, of each stream
@@ -97,7 +109,8 @@ given_rises d o n before (Some u) =
 -- the streams have the same keys, and of each what is fed rises
 record Steps (feed next : FeedView) (fed : List Fed) : Type 0 where
   same : keys next.streams ≡ keys feed.streams
-  each : (k : ℕ) (s : FedStreamView) → k < 255 → slice_get feed.streams k ≡ Some s → (t : FedStreamView) × (slice_get next.streams k ≡ Some t) × Rises s.before t.before (units_fed k fed)
+  each : (k : ℕ) (s : FedStreamView) → k < 255 → slice_get feed.streams k ≡ Some s →
+      (t : FedStreamView) × (slice_get next.streams k ≡ Some t) × Rises s.before t.before (units_fed k fed)
 
 -- nothing of a stream that has a number
 abbrev Unitless : List Fed → Type 0
@@ -124,8 +137,10 @@ record GivesOne (feed next : FeedView) (fed : List Fed) (j : ℕ) (s t : FedStre
   streams : next.streams ≡ slice_set feed.streams j (stream_with due origin t w)
   units : (n : ℕ) → n < 255 → units_fed n fed ≡ units_fed n (option_to_list (fed_with due origin s.number s.before w))
 
-gives_at : (feed next : FeedView) (fed : List Fed) (j k : ℕ) (s t r : FedStreamView) (w : Option CarriedUnit) → AreKeys (keys feed.streams) → (g : GivesOne feed next fed j s t w) → k < 255 →
-    slice_get feed.streams k ≡ Some r → ((eqb k j ≡ true) × (k ≡ j)) ⊎ ((eqb k j ≡ false) × (k ≢ j)) → (x : FedStreamView) × (slice_get next.streams k ≡ Some x) × Rises r.before x.before (units_fed k fed)
+gives_at : (feed next : FeedView) (fed : List Fed) (j k : ℕ) (s t r : FedStreamView) (w : Option CarriedUnit) → AreKeys (keys feed.streams) →
+    (g : GivesOne feed next fed j s t w) → k < 255 →
+    slice_get feed.streams k ≡ Some r → ((eqb k j ≡ true) × (k ≡ j)) ⊎ ((eqb k j ≡ false) × (k ≢ j)) →
+    (x : FedStreamView) × (slice_get next.streams k ≡ Some x) × Rises r.before x.before (units_fed k fed)
 gives_at feed next fed j k s t r w are g few at (inr apart) =
     let number : s.number ≡ j = are.number j (key s) (key_at feed.streams j s g.at) in
     let none : units_fed k fed ≡ [] = g.units k few ∙ given_others g.due g.origin s.number k s.before w (λ same. apart.1 (same ∙ number)) in (
@@ -145,11 +160,13 @@ gives_at feed next fed j k s t r w are g few at (inl same) =
     subst (λ (x : FedStreamView). Rises x.before after.before (units_fed k fed)) is
     (subst (λ (b : Option ℕ). Rises s.before (before_with g.due g.origin b w) (units_fed k fed)) (sym g.before) rises) in (
       after,
-      ap (λ (ss : List FedStreamView). slice_get ss k) g.streams ∙ ap (λ (i : ℕ). slice_get (slice_set feed.streams j after) i) same.1 ∙ get_set_same feed.streams j s after g.at,
+      ap (λ (ss : List FedStreamView). slice_get ss k) g.streams ∙ ap (λ (i : ℕ). slice_get (slice_set feed.streams j after) i) same.1
+          ∙ get_set_same feed.streams j s after g.at,
       own,
     )
 
-gives_one : (feed next : FeedView) (fed : List Fed) (j : ℕ) (s t : FedStreamView) (w : Option CarriedUnit) → AreKeys (keys feed.streams) → GivesOne feed next fed j s t w → Steps feed next fed
+gives_one : (feed next : FeedView) (fed : List Fed) (j : ℕ) (s t : FedStreamView) (w : Option CarriedUnit) → AreKeys (keys feed.streams) →
+    GivesOne feed next fed j s t w → Steps feed next fed
 gives_one feed next fed j s t w are g =
     let after = stream_with g.due g.origin t w in
     let same : key after ≡ key s = ap₂ (λ (n p : ℕ). (let k : Key = record { number = n; pid = p } in k)) g.number g.pid in
@@ -185,13 +202,16 @@ between n before unit after one two =
     ∙ ap (λ (us : List AccessUnit). units_fed n unit ++ us) two
     ∙ append-nil (units_fed n unit)
 
-finding_steps : (feed : FeedView) (f : FindingView) (place : Option ℕ) → AreKeys (keys feed.streams) → place_from f.pid 0 feed.streams ≡ place → Steps feed (after_one feed f) (fed_one feed f)
+finding_steps : (feed : FeedView) (f : FindingView) (place : Option ℕ) → AreKeys (keys feed.streams) → place_from f.pid 0 feed.streams ≡ place →
+    Steps feed (after_one feed f) (fed_one feed f)
 unfolding fed_place fed_at after_place after_at seen_place restart_of restart_fed
 finding_steps feed f None are at =
     let told = told_first feed f in
     let parts : fed_one feed f ≡ told ++ [] = rw at refl in
     let goes : (after_one feed f).streams ≡ feed.streams = rw at refl in
-    stays feed (after_one feed f) (fed_one feed f) goes (λ n few. ap (λ (xs : List Fed). units_fed n xs) (parts ∙ append-nil told) ∙ told_before (other_stream f feed.maps) (new_map f feed.maps) (packet_fault f) n few)
+    stays feed (after_one feed f) (fed_one feed f) goes
+    (λ n few. ap (λ (xs : List Fed). units_fed n xs) (parts ∙ append-nil told)
+    ∙ told_before (other_stream f feed.maps) (new_map f feed.maps) (packet_fault f) n few)
 finding_steps feed f (Some j) are at =
     let p = placed f.pid j feed.streams at in
     let s = p.stream in
@@ -202,9 +222,11 @@ finding_steps feed f (Some j) are at =
     let again = restart_in (after_unit (watched feed f) f) (seen_in (watched feed f) f) in
     let tail = option_to_list (restart_fed again) in
     let here : fed_unit (watched feed f) f ≡ one ++ tells = rw (at, p.at) refl in
-    let parts : fed_one feed f ≡ told ++ (one ++ (tells ++ tail)) = ap (λ (xs : List Fed). told ++ (xs ++ tail)) here ∙ ap (λ (xs : List Fed). told ++ xs) (append_assoc one tells tail) in
+    let parts : fed_one feed f ≡ told ++ (one ++ (tells ++ tail)) = ap (λ (xs : List Fed). told ++ (xs ++ tail)) here
+    ∙ ap (λ (xs : List Fed). told ++ xs) (append_assoc one tells tail) in
     let ends : (n : ℕ) → n < 255 → units_fed n (tells ++ tail) ≡ [] = λ n few.
-    flat_map-append (fed_if n) tells tail ∙ ap (λ (us : List AccessUnit). us ++ units_fed n tail) (told_fault s.number (told_by s f) n few) ∙ told_restart again n in
+    flat_map-append (fed_if n) tells tail ∙ ap (λ (us : List AccessUnit). us ++ units_fed n tail) (told_fault s.number (told_by s f) n few)
+    ∙ told_restart again n in
     gives_one feed (after_one feed f) (fed_one feed f) j s (after_found s f) w are (record {
       due = due_of feed;
       origin = feed.origin;
@@ -244,7 +266,8 @@ tick_steps : (g : FeedView) (late : ℕ) (is : Bool) → is_tick (greatest_of g)
 tick_steps g late true is =
     let fed : fed_tick g late ≡ silence g late ++ tick late ∷ [] = rw is refl in
     stays g (after_tick g late) (fed_tick g late) (rw is refl) (λ n few. ap (λ (xs : List Fed). units_fed n xs) fed
-    ∙ flat_map-append (fed_if n) (silence g late) (tick late ∷ []) ∙ ap (λ (us : List AccessUnit). us ++ units_fed n (tick late ∷ [])) (silence_none g late n few)
+    ∙ flat_map-append (fed_if n) (silence g late) (tick late ∷ [])
+    ∙ ap (λ (us : List AccessUnit). us ++ units_fed n (tick late ∷ [])) (silence_none g late n few)
     ∙ tick_none late n few)
 tick_steps g late false is =
     let fed : fed_tick g late ≡ [] = rw is refl in
@@ -266,7 +289,8 @@ end_steps g j s are at =
       units = λ n few. ap (λ (xs : List Fed). units_fed n xs) one;
     })
 
-passed_steps : (g : FeedView) (late : ℕ) (place : Option ℕ) → AreKeys (keys g.streams) → passed_from g.origin late 0 g.streams ≡ place → Steps g (after_passed g late place) (fed_passed g late place)
+passed_steps : (g : FeedView) (late : ℕ) (place : Option ℕ) → AreKeys (keys g.streams) → passed_from g.origin late 0 g.streams ≡ place →
+    Steps g (after_passed g late place) (fed_passed g late place)
 unfolding after_passed fed_passed
 passed_steps g late None are is = tick_steps g late (is_tick (greatest_of g) late) refl
 passed_steps g late (Some j) are is = let s = passed g.origin late j g.streams is in end_steps g j s.0 are s.1
@@ -282,7 +306,8 @@ after_told feed g next told fed streams none steps = record {
   same = steps.same ∙ ap keys streams;
   each = λ k s few at.
       let there = steps.each k s few (ap (λ (ss : List FedStreamView). slice_get ss k) streams ∙ at) in
-      let units : units_fed k (told ++ fed) ≡ units_fed k fed = flat_map-append (fed_if k) told fed ∙ ap (λ (us : List AccessUnit). us ++ units_fed k fed) (none k few) in
+      let units : units_fed k (told ++ fed) ≡ units_fed k fed =
+      flat_map-append (fed_if k) told fed ∙ ap (λ (us : List AccessUnit). us ++ units_fed k fed) (none k few) in
       (there.0, there.1, subst (λ (us : List AccessUnit). Rises s.before there.0.before us) (sym units) there.2);
 }
 
@@ -290,9 +315,11 @@ shown_steps : (feed : FeedView) (pcr : FoundPcr) → AreKeys (keys feed.streams)
 shown_steps feed pcr are =
     let g = with_shown feed pcr in
     let late = late_in g pcr.base in
-    after_told feed g (after_late g late) (option_to_list (jump_fed (jump_of feed.shown pcr))) (fed_late g late) refl (told_jump (jump_of feed.shown pcr)) (late_steps g late are)
+    after_told feed g (after_late g late) (option_to_list (jump_fed (jump_of feed.shown pcr))) (fed_late g late) refl (told_jump (jump_of feed.shown pcr))
+    (late_steps g late are)
 
-own_steps : (feed : FeedView) (pcr : FoundPcr) (on : Bool) → AreKeys (keys feed.streams) → Steps feed (if on then after_shown feed pcr else feed) (if on then fed_shown feed pcr else [])
+own_steps : (feed : FeedView) (pcr : FoundPcr) (on : Bool) → AreKeys (keys feed.streams) →
+    Steps feed (if on then after_shown feed pcr else feed) (if on then fed_shown feed pcr else [])
 own_steps feed pcr true are = shown_steps feed pcr are
 own_steps feed pcr false are = stays feed feed [] refl (λ n few. refl)
 
@@ -303,7 +330,8 @@ event_steps feed (Shows pcr) are = own_steps feed pcr (is_on pcr.pid (clock_pid 
 
 -- 5. The end
 
-last_none : (d : Due) (o : Origin) (n : ℕ) (ss : List FedStreamView) → ((i : ℕ) (t : FedStreamView) → slice_get ss i ≡ Some t → n ≢ t.number) → units_fed n (fed_last d o ss) ≡ []
+last_none : (d : Due) (o : Origin) (n : ℕ) (ss : List FedStreamView) → ((i : ℕ) (t : FedStreamView) → slice_get ss i ≡ Some t → n ≢ t.number) →
+    units_fed n (fed_last d o ss) ≡ []
 unfolding fed_last
 last_none d o n [] others = refl
 last_none d o n (t ∷ ts) others =
@@ -317,7 +345,8 @@ last_none d o n (t ∷ ts) others =
 IsOnly : ℕ → ℕ → List FedStreamView → Type 0
 IsOnly n k ss = (i : ℕ) (t : FedStreamView) → slice_get ss i ≡ Some t → n ≡ t.number → i ≡ k
 
-last_rises : (d : Due) (o : Origin) (k : ℕ) (s : FedStreamView) (ss : List FedStreamView) → IsOnly s.number k ss → slice_get ss k ≡ Some s → RiseFrom s.before (units_fed s.number (fed_last d o ss))
+last_rises : (d : Due) (o : Origin) (k : ℕ) (s : FedStreamView) (ss : List FedStreamView) → IsOnly s.number k ss → slice_get ss k ≡ Some s →
+    RiseFrom s.before (units_fed s.number (fed_last d o ss))
 unfolding IsOnly fed_last
 last_rises d o k s [] only at = absurd cc
 last_rises d o zero s (t ∷ ts) only at =
@@ -325,7 +354,8 @@ last_rises d o zero s (t ∷ ts) only at =
     let w = ended_unit false t.units.unit in
     let one = option_to_list (fed_by d o t w) in
     let rest = fed_last d (origin_after d o w) ts in
-    let none : units_fed s.number rest ≡ [] = last_none d (origin_after d o w) s.number ts (λ i u there same. let no : ⊥ = omega (arith, only (suc i) u there same) in no) in
+    let none : units_fed s.number rest ≡ [] =
+    last_none d (origin_after d o w) s.number ts (λ i u there same. let no : ⊥ = omega (arith, only (suc i) u there same) in no) in
     let units : units_fed s.number (one ++ rest) ≡ units_fed s.number one =
     flat_map-append (fed_if s.number) one rest ∙ ap (λ (us : List AccessUnit). units_fed s.number one ++ us) none ∙ append-nil (units_fed s.number one) in
     let own : RiseFrom t.before (units_fed t.number one) = (given_rises d o t.number t.before w).rise in
@@ -344,7 +374,8 @@ only_own : (ss : List FedStreamView) (k : ℕ) (s : FedStreamView) → AreKeys (
 unfolding IsOnly
 only_own ss k s are at i t there same = sym (are.number i (key t) (key_at ss i t there)) ∙ sym same ∙ are.number k (key s) (key_at ss k s at)
 
-pub rise_on : (feed : FeedView) (es : List Event) (k : ℕ) (s : FedStreamView) → AreKeys (keys feed.streams) → k < 255 → slice_get feed.streams k ≡ Some s → RiseFrom s.before (units_fed k (fed_events feed es))
+pub rise_on : (feed : FeedView) (es : List Event) (k : ℕ) (s : FedStreamView) → AreKeys (keys feed.streams) → k < 255 → slice_get feed.streams k ≡ Some s →
+    RiseFrom s.before (units_fed k (fed_events feed es))
 unfolding fed_events
 rise_on feed [] k s are few at =
     let number : s.number ≡ k = are.number k (key s) (key_at feed.streams k s at) in

@@ -1,5 +1,6 @@
 -- What one finding and one clock reference do to the streams of a feed, where nothing is told.
-use Rattle.std.proofs.Common.{◌≡◌, ◌≢◌, ◌∙◌, ◌⊎◌, ◌<◌, ℕ, ◌++◌, ◌==◌, eqb, ◌||◌, Bool, true, false, if◌then◌else◌, Option, Some, None, Result, Ok, Err, List, [], ◌∷◌, map, slice_get, slice_set, refl, sym, ap, inl, inr, arith}
+use Rattle.std.proofs.Common.{◌≡◌, ◌≢◌, ◌∙◌, ◌⊎◌, ◌<◌, ℕ, ◌++◌, ◌==◌, eqb, ◌||◌, Bool, true, false, if◌then◌else◌, Option, Some, None, Result, Ok, Err, List}
+use Rattle.std.proofs.Common.{[], ◌∷◌, map, slice_get, slice_set, refl, sym, ap, inl, inr, arith}
 use Rattle.std.specs.Option.{option_to_list}
 use Rattle.std.specs.Prelude.{nat_lt}
 use Rattle.std.proofs.lemmas.Bool.Decides.{eqb_tells, nat_tests}
@@ -13,14 +14,19 @@ use Rattle.es_units.specs.UnitSteps.{ended_unit}
 use Rattle.es_units.specs.declared.stamps.StampFault.{StampFault}
 use Rattle.es_feed.specs.Clocks.{is_on, jump_of, jumps}
 use Rattle.es_feed.specs.EachStream.{fed_if, has_fault, have_fault, units_fed}
-use Rattle.es_feed.specs.Feeding.{Fed, FedStreamView, FeedView, after_at, after_found, after_one, after_place, ahead_of, at_moment, base_by, after_unit, base_of, before_with, due_of, fed_at, fed_by, fed_one, fed_place, fed_unit, fed_with, feed_with, greatest_of, last_dts, map_fed, origin_after, other_fed, packet_fault, packet_fed, place_from, restart_fed, restart_in, seen_in, seen_place, stream_with, told_by, told_fed, told_first, told_of, unless_ahead, unless_fault, watched, whole_by, greatest_pts_limit}
+use Rattle.es_feed.specs.Feeding.{Fed, FedStreamView, FeedView, after_at, after_found, after_one, after_place, ahead_of, at_moment, base_by, after_unit}
+use Rattle.es_feed.specs.Feeding.{base_of, before_with, due_of, fed_at, fed_by, fed_one, fed_place, fed_unit, fed_with, feed_with, greatest_of, last_dts}
+use Rattle.es_feed.specs.Feeding.{map_fed, origin_after, other_fed, packet_fault, packet_fed, place_from, restart_fed, restart_in, seen_in, seen_place}
+use Rattle.es_feed.specs.Feeding.{stream_with, told_by, told_fed, told_first, told_of, unless_ahead, unless_fault, watched, whole_by, greatest_pts_limit}
 use Rattle.es_feed.specs.Maps.{clock_pid, new_map, other_stream}
 use Rattle.es_feed.specs.Origins.{no_origin, origin_with}
 use Rattle.es_feed.specs.Restarts.{fallen_after, origin_by, restart_of}
 use Rattle.es_feed.specs.declared.feed_fault.OtherStream.{OtherStream}
 use Rattle.es_feed.specs.declared.feed_fault.PacketFault.{PacketFault}
 use Rattle.es_feed.specs.declared.feed_fault.Restart.{Restart}
-use Rattle.es_feed.specs.Ticks.{after_end, after_end_at, after_late, after_own, after_passed, after_shown, after_tick, fed_end, fed_end_at, fed_late, fed_own, fed_passed, fed_shown, fed_tick, is_silence, is_tick, jump_fed, last_unit, late_in, late_of, passed_from, silence, tick, with_shown, without_unit}
+use Rattle.es_feed.specs.Ticks.{after_end, after_end_at, after_late, after_own, after_passed, after_shown, after_tick, fed_end, fed_end_at, fed_late, fed_own}
+use Rattle.es_feed.specs.Ticks.{fed_passed, fed_shown, fed_tick, is_silence, is_tick, jump_fed, last_unit, late_in, late_of, passed_from, silence, tick}
+use Rattle.es_feed.specs.Ticks.{with_shown, without_unit}
 use Rattle.es_feed.specs.declared.due.Due.{Due}
 use Rattle.es_feed.specs.declared.feed_fault.ClockJump.{ClockJump}
 use Rattle.es_feed.specs.declared.feed_fault.FeedFault.{FeedFault}
@@ -93,7 +99,8 @@ same_origin : (o : Origin) (r : Option Restart) → r ≡ None → origin_by o r
 unfolding origin_by
 same_origin o r none = rw none refl
 
-pub finding_gives : (feed : FeedView) (f : FindingView) (j : ℕ) (s : FedStreamView) → place_from f.pid 0 feed.streams ≡ Some j → slice_get feed.streams j ≡ Some s →
+pub finding_gives : (feed : FeedView) (f : FindingView) (j : ℕ) (s : FedStreamView) → place_from f.pid 0 feed.streams ≡ Some j →
+    slice_get feed.streams j ≡ Some s →
     have_fault (fed_one feed f) ≡ false → Gives feed (after_one feed f) (fed_one feed f) j s (after_found s f) (whole_by s f)
 finding_gives feed f j s at is none =
     let change = told_first feed f in
@@ -130,11 +137,13 @@ after_nowhere : (feed : FeedView) (f : FindingView) → place_from f.pid 0 feed.
 unfolding after_place seen_place restart_of origin_by fallen_after
 after_nowhere feed f none = rw none refl
 
-pub finding_rests : (feed : FeedView) (f : FindingView) → place_from f.pid 0 feed.streams ≡ None → have_fault (fed_one feed f) ≡ false → Rests feed (after_one feed f) (fed_one feed f)
+pub finding_rests : (feed : FeedView) (f : FindingView) → place_from f.pid 0 feed.streams ≡ None → have_fault (fed_one feed f) ≡ false →
+    Rests feed (after_one feed f) (fed_one feed f)
 finding_rests feed f nowhere none =
     let told = told_first feed f in
     let parts = fed_nowhere feed f nowhere in
-    let empty : fed_one feed f ≡ [] = parts ∙ append-nil told ∙ not_told_first (other_stream f feed.maps) (new_map f feed.maps) (packet_fault f) [] (ap have_fault (sym parts) ∙ none) in
+    let empty : fed_one feed f ≡ [] =
+    parts ∙ append-nil told ∙ not_told_first (other_stream f feed.maps) (new_map f feed.maps) (packet_fault f) [] (ap have_fault (sym parts) ∙ none) in
     let goes = after_nowhere feed f nowhere in
     record {
       streams = ap (λ (n : FeedView). n.streams) goes;
@@ -167,7 +176,8 @@ tick_none g late n below =
     flat_map-append (fed_if n) (silence g late) (tick late ∷ []) ∙ ap (λ (us : List AccessUnit). us ++ units_fed n (tick late ∷ [])) (silence_none g late n)
     ∙ (rw (no_stream n below) refl)
 
-tick_rests : (g : FeedView) (late : ℕ) (is : Bool) → (g.origin ≡ no_origin → ⊥) → is_tick (greatest_of g) late ≡ is → Rests g (after_tick g late) (fed_tick g late)
+tick_rests : (g : FeedView) (late : ℕ) (is : Bool) → (g.origin ≡ no_origin → ⊥) → is_tick (greatest_of g) late ≡ is →
+    Rests g (after_tick g late) (fed_tick g late)
 unfolding fed_if
 tick_rests g late true known is = record {
   streams = rw is refl;
@@ -184,7 +194,8 @@ tick_rests g late false known is = record {
   silent = λ e. absurd (known e);
 }
 
-end_gives : (g : FeedView) (j : ℕ) (s : FedStreamView) → slice_get g.streams j ≡ Some s → Gives g (after_end g j) (fed_end g j) j s (without_unit s) (ended_unit false s.units.unit)
+end_gives : (g : FeedView) (j : ℕ) (s : FedStreamView) → slice_get g.streams j ≡ Some s →
+    Gives g (after_end g j) (fed_end g j) j s (without_unit s) (ended_unit false s.units.unit)
 unfolding after_end_at fed_end_at
 end_gives g j s is = record {
   due = due_of g;
@@ -250,7 +261,8 @@ same_out feed g next fed told streams origin earliest is (inr r) =
     inr (r.0, r.1, same_gives feed g next fed told r.0 r.1 (without_unit r.1) (ended_unit false r.1.units.unit) streams origin earliest is r.2)
 
 -- a jump is told
-jump_if : (pcr : FoundPcr) (before : ℕ) (a b : Bool) (jump : ClockJump) → have_fault (option_to_list (jump_fed (if a || b then Some jump else None))) ≡ false → (b ≡ false) × ((a || b) ≡ false)
+jump_if : (pcr : FoundPcr) (before : ℕ) (a b : Bool) (jump : ClockJump) → have_fault (option_to_list (jump_fed (if a || b then Some jump else None))) ≡ false →
+    (b ≡ false) × ((a || b) ≡ false)
 unfolding jump_fed has_fault
 jump_if pcr before true b jump none = absurd cc
 jump_if pcr before false true jump none = absurd cc
@@ -271,7 +283,8 @@ shown_out feed pcr none =
     let late = late_in g pcr.base in
     let jump = option_to_list (jump_fed (jump_of feed.shown pcr)) in
     let stays = no_jump feed.shown pcr (fault_split jump (fed_late g late) none).0 in
-    same_out feed g (after_late g late) (fed_late g late) (fed_shown feed pcr) refl (rw stays.0 refl) refl (ap (λ (xs : List Fed). xs ++ fed_late g late) stays.1)
+    same_out feed g (after_late g late) (fed_late g late) (fed_shown feed pcr) refl (rw stays.0 refl) refl
+    (ap (λ (xs : List Fed). xs ++ fed_late g late) stays.1)
     (late_out g late (late_unknown g pcr.base))
 
 own_out : (feed : FeedView) (pcr : FoundPcr) (on : Bool) → have_fault (if on then fed_shown feed pcr else []) ≡ false →
@@ -290,7 +303,8 @@ unfolding unless_ahead has_fault
 ok_ahead n None u none = refl
 ok_ahead n (Some by) u none = absurd cc
 
-ok_unless : (n : ℕ) (greatest : Option ℕ) (fault : Option StampFault) (u : AccessUnit) → has_fault (n, unless_fault greatest fault u) ≡ false → unless_fault greatest fault u ≡ Ok u
+ok_unless : (n : ℕ) (greatest : Option ℕ) (fault : Option StampFault) (u : AccessUnit) → has_fault (n, unless_fault greatest fault u) ≡ false →
+    unless_fault greatest fault u ≡ Ok u
 unfolding unless_fault has_fault
 ok_unless n greatest None u none = ok_ahead n (ahead_of greatest u.dts) u none
 ok_unless n greatest (Some fault) u none = absurd cc
@@ -327,13 +341,15 @@ number_by n m other (inr apart) = apart.0
 other_number : (n m : ℕ) → m ≢ n → (n == m) ≡ false
 other_number n m other = number_by n m other (eqb_tells n m)
 
-pub given_ok : (d : Due) (o : Origin) (n base : ℕ) (before : Option ℕ) (u : CarriedUnit) (more : List Fed) → base_of d o u ≡ base → have_fault ((n, at_moment d.greatest (base_of d o u) before u.unit) ∷ more) ≡ false →
+pub given_ok : (d : Due) (o : Origin) (n base : ℕ) (before : Option ℕ) (u : CarriedUnit) (more : List Fed) → base_of d o u ≡ base →
+    have_fault ((n, at_moment d.greatest (base_of d o u) before u.unit) ∷ more) ≡ false →
     at_moment d.greatest (base_of d o u) before u.unit ≡ Ok (unit_at base before u.unit)
 given_ok d o n base before u more b none =
     ok_moment n d.greatest (base_of d o u) before u.unit (if_first (has_fault (n, at_moment d.greatest (base_of d o u) before u.unit)) (have_fault more) none)
     ∙ ap (λ (b : ℕ). Ok (unit_at b before u.unit)) b
 
-pub given_units : (d : Due) (o : Origin) (n base : ℕ) (before : Option ℕ) (w : Option CarriedUnit) → HasBase d o w base → have_fault (option_to_list (fed_with d o n before w)) ≡ false →
+pub given_units : (d : Due) (o : Origin) (n base : ℕ) (before : Option ℕ) (w : Option CarriedUnit) → HasBase d o w base →
+    have_fault (option_to_list (fed_with d o n before w)) ≡ false →
     units_fed n (option_to_list (fed_with d o n before w)) ≡ moved base before (units_in w)
 unfolding fed_with fed_if moved units_in
 given_units d o n base before None here none = refl
@@ -341,21 +357,25 @@ given_units d o n base before (Some u) here none =
     ap (λ (r : Result AccessUnit FeedFault). fed_if n (n, r) ++ []) (given_ok d o n base before u [] (here u refl) none)
     ∙ ap (λ (own : Bool). (if own then unit_at base before u.unit ∷ [] else []) ++ []) (own_number n)
 
-pub given_before : (d : Due) (o : Origin) (n base : ℕ) (before : Option ℕ) (w : Option CarriedUnit) → HasBase d o w base → have_fault (option_to_list (fed_with d o n before w)) ≡ false →
+pub given_before : (d : Due) (o : Origin) (n base : ℕ) (before : Option ℕ) (w : Option CarriedUnit) → HasBase d o w base →
+    have_fault (option_to_list (fed_with d o n before w)) ≡ false →
     before_with d o before w ≡ dts_after base before (units_in w)
 unfolding fed_with before_with last_dts dts_after unit_at units_in
 given_before d o n base before None here none = refl
-given_before d o n base before (Some u) here none = ap (λ (r : Result AccessUnit FeedFault). last_dts before r) (given_ok d o n base before u [] (here u refl) none)
+given_before d o n base before (Some u) here none =
+    ap (λ (r : Result AccessUnit FeedFault). last_dts before r) (given_ok d o n base before u [] (here u refl) none)
 
 pub others_if : (m n : ℕ) (r : Result AccessUnit FeedFault) → m ≢ n → fed_if m (n, r) ≡ []
 unfolding fed_if
 others_if m n (Ok u) other = rw (other_number n m other) refl
 others_if m n (Err fault) other = refl
 
-pub given_others : (d : Due) (o : Origin) (n m : ℕ) (before : Option ℕ) (w : Option CarriedUnit) → m ≢ n → units_fed m (option_to_list (fed_with d o n before w)) ≡ []
+pub given_others : (d : Due) (o : Origin) (n m : ℕ) (before : Option ℕ) (w : Option CarriedUnit) → m ≢ n →
+    units_fed m (option_to_list (fed_with d o n before w)) ≡ []
 unfolding fed_with
 given_others d o n m before None other = refl
-given_others d o n m before (Some u) other = append-nil (fed_if m (n, at_moment d.greatest (base_of d o u) before u.unit)) ∙ others_if m n (at_moment d.greatest (base_of d o u) before u.unit) other
+given_others d o n m before (Some u) other = append-nil (fed_if m (n, at_moment d.greatest (base_of d o u) before u.unit))
+    ∙ others_if m n (at_moment d.greatest (base_of d o u) before u.unit) other
 
 base_then : (d : Due) (base : ℕ) (u : CarriedUnit) → base_of d (fixed base) u ≡ base
 unfolding base_by
@@ -382,6 +402,7 @@ origin_then d u = ap (λ (b : ℕ). origin_with no_origin u.packet b) (base_at_n
 
 pub fixes_first : (d : Due) (o : Origin) (u : CarriedUnit) → o ≡ no_origin → Fixes d o (Some u) (distance d.earliest u.unit.dts)
 fixes_first d o u is = record {
-  here = λ v e. ap (λ (o : Origin). base_of d o v) is ∙ base_at_no d v ∙ ap (λ (x : CarriedUnit). distance d.earliest x.unit.dts) (let same : v ≡ u = cc in same);
+  here = λ v e. ap (λ (o : Origin). base_of d o v) is ∙ base_at_no d v
+      ∙ ap (λ (x : CarriedUnit). distance d.earliest x.unit.dts) (let same : v ≡ u = cc in same);
   then_fixed = ap (λ (o : Origin). origin_after d o (Some u)) is ∙ origin_then d u;
 }

@@ -1,5 +1,6 @@
 -- What is fed of a stream, piece by piece.
-use Rattle.std.proofs.Common.{◌≡◌, inl, inr, ◌∙◌, ◌<◌, ◌≤◌, ℕ, ◌+◌, ◌*◌, ◌++◌, Bool, true, false, List, [], length, take, drop, refl, sym, ap, subst, arith, drop-drop, length-drop, length-take-le, take_all, take-append-drop}
+use Rattle.std.proofs.Common.{◌≡◌, inl, inr, ◌∙◌, ◌<◌, ◌≤◌, ℕ, ◌+◌, ◌*◌, ◌++◌, Bool, true, false, List, [], length, take, drop, refl, sym, ap, subst, arith}
+use Rattle.std.proofs.Common.{drop-drop, length-drop, length-take-le, take_all, take-append-drop}
 use Rattle.std.specs.List.{concat}
 use Rattle.std.proofs.lemmas.List.{append_assoc, append-nil, drop_all}
 use Rattle.std.proofs.lemmas.List.Folds.{concat-append}
@@ -52,8 +53,10 @@ packets_fed first stream held later taking ended n old new gone before after so 
 
 -- 2. A stretch
 
-pub stretch_fed : (first : FeedView) (stream bytes : List ℕ) (ended : Bool) (at n : ℕ) (rest taking : List ℕ) (s : Stretch) (old new : PacketFeedView) (gone before after : List Fed) →
-    rest ≡ drop at bytes → taking ≡ take s.in_step rest → s.in_step + s.slipped ≤ length rest → s.in_step ≤ n → IsStretch rest ended s → TakesPackets old new taking n before after →
+pub stretch_fed : (first : FeedView) (stream bytes : List ℕ) (ended : Bool) (at n : ℕ) (rest taking : List ℕ) (s : Stretch) (old new : PacketFeedView)
+    (gone before after : List Fed) →
+    rest ≡ drop at bytes → taking ≡ take s.in_step rest → s.in_step + s.slipped ≤ length rest → s.in_step ≤ n → IsStretch rest ended s →
+    TakesPackets old new taking n before after →
     IsFedBy first stream ended (record { held = drop at bytes; packets = old }) (gone ++ before) →
     IsFedBy first stream ended (record { held = drop (at + (s.in_step + s.slipped)) bytes; packets = new }) (gone ++ after)
 stretch_fed first stream bytes ended at n rest taking s old new gone before after is takes within over stretch t so =
@@ -70,7 +73,8 @@ stretch_fed first stream bytes ended at n rest taking s old new gone before afte
 
 -- a stretch of which not all is taken is that of the end
 pub is_last : (s : Stretch) (rest taking : List ℕ) (ended : Bool) (n : ℕ) (old new : PacketFeedView) (before after : List Fed) →
-    taking ≡ take s.in_step rest → s.in_step + s.slipped ≤ length rest → n < s.in_step → IsOfPackets (length rest) ended s → TakesPackets old new taking n before after →
+    taking ≡ take s.in_step rest → s.in_step + s.slipped ≤ length rest → n < s.in_step → IsOfPackets (length rest) ended s →
+    TakesPackets old new taking n before after →
     (ended ≡ true) × (s.in_step ≡ length rest) × (s.slipped ≡ 0)
 is_last s rest taking ended n old new before after takes within less (inr last) t = last
 is_last s rest taking ended n old new before after takes within less (inl whole) t =
@@ -82,12 +86,15 @@ is_last s rest taking ended n old new before after takes within less (inl whole)
 carried_all : (rest : List ℕ) (s : Stretch) → s.in_step ≡ length rest → s.slipped ≡ 0 → IsStretch rest true s → carried rest ≡ rest
 carried_all rest s whole none stretch =
     ap (λ (r : List ℕ). carried r) (sym (append-nil rest)) ∙ stretch [] (λ e. refl)
-    ∙ ap (λ (r : List ℕ). take s.in_step rest ++ carried r) (append-nil (drop (s.in_step + s.slipped) rest) ∙ drop_all (s.in_step + s.slipped) rest (omega (arith, whole)))
+    ∙ ap (λ (r : List ℕ). take s.in_step rest ++ carried r)
+    (append-nil (drop (s.in_step + s.slipped) rest) ∙ drop_all (s.in_step + s.slipped) rest (omega (arith, whole)))
     ∙ ap (λ (r : List ℕ). take s.in_step rest ++ r) (carried_few [] (omega arith))
     ∙ append-nil (take s.in_step rest) ∙ take_all s.in_step rest (omega (arith, whole))
 
-pub last_fed : (first : FeedView) (stream bytes : List ℕ) (at n : ℕ) (rest taking : List ℕ) (s : Stretch) (old new : PacketFeedView) (gone before after : List Fed) →
-    rest ≡ drop at bytes → taking ≡ take s.in_step rest → s.in_step ≡ length rest → s.slipped ≡ 0 → IsStretch rest true s → TakesPackets old new taking n before after →
+pub last_fed : (first : FeedView) (stream bytes : List ℕ) (at n : ℕ) (rest taking : List ℕ) (s : Stretch) (old new : PacketFeedView)
+    (gone before after : List Fed) →
+    rest ≡ drop at bytes → taking ≡ take s.in_step rest → s.in_step ≡ length rest → s.slipped ≡ 0 → IsStretch rest true s →
+    TakesPackets old new taking n before after →
     IsFedBy first stream true (record { held = drop at bytes; packets = old }) (gone ++ before) →
     IsFedBy first stream true (record { held = drop (at + n) bytes; packets = new }) (gone ++ after)
 last_fed first stream bytes at n rest taking s old new gone before after is takes whole none stretch t so =
@@ -103,8 +110,10 @@ last_fed first stream bytes at n rest taking s old new gone before after is take
     ∙ ap (λ (r : List ℕ). take n taking ++ carried r) (sym (append-nil (drop (at + n) bytes)))
     ∙ ap (λ (r : List ℕ). take n taking ++ carried (drop (at + n) bytes ++ r)) (sym (ends refl)))
 
-pub ended_last : (first : FeedView) (stream bytes : List ℕ) (ended : Bool) (at n : ℕ) (rest taking : List ℕ) (s : Stretch) (old new : PacketFeedView) (gone before after : List Fed) → ended ≡ true →
-    rest ≡ drop at bytes → taking ≡ take s.in_step rest → s.in_step ≡ length rest → s.slipped ≡ 0 → IsStretch rest ended s → TakesPackets old new taking n before after →
+pub ended_last : (first : FeedView) (stream bytes : List ℕ) (ended : Bool) (at n : ℕ) (rest taking : List ℕ) (s : Stretch) (old new : PacketFeedView)
+    (gone before after : List Fed) → ended ≡ true →
+    rest ≡ drop at bytes → taking ≡ take s.in_step rest → s.in_step ≡ length rest → s.slipped ≡ 0 → IsStretch rest ended s →
+    TakesPackets old new taking n before after →
     IsFedBy first stream ended (record { held = drop at bytes; packets = old }) (gone ++ before) →
     IsFedBy first stream ended (record { held = drop (at + n) bytes; packets = new }) (gone ++ after)
 ended_last first stream bytes true at n rest taking s old new gone before after ends is takes whole none stretch t so =
@@ -114,10 +123,12 @@ ended_last first stream bytes false at n rest taking s old new gone before after
 -- 4. A piece, and the end
 
 pub none_dropped : (first : FeedView) (stream bytes : List ℕ) (ended : Bool) (packets : PacketFeedView) (fed : List Fed) →
-    IsFedBy first stream ended (record { held = bytes; packets = packets }) fed → IsFedBy first stream ended (record { held = drop 0 bytes; packets = packets }) fed
+    IsFedBy first stream ended (record { held = bytes; packets = packets }) fed →
+    IsFedBy first stream ended (record { held = drop 0 bytes; packets = packets }) fed
 none_dropped first stream bytes ended packets fed so = so
 
-pub piece_held : (first : FeedView) (stream piece held : List ℕ) (s : StreamFeedView) (fed : List Fed) → held ≡ s.held ++ piece → IsFedBy first stream false s fed →
+pub piece_held : (first : FeedView) (stream piece held : List ℕ) (s : StreamFeedView) (fed : List Fed) → held ≡ s.held ++ piece →
+    IsFedBy first stream false s fed →
     IsFedBy first (stream ++ piece) false (record { held = held; packets = s.packets }) fed
 piece_held first stream piece held s fed is so = record {
   packets = so.packets;
@@ -149,7 +160,8 @@ ready first stream s before held packets fed view is so =
     (subst (λ (h : List ℕ). IsFedBy first stream false (record { held = h; packets = packets }) fed) (sym is)
     (subst (λ (t : StreamFeedView). IsFedBy first stream false t fed) (sym view) so))
 
-all_carried : (first : FeedView) (stream rest : List ℕ) (packets : PacketFeedView) (fed : List Fed) (so : IsFedBy first stream true (record { held = rest; packets = packets }) fed) → length rest < 188 →
+all_carried : (first : FeedView) (stream rest : List ℕ) (packets : PacketFeedView) (fed : List Fed)
+    (so : IsFedBy first stream true (record { held = rest; packets = packets }) fed) → length rest < 188 →
     carried stream ≡ concat so.packets ++ rest
 all_carried first stream rest packets fed so few =
     ap (λ (r : List ℕ). carried r) (sym (append-nil stream)) ∙ so.carries [] (λ e. refl)
@@ -164,7 +176,8 @@ ended_fed first stream rest packets gone before after few grows so =
     let all : carried stream ≡ concat ps ++ rest = all_carried first stream rest packets (gone ++ before) so few in
     let cut : cut_packets (carried stream) ≡ ps = ap (λ (r : List ℕ). cut_packets r) all ∙ cut_these ps rest so.sizes few in
     let left : after_cut (carried stream) ≡ rest =
-    ap (λ (qs : List (List ℕ)). drop (188 * length qs) (carried stream)) cut ∙ ap (λ (r : List ℕ). drop (188 * length ps) r) all ∙ left_these ps rest so.sizes in
+    ap (λ (qs : List (List ℕ)). drop (188 * length qs) (carried stream)) cut ∙ ap (λ (r : List ℕ). drop (188 * length ps) r) all
+    ∙ left_these ps rest so.sizes in
     ap (λ (xs : List Fed). gone ++ xs) grows
     ∙ sym (append_assoc gone before (fed_rest packets.demux packets.feed rest))
     ∙ ap (λ (xs : List Fed). xs ++ fed_rest packets.demux packets.feed rest) so.fed_is

@@ -1,5 +1,6 @@
 -- Streams of a list, by their places.
-use Rattle.std.proofs.Common.{◌≡◌, ◌≢◌, ◌∙◌, ℕ, zero, suc, ◌+◌, Bool, true, false, if◌then◌else◌, Option, Some, None, List, [], ◌∷◌, map, slice_get, slice_set, refl, sym, ap, subst, arith}
+use Rattle.std.proofs.Common.{◌≡◌, ◌≢◌, ◌∙◌, ℕ, zero, suc, ◌+◌, Bool, true, false, if◌then◌else◌, Option, Some, None, List, [], ◌∷◌, map, slice_get, slice_set}
+use Rattle.std.proofs.Common.{refl, sym, ap, subst, arith}
 use Rattle.std.proofs.lemmas.Option.{slice_get-map}
 use Rattle.std.specs.Prelude.{option_map}
 use Rattle.demux.specs.Laws.{has_pid}
@@ -87,7 +88,8 @@ none_if pid k i s t ss true has later none at = absurd cc
 none_if pid k zero s t ss false has later none at = let same : s ≡ t = cc in subst (λ x. has_pid x.units.pid pid ≡ false) same has
 none_if pid k (suc i) s t ss false has later none at = later i none at
 
-pub not_placed : (pid : Option ℕ) (k i : ℕ) (t : FedStreamView) (ss : List FedStreamView) → place_from pid k ss ≡ None → slice_get ss i ≡ Some t → has_pid t.units.pid pid ≡ false
+pub not_placed : (pid : Option ℕ) (k i : ℕ) (t : FedStreamView) (ss : List FedStreamView) → place_from pid k ss ≡ None → slice_get ss i ≡ Some t →
+    has_pid t.units.pid pid ≡ false
 unfolding place_from
 not_placed pid k i t [] none at = absurd cc
 not_placed pid k i t (s ∷ ss) none at = none_if pid k i s t ss (has_pid s.units.pid pid) refl (λ i none at. not_placed pid (k + 1) i t ss none at) none at

@@ -1,5 +1,6 @@
 -- Units that two constants move.
-use Rattle.std.proofs.Common.{◌≡◌, ◌∙◌, ◌<◌, ◌≤◌, ℕ, ◌+◌, ◌-◌, ◌%◌, ◌++◌, ◌^◌, false, Some, None, Ok, Err, List, [], ◌∷◌, length, map, slice_get, refl, sym, ap, ap₂, arith}
+use Rattle.std.proofs.Common.{◌≡◌, ◌∙◌, ◌<◌, ◌≤◌, ℕ, ◌+◌, ◌-◌, ◌%◌, ◌++◌, ◌^◌, false, Some, None, Ok, Err, List, [], ◌∷◌, length, map, slice_get, refl, sym, ap}
+use Rattle.std.proofs.Common.{ap₂, arith}
 use Rattle.pes_packet.specs.AccessUnits.{AccessUnit}
 use Rattle.pes_packet.specs.declared.marks.Marks.{Marks}
 use Rattle.demux.specs.Views.{FindingView}
@@ -23,8 +24,10 @@ on_by_distance : (a b d : ℕ) → a % 2 ^ 33 ≡ b % 2 ^ 33 → (a + d) % 2 ^ 3
 on_by_distance a b d same = omega (arith, same)
 
 unit_is : (dts pts other_dts other_pts : ℕ) (marks : Marks) (bytes : List ℕ) → dts ≡ other_dts → pts ≡ other_pts →
-    (let u : AccessUnit = record { dts = dts; pts = pts; marks = marks; bytes = bytes } in u) ≡ record { dts = other_dts; pts = other_pts; marks = marks; bytes = bytes }
-unit_is dts pts other_dts other_pts marks bytes one two = ap₂ (λ (d p : ℕ). (let u : AccessUnit = record { dts = d; pts = p; marks = marks; bytes = bytes } in u)) one two
+    (let u : AccessUnit = record { dts = dts; pts = pts; marks = marks; bytes = bytes } in u) ≡ record
+    { dts = other_dts; pts = other_pts; marks = marks; bytes = bytes }
+unit_is dts pts other_dts other_pts marks bytes one two =
+    ap₂ (λ (d p : ℕ). (let u : AccessUnit = record { dts = d; pts = p; marks = marks; bytes = bytes } in u)) one two
 
 -- the PTS of a unit at its DTS
 pts_too : (b c p q x y pts : ℕ) → x + p ≡ y + q → (x + b) % 2 ^ 33 ≡ (y + c) % 2 ^ 33 → x + distance (x + b) pts + p ≡ y + distance (y + c) pts + q
@@ -47,7 +50,8 @@ moved_on b c p q x y (u ∷ us) same clock =
     let next : x + d + p ≡ y + e + q = omega (arith, same, de) in
     let on = next_clock b c x y d e de clock in
     ap₂ (λ (v : AccessUnit) (vs : List AccessUnit). v ∷ vs)
-    (unit_is (x + d + p) (x + d + distance (x + d + b) u.pts + p) (y + e + q) (y + e + distance (y + e + c) u.pts + q) u.marks u.bytes next (pts_too b c p q (x + d) (y + e) u.pts next on))
+    (unit_is (x + d + p) (x + d + distance (x + d + b) u.pts + p) (y + e + q) (y + e + distance (y + e + c) u.pts + q) u.marks u.bytes next
+    (pts_too b c p q (x + d) (y + e) u.pts next on))
     (moved_on b c p q (x + d) (y + e) us next on)
 
 shows_first : (b w : ℕ) → (distance b w + b) % 2 ^ 33 ≡ w % 2 ^ 33
@@ -77,7 +81,8 @@ firsts_apart b c v w early due small before after = omega (arith, due, small, be
 
 -- of a stream, where the first unit of all is v
 one_apart : (base fed_by early : ℕ) (v : AccessUnit) (vs wire other : List AccessUnit) → other ≡ v ∷ vs → distance fed_by v.dts ≡ early → early < 2 ^ 32 →
-    BeginNear base early wire other → BeginNear base early other wire → map (after_time (distance base v.dts)) (moved fed_by None wire) ≡ map (after_time early) (moved base None wire)
+    BeginNear base early wire other → BeginNear base early other wire →
+    map (after_time (distance base v.dts)) (moved fed_by None wire) ≡ map (after_time early) (moved base None wire)
 one_apart base fed_by early v vs wire other is due small near back =
     all_apart fed_by base (distance base v.dts) early wire
     (λ w ws here. firsts_apart base fed_by v.dts w.dts early due small (back v w vs ws is here) (near w v ws vs here is))
@@ -112,9 +117,11 @@ begins_own : (n : ℕ) (u : AccessUnit) (rest : List Fed) → units_fed n ((n, O
 unfolding fed_if
 begins_own n u rest = ap (λ (us : List AccessUnit). us ++ units_fed n rest) (own_unit n u)
 
-apart_by : (base fed_by early : ℕ) (streams : List FedStreamView) (findings : List FindingView) (fed : List Fed) → early < 2 ^ 32 → BeginsAt early (length streams) fed → have_fault fed ≡ false →
+apart_by : (base fed_by early : ℕ) (streams : List FedStreamView) (findings : List FindingView) (fed : List Fed) → early < 2 ^ 32 →
+    BeginsAt early (length streams) fed → have_fault fed ≡ false →
     AreWhole base early streams findings →
-    ((k : ℕ) (s : FedStreamView) → slice_get streams k ≡ Some s → units_fed k fed ≡ moved fed_by None (wire_units s.units.pid findings)) → AreApart base streams findings fed
+    ((k : ℕ) (s : FedStreamView) → slice_get streams k ≡ Some s → units_fed k fed ≡ moved fed_by None (wire_units s.units.pid findings)) →
+    AreApart base streams findings fed
 unfolding BeginsAt has_fault
 apart_by base fed_by early streams findings [] small begins silent w each = record {
   here = 0;
@@ -135,12 +142,14 @@ apart_by base fed_by early streams findings ((n, Ok u) ∷ fed) small begins sil
       there = early;
       are = λ k t at.
           ap (λ (us : List AccessUnit). map (after_time (distance base v.first.dts)) us) (each k t at)
-          ∙ one_apart base fed_by early v.first v.more (wire_units t.units.pid findings) other v.wire_is due small (w.near k n t s.0 at s.1) (w.near n k s.0 t s.1 at);
+          ∙ one_apart base fed_by early v.first v.more (wire_units t.units.pid findings) other v.wire_is due small (w.near k n t s.0 at s.1)
+          (w.near n k s.0 t s.1 at);
     }
 
 pub fed_apart : FedApart
 fed_apart earliest base marking maps streams bytes small a silent w =
     let early : earliest < 2 ^ 33 = omega (arith, small) in
     let m = by_one_constant earliest marking maps streams bytes early a silent in
-    apart_by base m.base earliest streams (all_marked marking (found_of_all bytes)) (fed_of (feed_first earliest marking maps streams) bytes) small m.begins silent w
+    apart_by base m.base earliest streams (all_marked marking (found_of_all bytes)) (fed_of (feed_first earliest marking maps streams) bytes) small m.begins
+    silent w
     (λ k s at. m.moved_by k s at (w.alone k s at))

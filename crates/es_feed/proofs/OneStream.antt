@@ -1,5 +1,6 @@
 -- What one stream feeds, where no clock is known.
-use Rattle.std.proofs.Common.{◌≡◌, ◌∙◌, ℕ, ◌+◌, ◌++◌, ◌||◌, ◌&&◌, Bool, true, false, Option, Some, None, Result, Ok, Err, List, [], ◌∷◌, map, refl, sym, ap, ap₂, subst, arith}
+use Rattle.std.proofs.Common.{◌≡◌, ◌∙◌, ℕ, ◌+◌, ◌++◌, ◌||◌, ◌&&◌, Bool, true, false, Option, Some, None, Result, Ok, Err, List, [], ◌∷◌, map, refl, sym, ap}
+use Rattle.std.proofs.Common.{ap₂, subst, arith}
 use Rattle.std.specs.Option.{option_to_list}
 use Rattle.std.specs.Prelude.{nat_lt, is_some, not}
 use Rattle.std.proofs.lemmas.Bool.Decides.{nat_tests}
@@ -10,7 +11,8 @@ use Rattle.demux.specs.Views.{FindingView}
 use Rattle.demux.specs.Laws.{has_pid}
 use Rattle.es_units.specs.CarriedUnits.{CarriedUnit, Ignored, role_of, carried_units}
 use Rattle.es_units.specs.Stamps.{distance, dts_at, unit_at, moved, unit_fault, fault_or, first_fault}
-use Rattle.es_units.specs.UnitSteps.{UnitsSoFar, after_finding, after_findings, ended_unit, given, goes_on_as, has_cut, is_start_cut, made_whole, none_so_far, start_of}
+use Rattle.es_units.specs.UnitSteps.{UnitsSoFar, after_finding, after_findings, ended_unit, given, goes_on_as, has_cut, is_start_cut, made_whole, none_so_far}
+use Rattle.es_units.specs.UnitSteps.{start_of}
 use Rattle.es_units.specs.declared.stamps.StampFault.{StampFault}
 use Rattle.es_feed.specs.declared.feed_fault.FeedFault.{FeedFault}
 use Rattle.es_feed.specs.declared.feed_fault.Loss.{Loss}
@@ -18,7 +20,11 @@ use Rattle.es_feed.specs.Maps.{change_place, map_from, other_place, set_place}
 use Rattle.es_feed.specs.Origins.{base_for, no_origin, origin_with}
 use Rattle.es_feed.specs.declared.due.Due.{Due}
 use Rattle.es_feed.specs.declared.origin.Origin.{Origin}
-use Rattle.es_feed.specs.Feeding.{FedStreamView, Fed, FeedView, ahead_of, unless_ahead, unless_fault, at_moment, last_dts, base_by, base_of, origin_after, before_with, fed_with, stream_with, fed_by, whole_by, after_found, lost_by, told_by, told_of, fault_by, unit_after, follow_after, greatest_if, place_from, after_at, fed_at, after_place, fed_place, after_unit, fed_unit, map_fed, after_one, fed_one, after_all, fed_all, fed_last, fed_ends, fed_to_end, greatest_of, is_fallen, other_fed, packet_fault, packet_fed, restart_fed, restart_in, restarted, seen_by, seen_in, seen_of, seen_place, watched, greatest_pts_limit}
+use Rattle.es_feed.specs.Feeding.{FedStreamView, Fed, FeedView, ahead_of, unless_ahead, unless_fault, at_moment, last_dts, base_by, base_of, origin_after}
+use Rattle.es_feed.specs.Feeding.{before_with, fed_with, stream_with, fed_by, whole_by, after_found, lost_by, told_by, told_of, fault_by, unit_after}
+use Rattle.es_feed.specs.Feeding.{follow_after, greatest_if, place_from, after_at, fed_at, after_place, fed_place, after_unit, fed_unit, map_fed, after_one}
+use Rattle.es_feed.specs.Feeding.{fed_one, after_all, fed_all, fed_last, fed_ends, fed_to_end, greatest_of, is_fallen, other_fed, packet_fault, packet_fed}
+use Rattle.es_feed.specs.Feeding.{restart_fed, restart_in, restarted, seen_by, seen_in, seen_of, seen_place, watched, greatest_pts_limit}
 use Rattle.es_feed.specs.EachStream.{has_fault, have_fault}
 use Rattle.es_feed.specs.Restarts.{fallen_after, origin_by, restart_of}
 use Rattle.es_feed.specs.declared.feed_fault.PacketFault.{PacketFault}
@@ -35,7 +41,8 @@ use Rattle.es_feed.proofs.UncutUnits.{Uncut, no_unit, past_here, uncut_step, und
 timed : Due → Origin → ℕ → Option ℕ → List CarriedUnit → List Fed
 timed d o n before [] = []
 timed d o n before (w ∷ ws) =
-    (n, at_moment d.greatest (base_of d o w) before w.unit) ∷ timed d (origin_with o w.packet (base_of d o w)) n (last_dts before (at_moment d.greatest (base_of d o w) before w.unit)) ws
+    (n, at_moment d.greatest (base_of d o w) before w.unit) ∷ timed d (origin_with o w.packet (base_of d o w)) n
+    (last_dts before (at_moment d.greatest (base_of d o w) before w.unit)) ws
 
 timed_one : (d : Due) (o : Origin) (n : ℕ) (before : Option ℕ) (w : Option CarriedUnit) (ws : List CarriedUnit) →
     timed d o n before (option_to_list w ++ ws) ≡ option_to_list (fed_with d o n before w) ++ timed d (origin_after d o w) n (before_with d o before w) ws
@@ -86,16 +93,19 @@ other_after e o s f follows other =
     let with_these = λ (u : UnitsSoFar) (b : Bool). single e o (record { number = s.number; before = s.before; units = u; follow = b }) in
     let units : after_finding s.units f ≡ s.units = rw other refl in
     let same : follow_after s f ≡ s.follow =
-    ap (λ (u : UnitsSoFar). is_some u.unit || (s.follow && not (is_some (told_by s f)))) units ∙ other_follow s.follow (is_some s.units.unit) (not (is_some (told_by s f))) follows in
+    ap (λ (u : UnitsSoFar). is_some u.unit || (s.follow && not (is_some (told_by s f)))) units
+    ∙ other_follow s.follow (is_some s.units.unit) (not (is_some (told_by s f))) follows in
     sym (ap (λ (b : Bool). with_these (after_finding s.units f) b) same ∙ ap (λ (u : UnitsSoFar). with_these u s.follow) units)
 
-calm : (e : ℕ) (o : Origin) (s : FedStreamView) (start : Option (ℕ × ℕ)) (x : Option Fed) → is_fallen x ≡ false → restarted (single e o s) (seen_of None start x) ≡ single e o s
+calm : (e : ℕ) (o : Origin) (s : FedStreamView) (start : Option (ℕ × ℕ)) (x : Option Fed) → is_fallen x ≡ false →
+    restarted (single e o s) (seen_of None start x) ≡ single e o s
 unfolding seen_of fallen_after restart_of origin_by
 calm e o s None x quiet = refl
 calm e o s (Some (packet, stamp)) x quiet = rw quiet refl
 
 single_unit_after : (e : ℕ) (o : Origin) (s : FedStreamView) (f : FindingView) → has_pid s.units.pid f.pid ≡ true →
-    after_unit (watched (single e o s) f) f ≡ single e (origin_after (due_from e) o (whole_by s f)) (stream_with (due_from e) o (after_found s f) (whole_by s f))
+    after_unit (watched (single e o s) f) f ≡ single e (origin_after (due_from e) o (whole_by s f))
+    (stream_with (due_from e) o (after_found s f) (whole_by s f))
 unfolding map_from set_place place_from after_place after_at greatest_if
 single_unit_after e o s f own = rw own refl
 
@@ -125,14 +135,16 @@ neither false b none = (refl, none)
 single_fed_by : (e : ℕ) (o : Origin) (s : FedStreamView) (f : FindingView) (own : Bool) → has_pid s.units.pid f.pid ≡ own → (own ≡ true → told_by s f ≡ None) →
     is_fallen (fed_by (due_from e) o s (whole_by s f)) ≡ false →
     fed_one (single e o s) f ≡ option_to_list (packet_fed (packet_fault f)) ++ option_to_list (fed_by (due_from e) o s (whole_by s f))
-unfolding map_from set_place change_place map_fed place_from fed_place fed_at fed_with made_whole greatest_if told_of seen_place restart_of restart_fed other_place other_fed
+unfolding map_from set_place change_place map_fed place_from fed_place fed_at fed_with made_whole greatest_if told_of seen_place restart_of restart_fed
+    other_place other_fed
 single_fed_by e o s f true own none quiet =
     let unit = option_to_list (fed_by (due_from e) o s (whole_by s f)) in
     let packet = option_to_list (packet_fed (packet_fault f)) in
     let g = after_unit (watched (single e o s) f) f in
     let here : fed_unit (watched (single e o s) f) f ≡ unit ++ [] = rw (own, none refl) refl in
     let calm : restart_in g (seen_in (watched (single e o s) f) f) ≡ None =
-    ap (λ (seen : Seen). restart_in g seen) (single_seen e o s f own) ∙ no_restart (greatest_of g) g.fallen (start_of (whole_by s f)) (fed_by (due_from e) o s (whole_by s f)) quiet in
+    ap (λ (seen : Seen). restart_in g seen) (single_seen e o s f own)
+    ∙ no_restart (greatest_of g) g.fallen (start_of (whole_by s f)) (fed_by (due_from e) o s (whole_by s f)) quiet in
     ap₂ (λ (xs : List Fed) (r : Option Restart). packet ++ (xs ++ option_to_list (restart_fed r))) here calm
     ∙ ap (λ (xs : List Fed). packet ++ xs) (append-nil (unit ++ []) ∙ append-nil unit)
 single_fed_by e o s f false own none quiet = rw (own, other_role s.units.pid f own) refl
@@ -205,20 +217,24 @@ whole_step s f fs whole =
     let lost = neither (has_pid pid f.pid && is_loss (lost_by f.packet f.what)) (has_loss pid fs) whole.unlost in
     let on = uncut_step pid s.units.unit (role_of pid f) fs (sym (past_here pid s.units.unit f fs) ∙ whole.under) cut.0 in
     let quiet : IsQuiet s f = record { follows = whole.follows; goes_on = on.1 } in
-    let silent : has_pid pid f.pid ≡ true → told_by s f ≡ None = λ own. nothing_told s f quiet (no_loss (has_pid pid f.pid) (lost_by f.packet f.what) lost.0 own) in
+    let silent : has_pid pid f.pid ≡ true → told_by s f ≡ None =
+    λ own. nothing_told s f quiet (no_loss (has_pid pid f.pid) (lost_by f.packet f.what) lost.0 own) in
     record { silent = silent; uncut = cut.1; unlost = lost.1; under = on.0; follows = whole_step_by s f (has_pid pid f.pid) quiet refl silent }
 
 -- the first of units that all have moments, and the others
 timed_clear : (d : Due) (o : Origin) (n : ℕ) (before : Option ℕ) (w : Option CarriedUnit) (ws vs : List CarriedUnit) →
     have_fault (timed d o n before ((option_to_list w ++ ws) ++ vs)) ≡ false →
-    (have_fault (option_to_list (fed_with d o n before w)) ≡ false) × (have_fault (timed d (origin_after d o w) n (before_with d o before w) (ws ++ vs)) ≡ false)
+    (have_fault (option_to_list (fed_with d o n before w)) ≡ false) ×
+    (have_fault (timed d (origin_after d o w) n (before_with d o before w) (ws ++ vs)) ≡ false)
 timed_clear d o n before w ws vs clear =
     let parts = ap (λ (us : List CarriedUnit). timed d o n before us) (append_assoc (option_to_list w) ws vs) ∙ timed_one d o n before w (ws ++ vs) in
-    fault_split (option_to_list (fed_with d o n before w)) (timed d (origin_after d o w) n (before_with d o before w) (ws ++ vs)) (ap have_fault (sym parts) ∙ clear)
+    fault_split (option_to_list (fed_with d o n before w)) (timed d (origin_after d o w) n (before_with d o before w) (ws ++ vs))
+    (ap have_fault (sym parts) ∙ clear)
 
 single_timed : (e : ℕ) (o : Origin) (s : FedStreamView) (fs : List FindingView) → IsWhole s fs →
     have_fault (timed (due_from e) o s.number s.before (given s.units fs ++ option_to_list (ended_unit false (after_findings s.units fs).unit))) ≡ false →
-    beside_packets (fed_to_end (single e o s) fs) ≡ timed (due_from e) o s.number s.before (given s.units fs ++ option_to_list (ended_unit false (after_findings s.units fs).unit))
+    beside_packets (fed_to_end (single e o s) fs) ≡ timed (due_from e) o s.number s.before
+    (given s.units fs ++ option_to_list (ended_unit false (after_findings s.units fs).unit))
 unfolding fed_all after_all fed_last given after_findings timed greatest_if
 single_timed e o s [] whole clear =
     let d = due_from e in
@@ -242,7 +258,8 @@ single_timed e o s (f ∷ fs) whole clear =
     (single_after_by e o s f (has_pid s.units.pid f.pid) whole.follows refl (no_fall (fed_by d o s w) two.0))
     ∙ ap (λ (xs : List Fed). option_to_list (fed_by d o s w) ++ xs) (single_timed e (origin_after d o w) t fs rest two.1)
     ∙ sym (timed_one d o s.number s.before w later)
-    ∙ ap (λ (ws : List CarriedUnit). timed d o s.number s.before ws) (sym (append_assoc (option_to_list w) (given t.units fs) (option_to_list (ended_unit false (after_findings t.units fs).unit))))
+    ∙ ap (λ (ws : List CarriedUnit). timed d o s.number s.before ws)
+    (sym (append_assoc (option_to_list w) (given t.units fs) (option_to_list (ended_unit false (after_findings t.units fs).unit))))
 
 -- 3. Without a fault
 
@@ -282,16 +299,19 @@ base_is : (e base : ℕ) (w : CarriedUnit) → base_of (due_from e) (fixed base)
 unfolding base_by
 base_is e base w = rw (base_fixed base w.packet) refl
 
-timed_moved : (e base n place : ℕ) (before : Option ℕ) (ws : List CarriedUnit) → first_fault greatest_pts_limit base before place (map (λ w. w.unit) ws) ≡ None →
+timed_moved : (e base n place : ℕ) (before : Option ℕ) (ws : List CarriedUnit) →
+    first_fault greatest_pts_limit base before place (map (λ w. w.unit) ws) ≡ None →
     timed (due_from e) (fixed base) n before ws ≡ map (λ (x : AccessUnit). (n, Ok x)) (moved base before (map (λ w. w.unit) ws))
 unfolding timed first_fault moved unless_fault unless_ahead ahead_of last_dts
 timed_moved e base n place before [] sound = refl
 timed_moved e base n place before (w ∷ ws) sound =
     let d = due_from e in
     let u = w.unit in
-    let two = no_fault place (unit_fault greatest_pts_limit base before u) (first_fault greatest_pts_limit base (Some (dts_at base before u.dts)) (place + 1) (map (λ w. w.unit) ws)) sound in
+    let two = no_fault place (unit_fault greatest_pts_limit base before u)
+    (first_fault greatest_pts_limit base (Some (dts_at base before u.dts)) (place + 1) (map (λ w. w.unit) ws)) sound in
     let here : at_moment None base before u ≡ Ok (unit_at base before u) = ap (λ (o : Option StampFault). unless_fault None o (unit_at base before u)) two.0 in
-    ap (λ (b : ℕ). (n, at_moment None b before u) ∷ timed d (origin_with (fixed base) w.packet b) n (last_dts before (at_moment None b before u)) ws) (base_is e base w)
+    ap (λ (b : ℕ). (n, at_moment None b before u) ∷ timed d (origin_with (fixed base) w.packet b) n (last_dts before (at_moment None b before u)) ws)
+    (base_is e base w)
     ∙ ap (λ (o : Origin). (n, at_moment None base before u) ∷ timed d o n (last_dts before (at_moment None base before u)) ws) (origin_fixed base w.packet)
     ∙ ap (λ (r : Result AccessUnit FeedFault). (n, r) ∷ timed d (fixed base) n (last_dts before r) ws) here
     ∙ ap (λ (x : ℕ). (n, Ok (unit_at base before u)) ∷ timed d (fixed base) n (Some x) ws) (unit_dts base before u)
@@ -301,7 +321,8 @@ base_at_first : (e : ℕ) (w : CarriedUnit) → base_of (due_from e) no_origin w
 unfolding base_by
 base_at_first e w = rw (base_first w.packet) refl
 
-first_fixes : (e n : ℕ) (w : CarriedUnit) (ws : List CarriedUnit) → timed (due_from e) no_origin n None (w ∷ ws) ≡ timed (due_from e) (fixed (distance e w.unit.dts)) n None (w ∷ ws)
+first_fixes : (e n : ℕ) (w : CarriedUnit) (ws : List CarriedUnit) →
+    timed (due_from e) no_origin n None (w ∷ ws) ≡ timed (due_from e) (fixed (distance e w.unit.dts)) n None (w ∷ ws)
 unfolding timed
 first_fixes e n w ws =
     let d = due_from e in
@@ -311,7 +332,8 @@ first_fixes e n w ws =
     ∙ ap (λ (o : Origin). one o base) (origin_first base w.packet ∙ sym (origin_fixed base w.packet))
     ∙ ap (λ (b : ℕ). one (origin_with (fixed base) w.packet b) b) (sym (base_is e base w))
 
-moved_by_first : (e n : ℕ) (ws : List CarriedUnit) (u : AccessUnit) (us : List AccessUnit) → map (λ w. w.unit) ws ≡ u ∷ us → first_fault greatest_pts_limit (distance e u.dts) None 0 (u ∷ us) ≡ None →
+moved_by_first : (e n : ℕ) (ws : List CarriedUnit) (u : AccessUnit) (us : List AccessUnit) → map (λ w. w.unit) ws ≡ u ∷ us →
+    first_fault greatest_pts_limit (distance e u.dts) None 0 (u ∷ us) ≡ None →
     timed (due_from e) no_origin n None ws ≡ map (λ (x : AccessUnit). (n, Ok x)) (moved (distance e u.dts) None (u ∷ us))
 moved_by_first e n [] u us is sound = absurd cc
 moved_by_first e n (w ∷ ws) u us is sound =
@@ -319,7 +341,8 @@ moved_by_first e n (w ∷ ws) u us is sound =
     let base : distance e w.unit.dts ≡ distance e u.dts = ap (λ (x : AccessUnit). distance e x.dts) head in
     let all = map (λ (w : CarriedUnit). w.unit) (w ∷ ws) in
     let whole : first_fault greatest_pts_limit (distance e w.unit.dts) None 0 all ≡ None =
-    subst (λ (b : ℕ). first_fault greatest_pts_limit b None 0 all ≡ None) (sym base) (subst (λ (l : List AccessUnit). first_fault greatest_pts_limit (distance e u.dts) None 0 l ≡ None) (sym is) sound) in
+    subst (λ (b : ℕ). first_fault greatest_pts_limit b None 0 all ≡ None) (sym base)
+    (subst (λ (l : List AccessUnit). first_fault greatest_pts_limit (distance e u.dts) None 0 l ≡ None) (sym is) sound) in
     first_fixes e n w ws ∙ timed_moved e (distance e w.unit.dts) n 0 None (w ∷ ws) whole
     ∙ ap (λ (b : ℕ). map (λ (x : AccessUnit). (n, Ok x)) (moved b None all)) base
     ∙ ap (λ (l : List AccessUnit). map (λ (x : AccessUnit). (n, Ok x)) (moved (distance e u.dts) None l)) is

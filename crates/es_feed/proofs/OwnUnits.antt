@@ -5,7 +5,8 @@ use Rattle.std.specs.Prelude.{unwrap_or}
 use Rattle.std.proofs.lemmas.List.{append_assoc, append-nil}
 use Rattle.demux.specs.Views.{FindingView}
 use Rattle.es_units.specs.CarriedUnits.{CarriedUnit, RoleView, Ignored, Start, Continuation, Interruption, end_of, is_cut, role_of, carried_units}
-use Rattle.es_units.specs.UnitSteps.{UnitsSoFar, after_finding, after_findings, ended_unit, given, goes_on_as, has_cut, is_start_cut, lengthened, made_whole, none_so_far}
+use Rattle.es_units.specs.UnitSteps.{UnitsSoFar, after_finding, after_findings, ended_unit, given, goes_on_as, has_cut, is_start_cut, lengthened, made_whole}
+use Rattle.es_units.specs.UnitSteps.{none_so_far}
 use Rattle.es_units.proofs.UnitSteps.{uncut_carried}
 use Rattle.es_feed.specs.EachStream.{if_start, next_starts, one_by_one, starts_next}
 
@@ -51,7 +52,8 @@ pub record AreAlone (u : UnitsSoFar) (fs : List FindingView) : Type 0 where
   pub under_way : follows u.unit (next_starts u.pid fs) ≡ true
   pub later : one_by_one u.pid fs ≡ true
 
-alone_as : (w : Option CarriedUnit) (r : RoleView) (next : Bool) → follows w (starts_next r next) ≡ true → if_start r next ≡ true → follows (goes_on_as w r) next ≡ true
+alone_as : (w : Option CarriedUnit) (r : RoleView) (next : Bool) → follows w (starts_next r next) ≡ true → if_start r next ≡ true →
+    follows (goes_on_as w r) next ≡ true
 unfolding follows starts_next if_start goes_on_as lengthened
 alone_as None Ignored next is starts = refl
 alone_as None (Start n) next is starts = starts
@@ -86,7 +88,8 @@ more_as : (pid : ℕ) (split : Bool) (w : Option CarriedUnit) (f : FindingView) 
 more_as pid split w f fs r is =
     to_come_more (so_far pid split w) f fs ∙ ap (λ (r : RoleView). option_to_list (made_whole split w r) ++ to_come (so_far pid split (goes_on_as w r)) fs) is
 
-early_by : (pid : ℕ) (split : Bool) (x : CarriedUnit) (f : FindingView) (fs : List FindingView) (r : RoleView) → role_of pid f ≡ r → starts_next r (next_starts pid fs) ≡ true →
+early_by : (pid : ℕ) (split : Bool) (x : CarriedUnit) (f : FindingView) (fs : List FindingView) (r : RoleView) → role_of pid f ≡ r →
+    starts_next r (next_starts pid fs) ≡ true →
     (next_starts pid fs ≡ true → to_come (so_far pid split (Some x)) fs ≡ option_to_list (ended_unit false (Some x)) ++ to_come (so_far pid split None) fs) →
     to_come (so_far pid split (Some x)) (f ∷ fs) ≡ option_to_list (ended_unit false (Some x)) ++ to_come (so_far pid split None) (f ∷ fs)
 unfolding starts_next made_whole goes_on_as to_come ended_unit
@@ -144,7 +147,8 @@ unfolding one_by_one has_cut
 no_cut pid [] is = refl
 no_cut pid (f ∷ fs) is =
     let start = if_start (role_of pid f) (next_starts pid fs) in
-    neither (is_start_cut pid (role_of pid f) fs) (has_cut pid fs) (start_uncut pid (role_of pid f) fs (and_first start (one_by_one pid fs) is)) (no_cut pid fs (and_last start (one_by_one pid fs) is))
+    neither (is_start_cut pid (role_of pid f) fs) (has_cut pid fs) (start_uncut pid (role_of pid f) fs (and_first start (one_by_one pid fs) is))
+    (no_cut pid fs (and_last start (one_by_one pid fs) is))
 
 pub alone_first : (pid : ℕ) (split : Bool) (fs : List FindingView) → one_by_one pid fs ≡ true → AreAlone (none_so_far pid split) fs
 unfolding follows

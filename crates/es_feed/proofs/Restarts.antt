@@ -29,7 +29,8 @@ no_fall None none = refl
 no_fall (Some (n, Ok u)) none = refl
 no_fall (Some (n, Err fault)) none = absurd cc
 
-pub no_restart : (moment : ℕ) (fallen : Option ℕ) (start : Option (ℕ × ℕ)) (x : Option Fed) → is_fallen x ≡ false → restart_of moment fallen (seen_of None start x) ≡ None
+pub no_restart : (moment : ℕ) (fallen : Option ℕ) (start : Option (ℕ × ℕ)) (x : Option Fed) → is_fallen x ≡ false →
+    restart_of moment fallen (seen_of None start x) ≡ None
 unfolding restart_of seen_of
 no_restart moment fallen None x none = refl
 no_restart moment fallen (Some (packet, stamp)) x none = rw none refl

@@ -56,25 +56,30 @@ pub told_none_of : (pids : List ℕ) (port : Port) (one : Fed) (u : AccessUnit) 
 unfolding lines_of
 told_none_of pids port one u is = subst (λ (x : Result AccessUnit FeedFault). Tells port port (lines_of pids (one.0, x))) (sym is) (told_none port)
 
-pub told_one_of : (pids : List ℕ) (before after : Port) (one : Fed) (fault : FeedFault) (pid : ℕ) → one.1 ≡ Err fault → pid ≡ pid_at pids one.0 → Reports (between before after) (fault_line pid fault) →
+pub told_one_of : (pids : List ℕ) (before after : Port) (one : Fed) (fault : FeedFault) (pid : ℕ) → one.1 ≡ Err fault → pid ≡ pid_at pids one.0 →
+    Reports (between before after) (fault_line pid fault) →
     Tells before after (lines_of pids one)
 unfolding lines_of
 told_one_of pids before after one fault pid is at r =
     subst (λ (x : Result AccessUnit FeedFault). Tells before after (lines_of pids (one.0, x))) (sym is)
     (subst (λ (p : ℕ). Tells before after (fault_line p fault ∷ [])) at (told_more before before after [] (fault_line pid fault) (told_none before) r))
 
-any_step : (fed : List Fed) (i : ℕ) (one : Fed) → i < length fed → one ≡ get_or fed i one → have_fault (drop i fed) ≡ (has_fault one || have_fault (drop (i + 1) fed))
+any_step : (fed : List Fed) (i : ℕ) (one : Fed) → i < length fed → one ≡ get_or fed i one →
+    have_fault (drop i fed) ≡ (has_fault one || have_fault (drop (i + 1) fed))
 any_step fed i one s e = at_drop_more have_fault fed i one s ∙ ap (λ (x : Fed). has_fault x || have_fault (drop (i + 1) fed)) (sym e)
 
-lines_step : (pids : List ℕ) (fed : List Fed) (i : ℕ) (one : Fed) → i < length fed → one ≡ get_or fed i one → fed_lines pids (drop i fed) ≡ lines_of pids one ++ fed_lines pids (drop (i + 1) fed)
+lines_step : (pids : List ℕ) (fed : List Fed) (i : ℕ) (one : Fed) → i < length fed → one ≡ get_or fed i one → fed_lines pids (drop i fed) ≡ lines_of pids one
+    ++ fed_lines pids (drop (i + 1) fed)
 lines_step pids fed i one s e = at_drop_more (fed_lines pids) fed i one s ∙ ap (λ (x : Fed). lines_of pids x ++ fed_lines pids (drop (i + 1) fed)) (sym e)
 
 pub tells_more : (pids : List ℕ) (old mid new : Port) (found told all : Bool) (fed : List Fed) (i : ℕ) (one : Fed) → i < length fed → one ≡ get_or fed i one →
-    TellsFront pids old mid found fed i → Tells mid new (lines_of pids one) → told ≡ has_fault one → all ≡ (found || told) → TellsFront pids old new all fed (i + 1)
+    TellsFront pids old mid found fed i → Tells mid new (lines_of pids one) → told ≡ has_fault one → all ≡ (found || told) →
+    TellsFront pids old new all fed (i + 1)
 tells_more pids old mid new found told all fed i one s e so t h o = record {
   texts = so.texts ++ lines_of pids one;
   tells = told_all old mid new so.texts (lines_of pids one) so.tells t;
-  left = append_assoc so.texts (lines_of pids one) (fed_lines pids (drop (i + 1) fed)) ∙ ap (λ (x : List (List ℕ)). so.texts ++ x) (sym (lines_step pids fed i one s e)) ∙ so.left;
+  left = append_assoc so.texts (lines_of pids one) (fed_lines pids (drop (i + 1) fed))
+      ∙ ap (λ (x : List (List ℕ)). so.texts ++ x) (sym (lines_step pids fed i one s e)) ∙ so.left;
   faulty = ap (λ (x : Bool). x || have_fault (drop (i + 1) fed)) (o ∙ ap (λ (x : Bool). found || x) h)
       ∙ sym (or_assoc found (has_fault one) (have_fault (drop (i + 1) fed)))
       ∙ ap (λ (x : Bool). found || x) (sym (any_step fed i one s e)) ∙ so.faulty;
@@ -83,6 +88,7 @@ tells_more pids old mid new found told all fed i one s e so t h o = record {
 pub tells_whole : (pids : List ℕ) (old now : Port) (found : Bool) (fed : List Fed) (i : ℕ) → length fed ≤ i → TellsFront pids old now found fed i →
     Tells old now (fed_lines pids fed) × (found ≡ have_fault fed)
 tells_whole pids old now found fed i s so = (
-  subst (λ (x : List (List ℕ)). Tells old now x) (sym (append-nil so.texts) ∙ ap (λ (x : List Fed). so.texts ++ fed_lines pids x) (sym (drop_all i fed s)) ∙ so.left) so.tells,
+  subst (λ (x : List (List ℕ)). Tells old now x)
+      (sym (append-nil so.texts) ∙ ap (λ (x : List Fed). so.texts ++ fed_lines pids x) (sym (drop_all i fed s)) ∙ so.left) so.tells,
   sym (or_false found) ∙ ap (λ (x : List Fed). found || have_fault x) (sym (drop_all i fed s)) ∙ so.faulty,
 )

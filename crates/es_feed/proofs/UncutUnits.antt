@@ -29,7 +29,8 @@ unfolding Uncut under_cut past_cut end_of goes_on_as lengthened
 uncut_more pid id u body fs true is here = let on : is_cut u.stream_id pid fs ≡ false = rw is at here in rw is (on, refl)
 uncut_more pid id u body fs false is here = absurd (let no : true ≡ false = rw is at here in cc)
 
-pub uncut_step : (pid : ℕ) (u : Option CarriedUnit) (r : RoleView) (fs : List FindingView) → past_cut pid u r fs ≡ false → is_start_cut pid r fs ≡ false → Uncut pid u (goes_on_as u r) fs
+pub uncut_step : (pid : ℕ) (u : Option CarriedUnit) (r : RoleView) (fs : List FindingView) → past_cut pid u r fs ≡ false → is_start_cut pid r fs ≡ false →
+    Uncut pid u (goes_on_as u r) fs
 unfolding Uncut under_cut past_cut end_of goes_on_as lengthened is_start_cut
 uncut_step pid None Ignored fs here whole = (refl, refl)
 uncut_step pid None (Start next) fs here whole = (whole, refl)

@@ -1,5 +1,6 @@
 -- The slips of a stream while it comes.
-use Rattle.std.proofs.Common.{◌≡◌, ◌∙◌, ◌≤◌, ℕ, ◌+◌, ◌++◌, ◌==◌, ◌/◌, ◌||◌, if◌then◌else◌, Bool, true, false, Ok, Err, List, [], ◌∷◌, length, drop, refl, sym, ap, subst, arith, drop-drop}
+use Rattle.std.proofs.Common.{◌≡◌, ◌∙◌, ◌≤◌, ℕ, ◌+◌, ◌++◌, ◌==◌, ◌/◌, ◌||◌, if◌then◌else◌, Bool, true, false, Ok, Err, List, [], ◌∷◌, length, drop, refl, sym}
+use Rattle.std.proofs.Common.{ap, subst, arith, drop-drop}
 use Rattle.std.specs.List.{flat_map}
 use Rattle.std.proofs.lemmas.Grind.{flat_map-append}
 use Rattle.std.proofs.lemmas.List.{append_assoc, append-nil}
@@ -41,24 +42,29 @@ slips_more stream bytes ended at rest s p gone before is within stepped packets 
     let middle = with_stretch s.in_step rest old in
     let next = with_slip s.slipped middle in
     let noted = stretch_noted rest ended s old middle next within stepped packets refl refl in
-    let left : drop (s.in_step + s.slipped) rest ≡ drop (at + (s.in_step + s.slipped)) bytes = ap (λ (r : List ℕ). drop (s.in_step + s.slipped) r) is ∙ drop-drop (s.in_step + s.slipped) at bytes in
+    let left : drop (s.in_step + s.slipped) rest ≡ drop (at + (s.in_step + s.slipped)) bytes = ap (λ (r : List ℕ). drop (s.in_step + s.slipped) r) is
+    ∙ drop-drop (s.in_step + s.slipped) at bytes in
     let joined : slips_with s p (gone ++ before) ≡ gone ++ slips_with s p before = slips_after (s.slipped == 0) in
     let after : next ≡ notes_at middle.fields (gone ++ slips_with s p before) (place_with s p) =
-    after_slip s rest (gone ++ before) p old refl refl refl (s.slipped == 0) refl ∙ ap (λ (found : List Slip). notes_at middle.fields found (place_with s p)) joined in
+    after_slip s rest (gone ++ before) p old refl refl refl (s.slipped == 0) refl
+    ∙ ap (λ (found : List Slip). notes_at middle.fields found (place_with s p)) joined in
     record {
       fields = middle.fields;
       so = λ more none.
           let early = so.so more none in
           let step : SayAlike old (rest ++ more) next (drop (s.in_step + s.slipped) rest ++ more) = noted more none in
-          let same : SayAlike old (drop at bytes ++ more) (notes_at middle.fields (gone ++ slips_with s p before) (place_with s p)) (drop (at + (s.in_step + s.slipped)) bytes ++ more) =
-          subst (λ (r : List ℕ). SayAlike old (r ++ more) (notes_at middle.fields (gone ++ slips_with s p before) (place_with s p)) (drop (at + (s.in_step + s.slipped)) bytes ++ more)) is
+          let same : SayAlike old (drop at bytes ++ more) (notes_at middle.fields (gone ++ slips_with s p before) (place_with s p))
+          (drop (at + (s.in_step + s.slipped)) bytes ++ more) =
+          subst (λ (r : List ℕ). SayAlike old (r ++ more) (notes_at middle.fields (gone ++ slips_with s p before) (place_with s p))
+          (drop (at + (s.in_step + s.slipped)) bytes ++ more)) is
           (subst (λ (r : List ℕ). SayAlike old (rest ++ more) (notes_at middle.fields (gone ++ slips_with s p before) (place_with s p)) (r ++ more)) left
           (subst (λ (n : NotesView). SayAlike old (rest ++ more) n (drop (s.in_step + s.slipped) rest ++ more)) after step)) in
           record { slips = early.slips ∙ same.slips; fields = early.fields ∙ same.fields };
     }
   where
     slips_after : (none : Bool) →
-        (if none then gone ++ before else (gone ++ before) ++ record { packet = p.packet + s.in_step / 188; start = p.start + s.in_step; size = s.slipped } ∷ [])
+        (if none then gone ++ before else (gone ++ before) ++ record { packet = p.packet + s.in_step / 188; start = p.start + s.in_step; size = s.slipped } ∷
+        [])
         ≡ gone ++ (if none then before else before ++ record { packet = p.packet + s.in_step / 188; start = p.start + s.in_step; size = s.slipped } ∷ [])
     slips_after true = refl
     slips_after false = append_assoc gone before (record { packet = p.packet + s.in_step / 188; start = p.start + s.in_step; size = s.slipped } ∷ [])
@@ -71,7 +77,8 @@ piece_watched stream piece held old p found is so = record {
   fields = so.fields;
   so = λ more none.
       subst (λ (r : List ℕ). SayAlike no_notes r (notes_at so.fields found p) (held ++ more)) (sym (append_assoc stream piece more))
-      (subst (λ (r : List ℕ). SayAlike no_notes (stream ++ (piece ++ more)) (notes_at so.fields found p) r) (sym (append_assoc old piece more) ∙ ap (λ (h : List ℕ). h ++ more) (sym is))
+      (subst (λ (r : List ℕ). SayAlike no_notes (stream ++ (piece ++ more)) (notes_at so.fields found p) r)
+      (sym (append_assoc old piece more) ∙ ap (λ (h : List ℕ). h ++ more) (sym is))
       (so.so (piece ++ more) (λ e. absurd cc)));
 }
 
@@ -90,14 +97,17 @@ all_slips stream held p found none so =
 pub no_rounds : AreRounds [] [] []
 no_rounds = record { rounds = []; fed_is = refl; found_is = refl; all_is = refl }
 
-pub round_more : (fed more : List Fed) (found next : List Slip) (all : List Fed) → AreRounds fed found all → AreRounds (fed ++ more) (found ++ next) (all ++ (more ++ slips_fed next))
+pub round_more : (fed more : List Fed) (found next : List Slip) (all : List Fed) → AreRounds fed found all →
+    AreRounds (fed ++ more) (found ++ next) (all ++ (more ++ slips_fed next))
 round_more fed more found next all r =
     let last : Round = record { fed = more; found = next } in
     record {
       rounds = r.rounds ++ last ∷ [];
-      fed_is = flat_map-append (λ (x : Round). x.fed) r.rounds (last ∷ []) ∙ ap (λ (xs : List Fed). flat_map (λ (x : Round). x.fed) r.rounds ++ xs) (append-nil more)
+      fed_is = flat_map-append (λ (x : Round). x.fed) r.rounds (last ∷ [])
+          ∙ ap (λ (xs : List Fed). flat_map (λ (x : Round). x.fed) r.rounds ++ xs) (append-nil more)
           ∙ ap (λ (xs : List Fed). xs ++ more) r.fed_is;
-      found_is = flat_map-append (λ (x : Round). x.found) r.rounds (last ∷ []) ∙ ap (λ (xs : List Slip). flat_map (λ (x : Round). x.found) r.rounds ++ xs) (append-nil next)
+      found_is = flat_map-append (λ (x : Round). x.found) r.rounds (last ∷ [])
+          ∙ ap (λ (xs : List Slip). flat_map (λ (x : Round). x.found) r.rounds ++ xs) (append-nil next)
           ∙ ap (λ (xs : List Slip). xs ++ next) r.found_is;
       all_is = flat_map-append all_of r.rounds (last ∷ []) ∙ ap (λ (xs : List Fed). flat_map all_of r.rounds ++ xs) (append-nil (more ++ slips_fed next))
           ∙ ap (λ (xs : List Fed). xs ++ (more ++ slips_fed next)) r.all_is;

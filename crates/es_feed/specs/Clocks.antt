@@ -47,4 +47,5 @@ jumps (Some before) base = nat_lt 900_000 (distance before base)
 unfoldable pub jump_of : Option ℕ → FoundPcr → Option ClockJump
 jump_of None pcr = None
 jump_of (Some before) pcr =
-    if pcr.discontinuity || nat_lt 900_000 (distance before pcr.base) then Some (record { pid = pcr.pid; packet = pcr.packet; before = before; after = pcr.base }) else None
+    if pcr.discontinuity || nat_lt 900_000 (distance before pcr.base) then Some
+    (record { pid = pcr.pid; packet = pcr.packet; before = before; after = pcr.base }) else None

@@ -1,5 +1,6 @@
 -- What is fed of each stream of a description, where nothing is told.
-use Rattle.std.specs.Prelude.{◌≡◌, ◌≤◌, ◌<◌, ℕ, ◌^◌, ◌==◌, ◌&&◌, Bool, true, false, if◌then◌else◌, ⊤, IfSome, Option, Some, None, Ok, Err, List, [], ◌∷◌, length, slice_get}
+use Rattle.std.specs.Prelude.{◌≡◌, ◌≤◌, ◌<◌, ℕ, ◌^◌, ◌==◌, ◌&&◌, Bool, true, false, if◌then◌else◌, ⊤, IfSome, Option, Some, None, Ok, Err, List, [], ◌∷◌}
+use Rattle.std.specs.Prelude.{length, slice_get}
 use Rattle.std.specs.List.{flat_map, list_any}
 use Rattle.clock27.specs.Release.{release}
 use Rattle.pes_packet.specs.AccessUnits.{AccessUnit}
@@ -87,10 +88,11 @@ pub record AreMovedByOne (earliest : ℕ) (streams : List FedStreamView) (findin
   pub moved_by : (k : ℕ) (s : FedStreamView) → slice_get streams k ≡ Some s → one_by_one s.units.pid findings ≡ true →
       units_fed k fed ≡ moved base None (wire_units s.units.pid findings)
 
--- so it is, with the marks that are asked for, where nothing is told: no packet of the streams is lost, nothing cuts their units, no map changes, the clock does not jump, and each
--- unit has a moment
+-- so it is, with the marks that are asked for, where nothing is told: no packet of the streams is lost, nothing cuts their units, no map changes, the clock
+-- does not jump, and each unit has a moment
 abbrev pub FedByOneConstant : Type 0
-FedByOneConstant = (earliest : ℕ) (marking : MarkingView) (maps : List MapView) (streams : List FedStreamView) (bytes : List ℕ) → earliest < 2 ^ 33 → AreFirst streams →
+FedByOneConstant = (earliest : ℕ) (marking : MarkingView) (maps : List MapView) (streams : List FedStreamView) (bytes : List ℕ) → earliest < 2 ^ 33 →
+    AreFirst streams →
     have_fault (fed_of (feed_first earliest marking maps streams) bytes) ≡ false →
     AreMovedByOne earliest streams (all_marked marking (found_of_all bytes)) (fed_of (feed_first earliest marking maps streams) bytes)
 
@@ -103,7 +105,8 @@ RiseFrom before (u ∷ us) = IfSome before (λ dts. dts < u.dts) × RiseFrom (So
 
 -- so it is of the units of each stream, whatever comes: also where packets are lost, a clock jumps or a stamp is damaged
 abbrev pub EachRises : Type 0
-EachRises = (earliest k : ℕ) (marking : MarkingView) (maps : List MapView) (streams : List FedStreamView) (bytes : List ℕ) → AreFirst streams → k < length streams →
+EachRises = (earliest k : ℕ) (marking : MarkingView) (maps : List MapView) (streams : List FedStreamView) (bytes : List ℕ) → AreFirst streams →
+    k < length streams →
     RiseFrom None (units_fed k (fed_of (feed_first earliest marking maps streams) bytes))
 
 -- then none may be sent before the one before it, with whatever lead

@@ -1,9 +1,11 @@
 -- The units of a description's streams from what is found of a stream, finding by finding, each at its moment as soon as it is
 -- whole.
-use Rattle.std.specs.Prelude.{ℕ, ◌+◌, ◌-◌, ◌++◌, ◌==◌, ◌&&◌, ◌||◌, not, max, nat_lt, Bool, false, if◌then◌else◌, Option, Some, None, is_none, is_some, Result, Ok, Err, List, [], ◌∷◌, length, slice_get, slice_set}
+use Rattle.std.specs.Prelude.{ℕ, ◌+◌, ◌-◌, ◌++◌, ◌==◌, ◌&&◌, ◌||◌, not, max, nat_lt, Bool, false, if◌then◌else◌, Option, Some, None, is_none, is_some, Result}
+use Rattle.std.specs.Prelude.{Ok, Err, List, [], ◌∷◌, length, slice_get, slice_set}
 use Rattle.std.specs.Option.{option_to_list}
 use Rattle.pes_packet.specs.AccessUnits.{AccessUnit}
-use Rattle.demux.specs.Views.{FindingView, WhatView, IsDuplicate, BreaksCounter, IsScrambled, IsTruncated, IsSection, IsBadSection, IsPes, IsBadPes, IsBadPacket, IsErrored}
+use Rattle.demux.specs.Views.{FindingView, WhatView, IsDuplicate, BreaksCounter, IsScrambled, IsTruncated, IsSection, IsBadSection, IsPes, IsBadPes}
+use Rattle.demux.specs.Views.{IsBadPacket, IsErrored}
 use Rattle.demux.specs.Laws.{has_pid}
 use Rattle.es_units.specs.CarriedUnits.{CarriedUnit, first_packet, role_of}
 use Rattle.es_units.specs.Stamps.{distance, unit_at, unit_fault}
@@ -172,7 +174,8 @@ pub record FeedView : Type 0 where
 
 -- before the first packet of a stream
 abbrev pub feed_first : ℕ → MarkingView → List MapView → List FedStreamView → FeedView
-feed_first earliest marking maps streams = record { earliest = earliest; origin = no_origin; shown = None; ticked = 0; marking = marking; maps = maps; streams = streams; fallen = None }
+feed_first earliest marking maps streams =
+    record { earliest = earliest; origin = no_origin; shown = None; ticked = 0; marking = marking; maps = maps; streams = streams; fallen = None }
 
 -- the greatest DTS of units that were fed and of ticks; 0 before the first
 unfoldable pub dts_or_0 : Option ℕ → ℕ
@@ -195,7 +198,18 @@ abbrev pub due_of : FeedView → Due
 due_of feed = record { earliest = feed.earliest; greatest = greatest_if feed.shown (greatest_of feed) }
 
 abbrev pub with_streams : FeedView → Origin → List FedStreamView → FeedView
-with_streams feed o streams = record { earliest = feed.earliest; origin = o; shown = feed.shown; ticked = feed.ticked; marking = feed.marking; maps = feed.maps; streams = streams; fallen = feed.fallen }
+with_streams feed o streams =
+    record {
+      earliest = feed.earliest;
+      origin = o;
+      shown = feed.shown;
+      ticked = feed.ticked;
+      marking = feed.marking;
+      maps = feed.maps;
+      streams =
+          streams;
+      fallen = feed.fallen;
+    }
 
 -- the first stream of this PID; the first of these has number k
 unfoldable pub place_from : Option ℕ → ℕ → List FedStreamView → Option ℕ
@@ -235,7 +249,17 @@ map_fed None = None
 map_fed (Some change) = Some (255, Err (Map change))
 
 abbrev pub watched : FeedView → FindingView → FeedView
-watched feed f = record { earliest = feed.earliest; origin = feed.origin; shown = feed.shown; ticked = feed.ticked; marking = feed.marking; maps = maps_after f feed.maps; streams = feed.streams; fallen = feed.fallen }
+watched feed f =
+    record {
+      earliest = feed.earliest;
+      origin = feed.origin;
+      shown = feed.shown;
+      ticked = feed.ticked;
+      marking = feed.marking;
+      maps = maps_after f feed.maps;
+      streams = feed.streams;
+      fallen = feed.fallen;
+    }
 
 -- 4. A restart
 
@@ -335,7 +359,8 @@ fed_all feed (f ∷ fs) = fed_one feed f ++ fed_all (after_one feed f) fs
 
 unfoldable pub fed_last : Due → Origin → List FedStreamView → List Fed
 fed_last due o [] = []
-fed_last due o (s ∷ ss) = option_to_list (fed_by due o s (ended_unit false s.units.unit)) ++ fed_last due (origin_after due o (ended_unit false s.units.unit)) ss
+fed_last due o (s ∷ ss) = option_to_list (fed_by due o s (ended_unit false s.units.unit))
+    ++ fed_last due (origin_after due o (ended_unit false s.units.unit)) ss
 
 abbrev pub fed_ends : FeedView → List Fed
 fed_ends feed = fed_last (due_of feed) feed.origin feed.streams

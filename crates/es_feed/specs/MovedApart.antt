@@ -34,6 +34,7 @@ pub record AreApart (base : ℕ) (streams : List FedStreamView) (findings : List
 
 -- so it is where nothing is told, and the streams begin no further apart than the first unit of all is due after moment 0
 abbrev pub FedApart : Type 0
-FedApart = (earliest base : ℕ) (marking : MarkingView) (maps : List MapView) (streams : List FedStreamView) (bytes : List ℕ) → earliest < 2 ^ 32 → AreFirst streams →
+FedApart = (earliest base : ℕ) (marking : MarkingView) (maps : List MapView) (streams : List FedStreamView) (bytes : List ℕ) → earliest < 2 ^ 32 →
+    AreFirst streams →
     have_fault (fed_of (feed_first earliest marking maps streams) bytes) ≡ false → AreWhole base earliest streams (all_marked marking (found_of_all bytes)) →
     AreApart base streams (all_marked marking (found_of_all bytes)) (fed_of (feed_first earliest marking maps streams) bytes)

@@ -89,7 +89,8 @@ pub record FeedsSome (old : WatchedView) (input : Device) (new : WatchedView) (f
   pub most : length piece ≤ longest_piece
   pub read : Consumes input.before.bytes input.after.bytes piece
   pub clean : IsClean input
-  pub taken : (first : FeedView) (came : List ℕ) (before : List Fed) → IsWatchedBy first came false old before → IsWatchedBy first (came ++ piece) false new (before ++ fed)
+  pub taken : (first : FeedView) (came : List ℕ) (before : List Fed) → IsWatchedBy first came false old before →
+      IsWatchedBy first (came ++ piece) false new (before ++ fed)
   pub held : length new.stream.held < 1128
 
 -- or the input ended; a call of the reader failed; or there is no memory for the bytes that were read

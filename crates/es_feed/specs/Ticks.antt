@@ -1,8 +1,10 @@
 -- What a clock reference of the input does to the feed. It moves time on where the streams are silent: a second behind the clock a tick is fed, a
 -- record of stream 255 without bytes, after which no unit comes that is due before it. A unit under way whose DTS the clock has passed by a
 -- second is whole, since at its DTS all of it is in the decoder's buffer (ISO/IEC 13818-1, 2.4.2.6). And where the clock jumps, it is taken to
--- come at the greatest DTS so far, so that units which begin after it, and are due after it, go on from there.
-use Rattle.std.specs.Prelude.{◌≡◌, ◌<◌, ℕ, ◌+◌, ◌-◌, ◌++◌, ◌^◌, ◌&&◌, nat_le, nat_lt, Bool, true, false, if◌then◌else◌, Option, Some, None, IfSome, Ok, Err, List, [], ◌∷◌, All, slice_get}
+-- come 0.3 s after the greatest DTS so far, so that units which begin after it, and are due after it, go on from there, and no stream's
+-- first one comes sooner after its last one than usual.
+use Rattle.std.specs.Prelude.{◌≡◌, ◌<◌, ℕ, ◌+◌, ◌-◌, ◌++◌, ◌^◌, ◌&&◌, nat_le, nat_lt, Bool, true, false, if◌then◌else◌, Option, Some, None, IfSome, Ok, Err}
+use Rattle.std.specs.Prelude.{List, [], ◌∷◌, All, slice_get}
 use Rattle.std.specs.Option.{option_to_list}
 use Rattle.demux.specs.Stream.{StreamState, found_in, taken}
 use Rattle.demux.specs.Views.{FindingView}
@@ -84,7 +86,18 @@ abbrev pub is_tick : ℕ → ℕ → Bool
 is_tick greatest late = nat_lt greatest late && nat_le late (2 ^ 52)
 
 abbrev pub with_tick : FeedView → ℕ → FeedView
-with_tick feed t = record { earliest = feed.earliest; origin = feed.origin; shown = feed.shown; ticked = t; marking = feed.marking; maps = feed.maps; streams = feed.streams; fallen = feed.fallen }
+with_tick feed t =
+    record {
+      earliest = feed.earliest;
+      origin = feed.origin;
+      shown = feed.shown;
+      ticked = t;
+      marking = feed.marking;
+      maps = feed.maps;
+      streams =
+          feed.streams;
+      fallen = feed.fallen;
+    }
 
 abbrev pub tick : ℕ → Fed
 tick t = (255, Ok (record { dts = t; pts = t; marks = no_marks; bytes = [] }))
@@ -135,11 +148,26 @@ late_in feed shown = late_of feed.origin.now (greatest_of feed) shown
 
 -- 4. A clock reference of the clock
 
+-- how long after the greatest DTS so far a clock that jumps goes on
+abbrev pub jump_pause : ℕ
+jump_pause = 27_000
+
 abbrev pub origin_by : FeedView → FoundPcr → Origin
-origin_by feed pcr = if jumps feed.shown pcr.base then origin_jumped feed.origin pcr.packet (greatest_of feed) pcr.base else feed.origin
+origin_by feed pcr = if jumps feed.shown pcr.base then origin_jumped feed.origin pcr.packet (greatest_of feed + jump_pause) pcr.base else feed.origin
 
 abbrev pub with_shown : FeedView → FoundPcr → FeedView
-with_shown feed pcr = record { earliest = feed.earliest; origin = origin_by feed pcr; shown = Some pcr.base; ticked = feed.ticked; marking = feed.marking; maps = feed.maps; streams = feed.streams; fallen = feed.fallen }
+with_shown feed pcr =
+    record {
+      earliest = feed.earliest;
+      origin = origin_by feed pcr;
+      shown = Some pcr.base;
+      ticked = feed.ticked;
+      marking = feed.marking;
+      maps =
+          feed.maps;
+      streams = feed.streams;
+      fallen = feed.fallen;
+    }
 
 -- a jump is told before what it does; it is of no stream, so a number stands there that says nothing
 unfoldable pub jump_fed : Option ClockJump → Option Fed

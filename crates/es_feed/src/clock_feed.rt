@@ -19,6 +19,10 @@ const LAST_DTS: u64 = 1 << 52;
 // How long all streams may be silent before that is told, in units of 90 kHz: 10 s.
 const LONGEST_SILENCE: u64 = 900_000;
 
+// How long after the greatest DTS so far a clock that jumps goes on, in units of 90 kHz: 0.3 s, in which no stream has
+// a unit.
+const JUMP_PAUSE: u64 = 27_000;
+
 // What is told of a clock that jumps, if it does.
 #[tactic(auto, unfolding(crate::specs::Ticks::jump_fed))]
 fn told_jump(jump: Option<ClockJump>) -> Option<(u8, Result<Unit, FeedFault>)>
@@ -112,7 +116,7 @@ impl UnitFeed {
         ensures { self.new ≡ spec.with_shown self.old pcr }
     {
         if pcr.is_jump(self.shown) {
-            let moment = self.greatest();
+            let moment = self.greatest() + JUMP_PAUSE;
             self.origin = self.origin.jumped(pcr.packet, moment, pcr.base);
         }
         self.shown = Some(pcr.base);
@@ -137,8 +141,8 @@ impl UnitFeed {
         }
     }
 
-    /// Takes a clock reference: that of another PID than the clock's does nothing. What it tells of the clock goes to `fed`,
-    /// and then a unit under way that is due a second before it, or a tick.
+    /// Takes a clock reference: that of another PID than the clock's does nothing. What it tells of the clock goes to
+    /// `fed`, and then a unit under way that is due a second before it, or a tick.
     pub(crate) fn take_pcr(
         &mut self,
         alloc: &Global,

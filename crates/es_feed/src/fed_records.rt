@@ -1,5 +1,5 @@
-//! What a stream feeds: records on an output, and lines for units that have no moment, lost packets, what else cuts units, new
-//! maps and a clock that jumps.
+//! What a stream feeds: records on an output, and lines for units that have no moment, lost packets, what else cuts
+//! units, new maps and a clock that jumps.
 
 ghost use Rattle.std.specs.Prelude.{◌≡◌, ◌≤◌, ◌++◌, length};
 ghost use Rattle.devices.specs.Devices.{writes};
@@ -249,8 +249,8 @@ fn tell_one<E: Sink>(faults: &mut E, pids: &[u16], fed: &(u8, Result<Unit, FeedF
     }
 }
 
-/// Reports each unit that has no moment, each loss of packets, whatever else cuts units, each new map and each jump of the
-/// clock, and returns whether there is one.
+/// Reports each unit that has no moment, each loss of packets, whatever else cuts units, each new map and each jump of
+/// the clock, and returns whether there is one.
 pub(crate) fn tell_faults<E: Sink>(
     faults: &mut E,
     pids: &[u16],

@@ -157,8 +157,8 @@ fn told_of(number: u8, fault: Option<FeedFault>) -> Option<(u8, Result<Unit, Fee
 }
 
 impl FedStream {
-    /// Returns a stream of a PID before its first unit, with its number in the description. Of a unit after which something is
-    /// lost a part may be, so it is left out.
+    /// Returns a stream of a PID before its first unit, with its number in the description. Of a unit after which
+    /// something is lost a part may be, so it is left out.
     pub fn new(number: u8, pid: u16) -> FedStream
         ensures { result ≡ record { number = number; before = None; units = none_so_far pid true; follow = false } }
     {
@@ -205,7 +205,8 @@ impl FedStream {
         fault
     }
 
-    /// Takes a finding, and gives the unit that it makes whole at its moment, or why it can't have one; and what is told of it.
+    /// Takes a finding, and gives the unit that it makes whole at its moment, or why it can't have one; and what is
+    /// told of it.
     pub(crate) fn take(
         &mut self,
         alloc: &Global,

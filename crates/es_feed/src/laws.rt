@@ -19,21 +19,21 @@ pub fn fed_as_carried()
 {}
 
 /// States for all streams of a description at once, if the whole stream has no report: a stream whose units are one PES
-/// packet each feeds the units that its PID carries, moved by one constant for all streams, whether the clock is known or
-/// not; with it the first unit of all is due at `earliest`.
+/// packet each feeds the units that its PID carries, moved by one constant for all streams, whether the clock is known
+/// or not; with it the first unit of all is due at `earliest`.
 pub fn fed_by_one_constant()
     ensures { FedByOneConstant }
 {}
 
 /// States that the fed units of all streams of a description, if there is no report, are the units of their PIDs as any
-/// constant moves them, with one time added to all stamps of all streams: as plain numbers, if the streams begin no further
-/// apart than the first unit of all is due after moment 0, and each unit is one PES packet.
+/// constant moves them, with one time added to all stamps of all streams: as plain numbers, if the streams begin no
+/// further apart than the first unit of all is due after moment 0, and each unit is one PES packet.
 pub fn fed_apart()
     ensures { FedApart }
 {}
 
-/// States that the DTS of the units fed of one stream rise, whatever comes, and so none is released before the one before
-/// it.
+/// States that the DTS of the units fed of one stream rise, whatever comes, and so none is released before the one
+/// before it.
 pub fn fed_in_order()
     ensures rise { EachRises }
     ensures release { ReleasesRise }

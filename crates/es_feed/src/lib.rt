@@ -6,10 +6,9 @@
 //! `laws` say that later findings feed after earlier ones and change none of them, and that the fed units of each
 //! stream are the units that its PID carries, at their moments by that constant, in the order of their DTS
 //! (`specs/EachStream`, `specs/MovedApart`). Clock references advance time while streams are silent, and show a clock
-//! that jumps (`specs/Clocks`, `specs/Ticks`); without them stamps that fall show an encoder that restarts (`specs/Restarts`).
-//! A [`StreamFeed`] takes the bytes of a stream in pieces of any size, the
-//! packets in step (`specs/StreamFeeding`): at its end it has fed what the whole stream feeds, and at each moment a
-//! beginning of it.
+//! that jumps (`specs/Clocks`, `specs/Ticks`); without them stamps that fall show an encoder that restarts
+//! (`specs/Restarts`). A [`StreamFeed`] takes the bytes of a stream in pieces of any size, the packets in step
+//! (`specs/StreamFeeding`): at its end it has fed what the whole stream feeds, and at each moment a beginning of it.
 //!
 //! Records are written in large pieces: [`write_job`] writes a job's texts and the records of units that are given
 //! (`records`); [`pass_stream`] reads a stream as it arrives, and writes all units that a read makes whole before the

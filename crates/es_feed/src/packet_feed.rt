@@ -15,8 +15,9 @@ use std::alloc::{AllocError, Global};
 use std::marker::Model;
 use ts_packet::read_packet;
 
-/// A stream whose packets come one after another: each is demultiplexed, and what is found in it is marked and fed, and then its
-/// clock reference. A packet that only goes on with an open unit is not read: nothing is found in it, and it has no reference.
+/// A stream whose packets come one after another: each is demultiplexed, and what is found in it is marked and fed, and
+/// then its clock reference. A packet that only goes on with an open unit is not read: nothing is found in it, and it
+/// has no reference.
 #[derive(Drop)]
 pub(crate) struct PacketFeed {
     demux: Demux,
@@ -66,8 +67,8 @@ impl PacketFeed {
         }
     }
 
-    // Takes a packet in which nothing is found and that has no clock reference, if its first bytes show that. Whether they
-    // do; else nothing changes.
+    // Takes a packet in which nothing is found and that has no clock reference, if its first bytes show that. Whether
+    // they do; else nothing changes.
     #[tactic(auto, unfolding(demux::specs::Stream::taken), using(crate::proofs::PlainPackets::plain_after, crate::proofs::PlainPackets::plain_fed))]
     fn go_on(&mut self, bytes: &[u8; 188]) -> bool
         ensures demux { result ≡ true → self.new.demux ≡ taken self.old.demux bytes.now }
@@ -144,8 +145,8 @@ impl PacketFeed {
         Ok(at)
     }
 
-    /// Ends the packets, with these bytes of the next one: feeds what the end decides, and then the last unit of each stream, in
-    /// the order of the streams.
+    /// Ends the packets, with these bytes of the next one: feeds what the end decides, and then the last unit of each
+    /// stream, in the order of the streams.
     pub fn finish(
         self,
         alloc: &Global,

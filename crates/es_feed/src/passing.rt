@@ -92,8 +92,8 @@ fn have_refusal(fed: &[(u8, Result<Unit, FeedFault>)]) -> bool
     fed.iter().any(|one| is_refusal(one))
 }
 
-// Reads a stream to the end of the input, or until it shows that the description is of another one; what each read feeds
-// goes out before the next. Returns whether a line was told.
+// Reads a stream to the end of the input, or until it shows that the description is of another one; what each read
+// feeds goes out before the next. Returns whether a line was told.
 fn pass_pieces<R: Source, W: Sink, E: Sink>(
     alloc: Global,
     pids: &[u16],
@@ -191,9 +191,10 @@ fn pass_all<R: Source, W: Sink, E: Sink>(
     }
 }
 
-/// Reads a stream as it arrives, writes the record of each unit and tick that it feeds before the next read, and reports
-/// each unit that has no moment and all else that is no unit (`specs/FedLines`); a description of another stream ends the
-/// run. Returns the status: 0 all went out, 1 anything was reported, 3 a device failed or memory was wanting.
+/// Reads a stream as it arrives, writes the record of each unit and tick that it feeds before the next read, and
+/// reports each unit that has no moment and all else that is no unit (`specs/FedLines`); a description of another
+/// stream ends the run. Returns the status: 0 all went out, 1 anything was reported, 3 a device failed or memory was
+/// wanting.
 pub fn pass_stream<R: Source, W: Sink, E: Sink>(
     alloc: Global,
     feed: UnitFeed,

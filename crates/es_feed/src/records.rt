@@ -1,5 +1,5 @@
-//! Unit records on an output: stream (1 byte), marks (1), size (3), DTS (8), PTS (8), the highest byte first, and the bytes of
-//! the unit.
+//! Unit records on an output: stream (1 byte), marks (1), size (3), DTS (8), PTS (8), the highest byte first, and the
+//! bytes of the unit.
 
 ghost use Rattle.std.specs.Prelude.{◌≡◌, ◌++◌, OnOk, []};
 ghost use Rattle.devices.specs.Devices.{writes};

@@ -12,8 +12,8 @@ use pes_packet::Unit;
 use std::alloc::{AllocError, Global};
 use std::marker::Model;
 
-/// A stream whose bytes arrive piece by piece. It holds at most 1,127 bytes of the stream beside the bytes of the demultiplexer
-/// and of the current units.
+/// A stream whose bytes arrive piece by piece. It holds at most 1,127 bytes of the stream beside the bytes of the
+/// demultiplexer and of the current units.
 #[derive(Drop)]
 pub struct StreamFeed {
     alloc: Global,
@@ -30,8 +30,8 @@ impl Model for StreamFeed {
     ghost view = { λ s. record { held = s.held.items; packets = s.packets } };
 }
 
-// Takes the packets of the bytes that are decided, and returns how many bytes that is: all but those of a packet that the
-// stream's end cuts.
+// Takes the packets of the bytes that are decided, and returns how many bytes that is: all but those of a packet that
+// the stream's end cuts.
 fn take_decided(
     alloc: &Global,
     packets: &mut PacketFeed,
@@ -75,9 +75,9 @@ impl StreamFeed {
         }
     }
 
-    /// Takes a piece of the stream, of any size; each unit that is whole then goes to `fed`, at its moment with the number of
-    /// its stream, or why it can't have one, and so do ticks, losses, changes and jumps. The caller may take these away at any
-    /// time: `gone` went before.
+    /// Takes a piece of the stream, of any size; each unit that is whole then goes to `fed`, at its moment with the
+    /// number of its stream, or why it can't have one, and so do ticks, losses, changes and jumps. The caller may take
+    /// these away at any time: `gone` went before.
     pub fn push(
         &mut self,
         piece: &[u8],

@@ -23,7 +23,8 @@ use std::marker::Model;
 /// The number that stands where there is no stream, and that of a tick.
 pub(crate) const NO_STREAM: u8 = 255;
 
-/// The maps of a description's programs, its streams with their current units, the marks that are asked for, and the clock.
+/// The maps of a description's programs, its streams with their current units, the marks that are asked for, and the
+/// clock.
 #[derive(Drop)]
 pub struct UnitFeed {
     pub(crate) earliest: u64,
@@ -147,9 +148,9 @@ fn greatest_if(shown: Option<u64>, greatest: u64) -> Option<u64>
 }
 
 impl UnitFeed {
-    /// Returns the programs' maps and the streams of a description before the first packet, each stream with its number and
-    /// its own PID; the first unit of all is to be due at `earliest`. The clock is the first program's clock. What is found
-    /// of a stream is marked by `marking` before it is fed.
+    /// Returns the programs' maps and the streams of a description before the first packet, each stream with its number
+    /// and its own PID; the first unit of all is to be due at `earliest`. The clock is the first program's clock. What
+    /// is found of a stream is marked by `marking` before it is fed.
     pub fn new(
         earliest: u64,
         marking: Marking,
@@ -249,9 +250,9 @@ impl UnitFeed {
         self.restart(seen, fed)
     }
 
-    /// Takes a finding; the unit that it makes whole goes to `fed`, at its moment with the number of its stream, or why it
-    /// can't have one, and so does a loss of packets of a stream, a cut of its units, the new version of a map, a packet
-    /// that is not read, or a restart.
+    /// Takes a finding; the unit that it makes whole goes to `fed`, at its moment with the number of its stream, or why
+    /// it can't have one, and so does a loss of packets of a stream, a cut of its units, the new version of a map, a
+    /// packet that is not read, or a restart.
     pub fn take(
         &mut self,
         alloc: &Global,

@@ -57,7 +57,8 @@ impl WatchedFeed {
         }
     }
 
-    /// Takes a piece of the stream, of any size: what its packets feed goes to `fed`, where nothing is, and then its slips.
+    /// Takes a piece of the stream, of any size: what its packets feed goes to `fed`, where nothing is, and then its
+    /// slips.
     pub(crate) fn push(
         &mut self,
         piece: &[u8],

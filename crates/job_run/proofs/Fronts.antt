@@ -1,5 +1,6 @@
 -- The first 409 bytes of a stream that comes.
-use Rattle.std.proofs.Common.{◌≡◌, ◌≤◌, ◌<◌, ℕ, ◌+◌, ◌-◌, min, nat_lt, Bool, true, false, List, ◌++◌, length, length-take, take, drop, refl, sym, ap, ap₂, subst, ◌∙◌, arith, append-nil, Option, None, is_some}
+use Rattle.std.proofs.Common.{◌≡◌, ◌≤◌, ◌<◌, ℕ, ◌+◌, ◌-◌, min, nat_lt, Bool, true, false, List, ◌++◌, length, length-take, take, drop, refl, sym, ap, ap₂}
+use Rattle.std.proofs.Common.{subst, ◌∙◌, arith, append-nil, Option, None, is_some}
 use Rattle.std.proofs.Math.Seq.{take-append-add}
 use Rattle.std.proofs.lemmas.List.{length-take-le, take_all, take-append-drop, take-append-le}
 use Rattle.packet_sync.specs.OtherPackets.{other_packets}
@@ -15,7 +16,8 @@ least_taken n m xs is false t =
     let past : length xs ≤ m = search (arith, t) in
     take_all n xs (omega (arith, is, past)) ∙ sym (take_all m xs past)
 
-front_by : (size : ℕ) (front stream piece : List ℕ) (n : ℕ) → front ≡ take size stream → n ≡ min (size - length front) (length piece) → (b : Bool) → nat_lt (length stream) size ≡ b →
+front_by : (size : ℕ) (front stream piece : List ℕ) (n : ℕ) → front ≡ take size stream → n ≡ min (size - length front) (length piece) → (b : Bool) →
+    nat_lt (length stream) size ≡ b →
     front ++ take n piece ≡ take size (stream ++ piece)
 front_by size front stream piece n e is false t =
     let long : size ≤ length stream = search (arith, t) in
@@ -31,13 +33,15 @@ front_by size front stream piece n e is true t =
     ap₂ (λ (r x : List ℕ). r ++ x) all (least_taken n (size - length stream) piece least (nat_lt (size - length stream) (length piece)) refl)
     ∙ sym (take-append-add stream piece (size - length stream)) ∙ ap (λ (k : ℕ). take k (stream ++ piece)) left
 
-pub front_came : (front stream piece : List ℕ) (n : ℕ) → front ≡ take 409 stream → n ≡ min (409 - length front) (length piece) → front ++ take n piece ≡ take 409 (stream ++ piece)
+pub front_came : (front stream piece : List ℕ) (n : ℕ) → front ≡ take 409 stream → n ≡ min (409 - length front) (length piece) →
+    front ++ take n piece ≡ take 409 (stream ++ piece)
 front_came front stream piece n e is = front_by 409 front stream piece n e is (nat_lt (length stream) 409) refl
 
 -- 2. What they tell
 
 known_by : (size : ℕ) (bytes front : List ℕ) (result : Option OtherPackets) → front ≡ take size bytes → result ≡ other_packets front →
-    ((more : List ℕ) → size ≤ length front → result ≡ other_packets (front ++ more)) → (b : Bool) → nat_lt (length bytes) size ≡ b → result ≡ other_packets bytes
+    ((more : List ℕ) → size ≤ length front → result ≡ other_packets (front ++ more)) → (b : Bool) → nat_lt (length bytes) size ≡ b →
+    result ≡ other_packets bytes
 known_by size bytes front result f e known true t =
     let short : length bytes < size = search (arith, t) in
     let few : length bytes ≤ size = omega (arith, short) in
@@ -52,7 +56,8 @@ pub packets_known : (bytes front : List ℕ) (result : Option OtherPackets) → 
 packets_known bytes front result f e known = known_by 409 bytes front result f e known (nat_lt (length bytes) 409) refl
 
 -- the first bytes stay as they are
-pub front_stays : (bytes piece front : List ℕ) (r : ReadingView) → r.other ≡ true → front ≡ take 409 (bytes ++ piece) → IsRead bytes r → IsRead (bytes ++ piece) (record { front = front; other = r.other; stream = r.stream })
+pub front_stays : (bytes piece front : List ℕ) (r : ReadingView) → r.other ≡ true → front ≡ take 409 (bytes ++ piece) → IsRead bytes r →
+    IsRead (bytes ++ piece) (record { front = front; other = r.other; stream = r.stream })
 front_stays bytes piece front r other f so =
     let known = so.refused other in
     let full : 409 ≤ length (take 409 bytes) = subst (λ (x : List ℕ). 409 ≤ length x) so.front_is known.0 in
@@ -68,7 +73,8 @@ none_by : (bytes : List ℕ) (r : ReadingView) → IsRead bytes r → other_pack
 none_by bytes r so none false t = t
 none_by bytes r so none true t =
     let known = so.refused t in
-    let all : other_packets r.front ≡ other_packets bytes = packets_known bytes r.front (other_packets r.front) so.front_is refl (λ more long. other_front r.front more long) in
+    let all : other_packets r.front ≡ other_packets bytes =
+    packets_known bytes r.front (other_packets r.front) so.front_is refl (λ more long. other_front r.front more long) in
     absurd (let no : false ≡ true = sym (ap is_some (all ∙ none)) ∙ known.1 in cc)
 
 pub none_other : (bytes : List ℕ) (r : ReadingView) → IsRead bytes r → other_packets bytes ≡ None → r.other ≡ false

@@ -1,5 +1,6 @@
 -- What is written of an answer, and what the input that was read leads to.
-use Rattle.std.proofs.Common.{◌≡◌, ◌∙◌, ◌+◌, ◌++◌, ◌∷◌, ◌/◌, ◌==◌, ◌&&◌, ℕ, suc, Bool, true, false, List, [], length, refl, sym, ap, subst, append-nil, Option, Some, None, Result, Ok, Err, IfOk, IsUtf8, All, inl, inr, arith}
+use Rattle.std.proofs.Common.{◌≡◌, ◌∙◌, ◌+◌, ◌++◌, ◌∷◌, ◌/◌, ◌==◌, ◌&&◌, ℕ, suc, Bool, true, false, List, [], length, refl, sym, ap, ap₂, subst, append-nil}
+use Rattle.std.proofs.Common.{Option, Some, None, Result, Ok, Err, IfOk, IsUtf8, All, inl, inr, arith}
 use Rattle.std.specs.List.{AllZip}
 use Rattle.std.proofs.lemmas.Bool.Decides.{nat_tests}
 use Rattle.pes_packet.specs.AccessUnits.{AccessUnit}
@@ -9,6 +10,9 @@ use Rattle.slot_plan.specs.Conditions.{IsServing}
 use Rattle.slot_plan.specs.Planned.{Planned, plan_error}
 use Rattle.slot_plan.specs.Text.{plan_text}
 use Rattle.stream_jobs.specs.Answers.{Answers, Refuses}
+use Rattle.data_times.specs.DataTimes.{timed, times_of}
+use Rattle.data_times.specs.References.{references_in}
+use Rattle.data_times.specs.declared.references.ClockReference.{ClockReference}
 use Rattle.stream_jobs.specs.AskedMarks.{as_asked}
 use Rattle.stream_jobs.specs.Jobs.{AllAgree, AreStreams, AreUnits, FitsQueue, IsDescription, IsJob}
 use Rattle.stream_jobs.specs.JoinedInputs.{AreStreamsIn, AreUnitsIn, IsFoundIn, JoinedInputsView}
@@ -33,12 +37,13 @@ use Rattle.packet_sync.specs.OtherPackets.{other_packets}
 use Rattle.packet_sync.specs.Slips.{carried}
 use Rattle.packet_sync.specs.declared.packet_sizes.OtherPackets.{OtherPackets}
 use Rattle.job_run.specs.SlipLines.{packets_line}
-use Rattle.job_run.specs.Outcomes.{BytesLead, FindingsLead, Gives, GivesJob, GivesReasons, GivesUnits, IsFound, IsTold, IsWritten, Leads, InputLeads, ReportsWhy, Withholds, found_line}
+use Rattle.job_run.specs.Outcomes.{BytesLead, FindingsLead, Gives, GivesJob, GivesReasons, GivesUnits, IsFound, IsTold, IsWritten, Leads, InputLeads}
+use Rattle.job_run.specs.Outcomes.{ReportsWhy, Withholds, found_line}
 use Rattle.std.specs.Int.{bytes_high_first}
 use Rattle.unit_records.specs.Records.{private_bytes, private_size, record_head, word_of}
 use Rattle.es_feed.specs.Records.{records_of, written}
 use Rattle.job_run.specs.SeveralInputs.{GivesJobIn}
-use Rattle.job_run.specs.Streams.{IsOfStream, IsRead, PacketNotesView, ReadingView, findings_for}
+use Rattle.job_run.specs.Streams.{IsOfStream, IsRead, PacketNotesView, ReadingView, asked_findings, findings_for, notes_for, timed_notes}
 
 -- 1. What a subcommand gives
 
@@ -54,21 +59,26 @@ suc_is_not n = grind (arith, nat_tests)
 cons_is_not : {A : Type 0} (x : A) (xs : List A) → (length (x ∷ xs) == 0) ≡ false
 cons_is_not x xs = suc_is_not (length xs)
 
-record_is_not : (stream size : ℕ) (marks : Marks) (dts pts : ℕ) (unit more : List ℕ) → (length ((record_head stream marks size dts pts ++ unit) ++ more) == 0) ≡ false
+record_is_not : (stream size : ℕ) (marks : Marks) (dts pts : ℕ) (unit more : List ℕ) →
+    (length ((record_head stream marks size dts pts ++ unit) ++ more) == 0) ≡ false
 unfolding record_head
 record_is_not stream size marks dts pts unit more =
     cons_is_not stream
-    (((bytes_high_first 4 (word_of marks (private_size marks + size)) ++ (bytes_high_first 8 dts ++ (bytes_high_first 8 pts ++ private_bytes marks.private_data))) ++ unit) ++ more)
+    (((bytes_high_first 4 (word_of marks (private_size marks + size))
+    ++ (bytes_high_first 8 dts ++ (bytes_high_first 8 pts ++ private_bytes marks.private_data))) ++ unit) ++ more)
 
 -- nothing is written where there is no text, no plan and no unit
-pub nothing_written : (text plan : List ℕ) (units : List (ℕ × AccessUnit)) → ((length text == 0) && ((length plan == 0) && (length units == 0))) ≡ (length (written text plan units) == 0)
+pub nothing_written : (text plan : List ℕ) (units : List (ℕ × AccessUnit)) →
+    ((length text == 0) && ((length plan == 0) && (length units == 0))) ≡ (length (written text plan units) == 0)
 nothing_written [] [] [] = refl
 nothing_written [] [] (u ∷ units) = cons_is_not u units ∙ sym (record_is_not u.0 (length u.1.bytes) u.1.marks u.1.dts u.1.pts u.1.bytes (records_of units))
 nothing_written [] (p ∷ plan) units = rw (cons_is_not p plan) (sym (cons_is_not p (plan ++ records_of units)))
 nothing_written (t ∷ text) plan units = rw (cons_is_not t text) (sym (cons_is_not t ((text ++ plan) ++ records_of units)))
 
-pub given_job : (w : JobOptionsView) (findings : List FindingView) (m : JobInputView) (text plan : List ℕ) (d : Described) (p q : Planned) (units : List (ℕ × AccessUnit)) →
-    IsJob w m d text units → AreUnits w.make_dts findings d units → AllAgree d m → IsServing d p → IsUtf8 text → plan_error q.slots q.certificate ≡ None → plan ≡ plan_text q → q ≡ p →
+pub given_job : (w : JobOptionsView) (findings : List FindingView) (m : JobInputView) (text plan : List ℕ) (d : Described) (p q : Planned)
+    (units : List (ℕ × AccessUnit)) →
+    IsJob w m d text units → AreUnits w.make_dts findings d units → AllAgree d m → IsServing d p → IsUtf8 text → plan_error q.slots q.certificate ≡ None →
+    plan ≡ plan_text q → q ≡ p →
     GivesJob w findings m (written text plan units)
 given_job w findings m text plan d p q units j u a s utf8 within e f = record {
   description = d;
@@ -85,8 +95,10 @@ given_job w findings m text plan d p q units j u a s utf8 within e f = record {
 }
 
 -- the same of joined inputs
-pub given_job_in : (w : JobOptionsView) (inputs : List (List FindingView)) (j : JoinedInputsView) (m : JobInputView) (text plan : List ℕ) (d : Described) (p q : Planned) (units : List (ℕ × AccessUnit)) →
-    j.input ≡ m → IsJob w m d text units → AreUnitsIn w.make_dts inputs j.origins d units → AllAgree d m → IsServing d p → IsUtf8 text → plan_error q.slots q.certificate ≡ None → plan ≡ plan_text q → q ≡ p →
+pub given_job_in : (w : JobOptionsView) (inputs : List (List FindingView)) (j : JoinedInputsView) (m : JobInputView) (text plan : List ℕ) (d : Described)
+    (p q : Planned) (units : List (ℕ × AccessUnit)) →
+    j.input ≡ m → IsJob w m d text units → AreUnitsIn w.make_dts inputs j.origins d units → AllAgree d m → IsServing d p → IsUtf8 text →
+    plan_error q.slots q.certificate ≡ None → plan ≡ plan_text q → q ≡ p →
     GivesJobIn w inputs j (written text plan units)
 given_job_in w inputs j m text plan d p q units same job u a s utf8 within e f = record {
   description = d;
@@ -105,28 +117,36 @@ given_job_in w inputs j m text plan d p q units same job u a s utf8 within e f =
 -- their streams are those of the input
 pub found_in_input : (made : Bool) (inputs : List (List FindingView)) (j : JoinedInputsView) (m : JobInputView) → j.input ≡ m → AreStreamsIn made inputs j →
     AllZip (IsFoundIn made inputs) j.origins m.streams × All FitsQueue m.streams
-found_in_input made inputs j m same streams =
-    (subst (λ (x : JobInputView). AllZip (IsFoundIn made inputs) j.origins x.streams) same streams.found, subst (λ (x : JobInputView). All FitsQueue x.streams) same streams.fits)
+found_in_input made inputs j m same streams = (
+  subst (λ (x : JobInputView). AllZip (IsFoundIn made inputs) j.origins x.streams) same streams.found,
+  subst (λ (x : JobInputView). All FitsQueue x.streams) same streams.fits,
+)
 
 -- what is so of an input is so of the joined inputs that it is
-pub described_in : (w : JobOptionsView) (j : JoinedInputsView) (m : JobInputView) (output : List ℕ) → j.input ≡ m → IsDescription w m output → IsDescription w j.input output
+pub described_in : (w : JobOptionsView) (j : JoinedInputsView) (m : JobInputView) (output : List ℕ) → j.input ≡ m → IsDescription w m output →
+    IsDescription w j.input output
 described_in w j m output same is = subst (λ (x : JobInputView). IsDescription w x output) (sym same) is
 
 pub units_given_in : (j : JoinedInputsView) (m : JobInputView) (output : List ℕ) → j.input ≡ m → GivesUnits m output → GivesUnits j.input output
 units_given_in j m output same is = subst (λ (x : JobInputView). GivesUnits x output) (sym same) is
 
-pub reasons_given_in : (w : JobOptionsView) (j : JoinedInputsView) (m : JobInputView) (output : List ℕ) → j.input ≡ m → GivesReasons w m output → GivesReasons w j.input output
+pub reasons_given_in : (w : JobOptionsView) (j : JoinedInputsView) (m : JobInputView) (output : List ℕ) → j.input ≡ m → GivesReasons w m output →
+    GivesReasons w j.input output
 reasons_given_in w j m output same is = subst (λ (x : JobInputView). GivesReasons w x output) (sym same) is
 
 -- a whole job is given, where it is asked for
-pub whole_given : (subcommand : Subcommand) (w v : JobOptionsView) (findings : List FindingView) (m : JobInputView) (r : Result (List ℕ) JobError) → subcommand ≡ Whole → w ≡ v →
-    ((all : List FindingView) → AreStreams w.make_dts all m → IfOk r (λ p. GivesJob w all m p)) → AreStreams v.make_dts findings m → IfOk r (λ p. Gives subcommand v findings m p)
+pub whole_given : (subcommand : Subcommand) (w v : JobOptionsView) (findings : List FindingView) (m : JobInputView) (r : Result (List ℕ) JobError) →
+    subcommand ≡ Whole → w ≡ v →
+    ((all : List FindingView) → AreStreams w.make_dts all m → IfOk r (λ p. GivesJob w all m p)) → AreStreams v.make_dts findings m →
+    IfOk r (λ p. Gives subcommand v findings m p)
 whole_given subcommand w v findings m r is same given streams =
     subst (λ (x : Subcommand). IfOk r (λ p. Gives x v findings m p)) (sym is)
-    (subst (λ (x : JobOptionsView). IfOk r (λ p. GivesJob x findings m p)) same (given findings (subst (λ (x : JobOptionsView). AreStreams x.make_dts findings m) (sym same) streams)))
+    (subst (λ (x : JobOptionsView). IfOk r (λ p. GivesJob x findings m p)) same
+    (given findings (subst (λ (x : JobOptionsView). AreStreams x.make_dts findings m) (sym same) streams)))
 
 -- four texts, one after another
-pub four_texts : (a b c d first second third fourth : List ℕ) → a ≡ first → b ≡ a ++ second → c ≡ b ++ third → d ≡ c ++ fourth → d ≡ first ++ second ++ third ++ fourth
+pub four_texts : (a b c d first second third fourth : List ℕ) → a ≡ first → b ≡ a ++ second → c ≡ b ++ third → d ≡ c ++ fourth →
+    d ≡ first ++ second ++ third ++ fourth
 four_texts a b c d first second third fourth e f h k =
     k ∙ ap (λ (x : List ℕ). x ++ fourth) (h ∙ ap (λ (x : List ℕ). x ++ third) (f ∙ ap (λ (x : List ℕ). x ++ second) e))
 
@@ -173,7 +193,8 @@ with_input arguments notes count findings m o a l =
     subst (λ (r : Result JobInputView JobRefusal). InputLeads arguments notes findings r o) (sym (answered (job_input arguments.options count findings) m a)) l
 
 -- there is none
-refused : (arguments : JobArgumentsView) (notes : PacketNotesView) (findings : List FindingView) (r : Result JobInputView JobRefusal) (error : JobError) (o : Outcome) →
+refused : (arguments : JobArgumentsView) (notes : PacketNotesView) (findings : List FindingView) (r : Result JobInputView JobRefusal) (error : JobError)
+    (o : Outcome) →
     Answers r (Err error) → ReportsWhy error o → InputLeads arguments notes findings r o
 unfolding Answers Refuses
 refused arguments notes findings r Memory o a t = absurd t
@@ -186,23 +207,33 @@ without_input arguments notes count findings error o a t = refused arguments not
 -- 3. What was read leads to it
 
 -- a stream that was read
-pub carried_lead : (arguments : JobArgumentsView) (bytes : List ℕ) (notes : PacketNotesView) (size : ℕ) (marked findings found : List FindingView) (w : JobOptionsView) (o : Outcome) →
-    IsOfStream bytes notes found size → findings ≡ found → w ≡ arguments.options → marked ≡ as_asked w findings → FindingsLead arguments notes (size / 188) marked o →
+pub carried_lead : (arguments : JobArgumentsView) (bytes : List ℕ) (notes said : PacketNotesView) (references : List ClockReference) (size : ℕ)
+    (at_times marked findings found : List FindingView) (w : JobOptionsView) (o : Outcome) →
+    IsOfStream bytes notes references found size → findings ≡ found → w ≡ arguments.options → marked ≡ as_asked w findings →
+    said ≡ timed_notes (times_of references marked) notes → at_times ≡ timed references marked → FindingsLead arguments said (size / 188) at_times o →
     BytesLead arguments bytes None o
-carried_lead arguments bytes notes size marked findings found w o t f asked marks l =
-    let all : marked ≡ findings_for arguments.options bytes =
+carried_lead arguments bytes notes said references size at_times marked findings found w o t f asked marks told times l =
+    let asked_are : marked ≡ asked_findings arguments.options bytes =
     marks ∙ ap (λ (x : JobOptionsView). as_asked x findings) asked ∙ ap (λ (x : List FindingView). as_asked arguments.options x) (f ∙ t.found_is) in
-    subst (λ (x : PacketNotesView). FindingsLead arguments x (length (carried bytes) / 188) (findings_for arguments.options bytes) o) t.notes_are
-    (subst (λ (x : List FindingView). FindingsLead arguments notes (length (carried bytes) / 188) x o) all
-    (subst (λ (n : ℕ). FindingsLead arguments notes (n / 188) marked o) t.size_is l))
+    let all : at_times ≡ findings_for arguments.options bytes =
+    times ∙ ap₂ (λ (r : List ClockReference) (x : List FindingView). timed r x) t.references_are asked_are in
+    let notes_are : said ≡ notes_for arguments.options bytes =
+    told ∙ ap₂ (λ (r : List ClockReference) (x : List FindingView). timed_notes (times_of r x) notes) t.references_are asked_are
+    ∙ ap (λ (n : PacketNotesView). timed_notes (times_of (references_in (carried bytes)) (asked_findings arguments.options bytes)) n) t.notes_are in
+    subst (λ (x : PacketNotesView). FindingsLead arguments x (length (carried bytes) / 188) (findings_for arguments.options bytes) o) notes_are
+    (subst (λ (x : List FindingView). FindingsLead arguments said (length (carried bytes) / 188) x o) all
+    (subst (λ (n : ℕ). FindingsLead arguments said (n / 188) at_times o) t.size_is l))
 
-pub none_lead : (arguments : JobArgumentsView) (bytes : List ℕ) (o : Outcome) → None ≡ other_packets bytes → BytesLead arguments bytes None o → Leads arguments bytes o
+pub none_lead : (arguments : JobArgumentsView) (bytes : List ℕ) (o : Outcome) → None ≡ other_packets bytes → BytesLead arguments bytes None o →
+    Leads arguments bytes o
 none_lead arguments bytes o e l = subst (λ (x : Option OtherPackets). BytesLead arguments bytes x o) e l
 
-pub other_lead : (arguments : JobArgumentsView) (bytes : List ℕ) (packets : OtherPackets) (o : Outcome) → Some packets ≡ other_packets bytes → o ≡ reported (packets_line packets) → Leads arguments bytes o
+pub other_lead : (arguments : JobArgumentsView) (bytes : List ℕ) (packets : OtherPackets) (o : Outcome) → Some packets ≡ other_packets bytes →
+    o ≡ reported (packets_line packets) → Leads arguments bytes o
 other_lead arguments bytes packets o e l = subst (λ (x : Option OtherPackets). BytesLead arguments bytes x o) e l
 
-pub outcome_written : (arguments : JobArgumentsView) (r : ReadingView) (o : Outcome) (input output faults : Device) (status : ℕ) → IsReadAs input (λ bytes. IsRead bytes r) →
+pub outcome_written : (arguments : JobArgumentsView) (r : ReadingView) (o : Outcome) (input output faults : Device) (status : ℕ) →
+    IsReadAs input (λ bytes. IsRead bytes r) →
     ((bytes : List ℕ) → IsRead bytes r → Leads arguments bytes o) → IsWritten o output faults status → Performs (Leads arguments) input output faults status
 outcome_written arguments r o input output faults status s l (inl w) =
     performed (Leads arguments) s.bytes o input output faults status s.read (l s.bytes s.is) w.0 w.1 w.2 w.3
@@ -210,5 +241,6 @@ outcome_written arguments r o input output faults status s l (inr w) =
     unwritten (Leads arguments) s.bytes o input output faults status s.read (l s.bytes s.is) w.0 w.1 w.2 w.3
 
 pub no_memory_left : (arguments : JobArgumentsView) (r : ReadingView) (input output faults : Device) (status : ℕ) →
-    IsReadAs input (λ bytes. IsRead bytes r) → IsUntouched output → Reports faults (halt_line halt.Memory) → status ≡ 3 → Performs (Leads arguments) input output faults status
+    IsReadAs input (λ bytes. IsRead bytes r) → IsUntouched output → Reports faults (halt_line halt.Memory) → status ≡ 3 →
+    Performs (Leads arguments) input output faults status
 no_memory_left arguments r input output faults status s u m e = no_room (Leads arguments) s.bytes input output faults status s.read u m e

@@ -1,5 +1,7 @@
 -- Streams in files: what a job takes of each, and what it leads to.
-use Rattle.std.proofs.Common.{◌≡◌, ◌∙◌, ◌<◌, ◌+◌, ◌/◌, ◌++◌, ◌∷◌, ◌||◌, ℕ, suc, zero, Bool, true, false, List, [], length, map, take, get_or, refl, sym, ap, subst, append_assoc, append-nil, Option, Some, None, Result, Ok, Err, All, inl, inr, arith, ◌≤◌, length-append, length-take-le}
+use Rattle.std.proofs.Common.{◌≡◌, ◌∙◌, ◌<◌, ◌+◌, ◌/◌, ◌++◌, ◌∷◌, ◌||◌, ℕ, suc, zero, Bool, true, false, List, [], length, map, take, get_or, refl, sym, ap}
+use Rattle.std.proofs.Common.{ap₂, subst, append_assoc, append-nil, Option, Some, None, Result, Ok, Err, All, inl, inr, arith, ◌≤◌, length-append}
+use Rattle.std.proofs.Common.{length-take-le}
 use Rattle.std.proofs.Common.{add-one, drop}
 use Rattle.std.proofs.Math.Seq.{drop-cons}
 use Rattle.std.proofs.lemmas.List.{drop_all, take_all, take_more}
@@ -25,6 +27,9 @@ use Rattle.job_run.specs.InputLines.{are_lost, input_line, name_of, note_lines}
 use Rattle.job_run.specs.RefusalLine.{refusal_line}
 use Rattle.job_run.specs.SlipLines.{packets_line}
 use Rattle.stream_jobs.specs.Answers.{Answers, Refuses}
+use Rattle.data_times.specs.DataTimes.{timed, times_of}
+use Rattle.data_times.specs.References.{references_in}
+use Rattle.data_times.specs.declared.references.ClockReference.{ClockReference}
 use Rattle.stream_jobs.specs.AskedMarks.{as_asked}
 use Rattle.stream_jobs.specs.JobOptions.{JobOptionsView}
 use Rattle.stream_jobs.specs.JobInput.{JobInputView, job_input}
@@ -36,9 +41,11 @@ use Rattle.stream_jobs.specs.declared.refusal.JobRefusal.{JobRefusal}
 use Rattle.stream_jobs.proofs.JoinedStreams.{joined_found}
 use Rattle.job_run.specs.JobArguments.{JobArgumentsView}
 use Rattle.job_run.specs.Outcomes.{ReportsWhy, Withholds, is_told_less, status_of, told_lines, unless_quiet}
-use Rattle.job_run.specs.SeveralInputs.{GivesIn, InputsLead, JoinedLead, NamedStream, all_findings, all_joined, are_streams_less, input_or_line, names_of, packets_input, stream_input, stream_inputs, streams_lines, under, with_first}
-use Rattle.job_run.specs.StreamFiles.{AreNamedInputs, AreTaken, EndsAt, FilesLead, HasRead, IsInput, IsInputIn, IsInputOf, IsLedTo, IsNamedInput, IsRefusalOf, IsTakenFrom, IsTakenOf, JoinedLeads, TakenLead, TakenView, read_line, stopped_by, taken_lines, told_under}
-use Rattle.job_run.specs.Streams.{IsOfStream, IsRead, PacketNotesView, ReadingView, findings_for, notes_of}
+use Rattle.job_run.specs.SeveralInputs.{GivesIn, InputsLead, JoinedLead, NamedStream, all_findings, all_joined, are_streams_less, input_or_line, names_of}
+use Rattle.job_run.specs.SeveralInputs.{packets_input, stream_input, stream_inputs, streams_lines, under, with_first}
+use Rattle.job_run.specs.StreamFiles.{AreNamedInputs, AreTaken, EndsAt, FilesLead, HasRead, IsInput, IsInputIn, IsInputOf, IsLedTo, IsNamedInput, IsRefusalOf}
+use Rattle.job_run.specs.StreamFiles.{IsTakenFrom, IsTakenOf, JoinedLeads, TakenLead, TakenView, read_line, stopped_by, taken_lines, told_under}
+use Rattle.job_run.specs.Streams.{IsOfStream, IsRead, PacketNotesView, ReadingView, asked_findings, findings_for, notes_for, timed_notes}
 
 -- 1. One stream
 
@@ -47,7 +54,8 @@ unfolding Answers
 answered r m is = is
 
 pub is_taken_of : (a : JobArgumentsView) (notes : PacketNotesView) (count : ℕ) (findings : List FindingView) (m : JobInputView) (t : TakenView) →
-    Answers (job_input a.options count findings) (Ok m) → AreStreams a.options.make_dts findings m → t.input ≡ m → t.lines ≡ told_lines a.reporting notes findings m →
+    Answers (job_input a.options count findings) (Ok m) → AreStreams a.options.make_dts findings m → t.input ≡ m →
+    t.lines ≡ told_lines a.reporting notes findings m →
     t.less ≡ is_told_less a.reporting notes findings m → IsTakenOf a notes count findings t
 is_taken_of a notes count findings m t is streams same lines less = record {
   input_is = answered (job_input a.options count findings) m is ∙ ap (λ (x : JobInputView). Ok x) (sym same);
@@ -56,7 +64,8 @@ is_taken_of a notes count findings m t is streams same lines less = record {
   less_is = less ∙ ap (λ (x : JobInputView). is_told_less a.reporting notes findings x) (sym same);
 }
 
-pub is_refusal_of : (a : JobArgumentsView) (count : ℕ) (findings : List FindingView) (error : JobError) (o : Outcome) → Answers (job_input a.options count findings) (Err error) → ReportsWhy error o →
+pub is_refusal_of : (a : JobArgumentsView) (count : ℕ) (findings : List FindingView) (error : JobError) (o : Outcome) →
+    Answers (job_input a.options count findings) (Err error) → ReportsWhy error o →
     IsRefusalOf a count findings o
 unfolding Answers Refuses
 is_refusal_of a count findings Memory o is told = absurd told
@@ -77,7 +86,7 @@ unfolding input_or_line
 of_refusal refusal = refl
 
 of_bytes : (a : JobArgumentsView) (bytes : List ℕ) (r : Result TakenView Outcome) → other_packets bytes ≡ None →
-    IsInputOf a (notes_of bytes) (length (carried bytes) / 188) (findings_for a.options bytes) r → IsInput a bytes r
+    IsInputOf a (notes_for a.options bytes) (length (carried bytes) / 188) (findings_for a.options bytes) r → IsInput a bytes r
 of_bytes a bytes (Ok t) none is = record {
   input_is = plain_input a bytes (Ok t.input) none is.input_is ∙ of_value t.input;
   streams = is.streams;
@@ -90,18 +99,26 @@ of_bytes a bytes (Err o) none is = record {
   is = is.is;
 }
 
-pub carried_is_input : (a : JobArgumentsView) (bytes : List ℕ) (notes : PacketNotesView) (size : ℕ) (marked findings found : List FindingView) (w : JobOptionsView) (r : Result TakenView Outcome) →
-    IsOfStream bytes notes found size → findings ≡ found → other_packets bytes ≡ None → w ≡ a.options → marked ≡ as_asked w findings → IsInputOf a notes (size / 188) marked r → IsInput a bytes r
-carried_is_input a bytes notes size marked findings found w r of same none asked marks is =
-    let all : marked ≡ findings_for a.options bytes =
+pub carried_is_input : (a : JobArgumentsView) (bytes : List ℕ) (notes said : PacketNotesView) (references : List ClockReference) (size : ℕ)
+    (at_times marked findings found : List FindingView) (w : JobOptionsView) (r : Result TakenView Outcome) →
+    IsOfStream bytes notes references found size → findings ≡ found → other_packets bytes ≡ None → w ≡ a.options → marked ≡ as_asked w findings →
+    said ≡ timed_notes (times_of references marked) notes → at_times ≡ timed references marked → IsInputOf a said (size / 188) at_times r → IsInput a bytes r
+carried_is_input a bytes notes said references size at_times marked findings found w r of same none asked marks told times is =
+    let asked_are : marked ≡ asked_findings a.options bytes =
     marks ∙ ap (λ (x : JobOptionsView). as_asked x findings) asked ∙ ap (λ (x : List FindingView). as_asked a.options x) (same ∙ of.found_is) in
+    let all : at_times ≡ findings_for a.options bytes =
+    times ∙ ap₂ (λ (r : List ClockReference) (x : List FindingView). timed r x) of.references_are asked_are in
+    let notes_are : said ≡ notes_for a.options bytes =
+    told ∙ ap₂ (λ (r : List ClockReference) (x : List FindingView). timed_notes (times_of r x) notes) of.references_are asked_are
+    ∙ ap (λ (n : PacketNotesView). timed_notes (times_of (references_in (carried bytes)) (asked_findings a.options bytes)) n) of.notes_are in
     of_bytes a bytes r none
-    (subst (λ (x : PacketNotesView). IsInputOf a x (length (carried bytes) / 188) (findings_for a.options bytes) r) of.notes_are
-    (subst (λ (x : List FindingView). IsInputOf a notes (length (carried bytes) / 188) x r) all
-    (subst (λ (n : ℕ). IsInputOf a notes (n / 188) marked r) of.size_is is)))
+    (subst (λ (x : PacketNotesView). IsInputOf a x (length (carried bytes) / 188) (findings_for a.options bytes) r) notes_are
+    (subst (λ (x : List FindingView). IsInputOf a said (length (carried bytes) / 188) x r) all
+    (subst (λ (n : ℕ). IsInputOf a said (n / 188) at_times r) of.size_is is)))
 
 -- of packets of another size
-pub other_is_input : (a : JobArgumentsView) (bytes : List ℕ) (packets : OtherPackets) (o : Outcome) → Some packets ≡ other_packets bytes → o ≡ reported (packets_line packets) → IsInput a bytes (Err o)
+pub other_is_input : (a : JobArgumentsView) (bytes : List ℕ) (packets : OtherPackets) (o : Outcome) → Some packets ≡ other_packets bytes →
+    o ≡ reported (packets_line packets) → IsInput a bytes (Err o)
 unfolding packets_input
 other_is_input a bytes packets o is told = record {
   line = packets_line packets;
@@ -111,16 +128,25 @@ other_is_input a bytes packets o is told = record {
 
 -- 2. The file of a name
 
-pub named_read : (a : JobArgumentsView) (files : Files) (name : List ℕ) (input : Device) (r : ReadingView) (x : Result TakenView Outcome) → IsOpened files name → input.before.bytes ≡ files.contents name →
+pub named_read : (a : JobArgumentsView) (files : Files) (name : List ℕ) (input : Device) (r : ReadingView) (x : Result TakenView Outcome) →
+    IsOpened files name → input.before.bytes ≡ files.contents name →
     IsReadAs input (λ bytes. IsRead bytes r) → ((bytes : List ℕ) → IsRead bytes r → IsInput a bytes x) → IsNamedInput a files name x
 named_read a files name input r (Ok t) opened same read of =
     record { opened = opened; bytes = read.bytes; whole = subst (λ (k : Option (List ℕ)). IsWhole k read.bytes) same read.read.0; is = of read.bytes read.is }
 named_read a files name input r (Err o) opened same read of =
-    inr (record { opened = opened; bytes = read.bytes; whole = subst (λ (k : Option (List ℕ)). IsWhole k read.bytes) same read.read.0; is = of read.bytes read.is })
+    inr (record {
+      opened = opened;
+      bytes = read.bytes;
+      whole = subst (λ (k : Option (List ℕ)). IsWhole k read.bytes) same read.read.0;
+      is =
+          of read.bytes read.is;
+    })
 
 -- it can't be read to its end
-pub named_unread : (a : JobArgumentsView) (files : Files) (name : List ℕ) (input : Device) (halt : Halt) (o : Outcome) → IsOpened files name → input.before.bytes ≡ files.contents name →
-    (files.never_fails ≡ true → HasFailed input → ⊥) → (halt ≡ Halted.Memory → ⊥) → ReadsInput input (Err halt) → o ≡ stopped_by read_line → IsNamedInput a files name (Err o)
+pub named_unread : (a : JobArgumentsView) (files : Files) (name : List ℕ) (input : Device) (halt : Halt) (o : Outcome) → IsOpened files name →
+    input.before.bytes ≡ files.contents name →
+    (files.never_fails ≡ true → HasFailed input → ⊥) → (halt ≡ Halted.Memory → ⊥) → ReadsInput input (Err halt) → o ≡ stopped_by read_line →
+    IsNamedInput a files name (Err o)
 named_unread a files name input Halted.Read o opened same never other read told = inl (inr (told, is_unread files name input opened same never read))
 named_unread a files name input Halted.Write o opened same never other read told = absurd read
 named_unread a files name input Halted.Memory o opened same never other read told = absurd (other refl)
@@ -142,7 +168,8 @@ zip_size R (a ∷ xs) (b ∷ ys) all = ap suc (zip_size R xs ys all.1)
 pub no_files : (a : JobArgumentsView) (files : Files) (names : List (List ℕ)) → AreTaken a files (take 0 names) []
 no_files a files names = record { streams = []; read = tt; are = tt }
 
-pub one_more : (a : JobArgumentsView) (files : Files) (names : List (List ℕ)) (k : ℕ) (name : List ℕ) (taken next : List TakenView) (t : TakenView) → k < length names → name ≡ get_or names k name →
+pub one_more : (a : JobArgumentsView) (files : Files) (names : List (List ℕ)) (k : ℕ) (name : List ℕ) (taken next : List TakenView) (t : TakenView) →
+    k < length names → name ≡ get_or names k name →
     AreTaken a files (take k names) taken → IsInputIn a files name (Ok t) → next ≡ taken ++ t ∷ [] → AreTaken a files (take (k + 1) names) next
 one_more a files names k name taken next t within at before one pushed =
     let s : NamedStream = record { name = name; bytes = one.bytes } in
@@ -155,10 +182,12 @@ one_more a files names k name taken next t within at before one pushed =
           (zip_push (IsTakenFrom a) before.streams taken s t before.are one.is);
     }
 
-pub all_files : (a : JobArgumentsView) (files : Files) (names : List (List ℕ)) (k : ℕ) (taken : List TakenView) → length names ≤ k → AreTaken a files (take k names) taken → AreTaken a files names taken
+pub all_files : (a : JobArgumentsView) (files : Files) (names : List (List ℕ)) (k : ℕ) (taken : List TakenView) → length names ≤ k →
+    AreTaken a files (take k names) taken → AreTaken a files names taken
 all_files a files names k taken over are = subst (λ (l : List (List ℕ)). AreTaken a files l taken) (take_all k names over) are
 
-pub ends_at : (a : JobArgumentsView) (files : Files) (names : List (List ℕ)) (k : ℕ) (name : List ℕ) (taken : List TakenView) (alone o : Outcome) → k < length names → name ≡ get_or names k name →
+pub ends_at : (a : JobArgumentsView) (files : Files) (names : List (List ℕ)) (k : ℕ) (name : List ℕ) (taken : List TakenView) (alone o : Outcome) →
+    k < length names → name ≡ get_or names k name →
     AreTaken a files (take k names) taken → IsNamedInput a files name (Err alone) → o ≡ told_under k name alone → EndsAt a files names o
 ends_at a files names k name taken alone o within at before is told = record {
   number = k;
@@ -185,7 +214,8 @@ named_at : (before : List NamedStream) (s : NamedStream) (after : List NamedStre
 named_at [] s after = refl
 named_at (b ∷ bs) s after = named_at bs s after
 
-lines_are : (a : JobArgumentsView) (before : List NamedStream) (number : ℕ) (streams : List NamedStream) (taken : List TakenView) → length before ≡ number → AllZip (IsTakenFrom a) streams taken →
+lines_are : (a : JobArgumentsView) (before : List NamedStream) (number : ℕ) (streams : List NamedStream) (taken : List TakenView) → length before ≡ number →
+    AllZip (IsTakenFrom a) streams taken →
     taken_lines (names_of (before ++ streams)) number taken ≡ streams_lines a number streams (map (λ t. t.input) taken)
 unfolding taken_lines streams_lines
 lines_are a before number [] [] at all = refl
@@ -210,7 +240,8 @@ unfolding taken_lines
 taken_step names taken k t within at = rw (drop-cons taken k t within, add-one k, sym at) refl
 
 pub taken_more : (names : List (List ℕ)) (taken : List TakenView) (k : ℕ) (t : TakenView) (text next whole : List ℕ) → k < length taken → t ≡ get_or taken k t →
-    next ≡ text ++ under k (name_of names k) t.lines → text ++ taken_lines names k (drop k taken) ≡ whole → next ++ taken_lines names (k + 1) (drop (k + 1) taken) ≡ whole
+    next ≡ text ++ under k (name_of names k) t.lines → text ++ taken_lines names k (drop k taken) ≡ whole →
+    next ++ taken_lines names (k + 1) (drop (k + 1) taken) ≡ whole
 taken_more names taken k t text next whole within at grown so =
     let one = under k (name_of names k) t.lines in
     ap (λ (x : List ℕ). x ++ taken_lines names (k + 1) (drop (k + 1) taken)) grown
@@ -221,9 +252,11 @@ no_lines : (names : List (List ℕ)) (k : ℕ) → taken_lines names k [] ≡ []
 unfolding taken_lines
 no_lines names k = refl
 
-pub taken_whole : (names : List (List ℕ)) (taken : List TakenView) (k : ℕ) (text whole : List ℕ) → length taken ≤ k → text ++ taken_lines names k (drop k taken) ≡ whole → text ≡ whole
+pub taken_whole : (names : List (List ℕ)) (taken : List TakenView) (k : ℕ) (text whole : List ℕ) → length taken ≤ k →
+    text ++ taken_lines names k (drop k taken) ≡ whole → text ≡ whole
 taken_whole names taken k text whole over so =
-    sym (append-nil text) ∙ ap (λ (x : List ℕ). text ++ x) (sym (ap (λ (ts : List TakenView). taken_lines names k ts) (drop_all k taken over) ∙ no_lines names k)) ∙ so
+    sym (append-nil text)
+    ∙ ap (λ (x : List ℕ). text ++ x) (sym (ap (λ (ts : List TakenView). taken_lines names k ts) (drop_all k taken over) ∙ no_lines names k)) ∙ so
 
 less_is : (a : JobArgumentsView) (streams : List NamedStream) (taken : List TakenView) → AllZip (IsTakenFrom a) streams taken →
     list_any (λ t. t.less) taken ≡ are_streams_less a streams (map (λ t. t.input) taken)
@@ -248,7 +281,8 @@ found_at (b ∷ bs) f after = found_at bs f after
 one_longer : (before : List (List FindingView)) (f : List FindingView) → length (before ++ f ∷ []) ≡ length before + 1
 one_longer before f = length-append before (f ∷ [])
 
-are_made : (a : JobArgumentsView) (before : List (List FindingView)) (number : ℕ) (streams : List NamedStream) (taken : List TakenView) → length before ≡ number → AllZip (IsTakenFrom a) streams taken →
+are_made : (a : JobArgumentsView) (before : List (List FindingView)) (number : ℕ) (streams : List NamedStream) (taken : List TakenView) →
+    length before ≡ number → AllZip (IsTakenFrom a) streams taken →
     AreMadeOf a.options.make_dts (before ++ all_findings a.options streams) number (map (λ t. t.input) taken)
 unfolding AreMadeOf
 are_made a before number [] [] at all = tt
@@ -263,20 +297,25 @@ are_made a before number (s ∷ ss) (t ∷ ts) at all =
       subst (λ (l : List (List FindingView)). AreMadeOf a.options.make_dts l (number + 1) (map (λ t. t.input) ts)) (append_assoc before (f ∷ []) after) later,
     )
 
-few_of : (a : JobArgumentsView) (streams : List NamedStream) (taken : List TakenView) → AllZip (IsTakenFrom a) streams taken → All (λ t. length t.input.streams ≤ 32) taken
+few_of : (a : JobArgumentsView) (streams : List NamedStream) (taken : List TakenView) → AllZip (IsTakenFrom a) streams taken →
+    All (λ t. length t.input.streams ≤ 32) taken
 few_of a [] [] all = All-nil (λ t. length t.input.streams ≤ 32)
 few_of a [] (t ∷ ts) all = absurd all
 few_of a (s ∷ ss) [] all = absurd all
 few_of a (s ∷ ss) (t ∷ ts) all = All-cons (λ t. length t.input.streams ≤ 32) t ts all.0.streams.stream_count (few_of a ss ts all.1)
 
-pub few_taken : (a : JobArgumentsView) (files : Files) (names : List (List ℕ)) (taken : List TakenView) → AreTaken a files names taken → All (λ t. length t.input.streams ≤ 32) taken
+pub few_taken : (a : JobArgumentsView) (files : Files) (names : List (List ℕ)) (taken : List TakenView) → AreTaken a files names taken →
+    All (λ t. length t.input.streams ≤ 32) taken
 few_taken a files names taken are = few_of a are.streams taken are.are
 
 -- 5. What they lead to
 
-pub given_of : (a : JobArgumentsView) (names : List (List ℕ)) (taken : List TakenView) (j : JoinedInputsView) (lines : List ℕ) (less : Bool) (o : Outcome) → lines ≡ taken_lines names 0 taken →
-    less ≡ list_any (λ t. t.less) taken → ((inputs : List (List FindingView)) → AreStreamsIn a.options.make_dts inputs j → GivesIn a.subcommand a.options inputs j o.output) →
-    o.report ≡ lines ++ unless_quiet a.reporting.quiet (note_lines names j.notes) → o.status ≡ status_of a.subcommand o.output (less || are_lost j.notes) → JoinedLeads a names taken (Ok j) o
+pub given_of : (a : JobArgumentsView) (names : List (List ℕ)) (taken : List TakenView) (j : JoinedInputsView) (lines : List ℕ) (less : Bool) (o : Outcome) →
+    lines ≡ taken_lines names 0 taken →
+    less ≡ list_any (λ t. t.less) taken →
+    ((inputs : List (List FindingView)) → AreStreamsIn a.options.make_dts inputs j → GivesIn a.subcommand a.options inputs j o.output) →
+    o.report ≡ lines ++ unless_quiet a.reporting.quiet (note_lines names j.notes) → o.status ≡ status_of a.subcommand o.output (less || are_lost j.notes) →
+    JoinedLeads a names taken (Ok j) o
 given_of a names taken j lines less o said lost gives report status = inl (record {
   gives = gives;
   report_is = report ∙ ap (λ (l : List ℕ). l ++ unless_quiet a.reporting.quiet (note_lines names j.notes)) said;
@@ -288,25 +327,31 @@ pub withheld_of : (a : JobArgumentsView) (names : List (List ℕ)) (taken : List
 withheld_of a names taken j Memory o holds told = absurd told
 withheld_of a names taken j (Refused refusal) o holds told = inr (record { refusal = refusal; holds = holds; is = told })
 
-are_in : (made : Bool) (inputs : List (List FindingView)) (ms : List JobInputView) (j : JoinedInputsView) → AreMadeOf made inputs 0 ms → all_joined ms ≡ Ok j → AreStreamsIn made inputs j
+are_in : (made : Bool) (inputs : List (List FindingView)) (ms : List JobInputView) (j : JoinedInputsView) → AreMadeOf made inputs 0 ms → all_joined ms ≡ Ok j →
+    AreStreamsIn made inputs j
 unfolding all_joined
 are_in made inputs [] j of is = absurd (let no : ⊥ = cc in no)
 are_in made inputs (m ∷ ms) j of is = joined_found made inputs m ms j of is
 
-joined_lead : (a : JobArgumentsView) (files : Files) (names : List (List ℕ)) (taken : List TakenView) (o : Outcome) (are : AreTaken a files names taken) (x : Result JoinedInputsView JobRefusal) →
+joined_lead : (a : JobArgumentsView) (files : Files) (names : List (List ℕ)) (taken : List TakenView) (o : Outcome) (are : AreTaken a files names taken)
+    (x : Result JoinedInputsView JobRefusal) →
     all_joined (map (λ t. t.input) taken) ≡ x → JoinedLeads a names taken x o → JoinedLead a are.streams (map (λ t. t.input) taken) x o
 joined_lead a files names taken o are (Err refusal) is lead = lead
 joined_lead a files names taken o are (Ok j) is (inr refused) = inr refused
 joined_lead a files names taken o are (Ok j) is (inl given) =
     let ms = map (λ t. t.input) taken in
     inl (record {
-      gives = given.gives (all_findings a.options are.streams) (are_in a.options.make_dts (all_findings a.options are.streams) ms j (are_made a [] 0 are.streams taken refl are.are) is);
-      report_is = given.report_is ∙ ap (λ (l : List (List ℕ)). taken_lines l 0 taken ++ unless_quiet a.reporting.quiet (note_lines l j.notes)) (names_are files names are.streams are.read)
-          ∙ ap (λ (l : List ℕ). l ++ unless_quiet a.reporting.quiet (note_lines (names_of are.streams) j.notes)) (lines_are a [] 0 are.streams taken refl are.are);
+      gives = given.gives (all_findings a.options are.streams)
+          (are_in a.options.make_dts (all_findings a.options are.streams) ms j (are_made a [] 0 are.streams taken refl are.are) is);
+      report_is = given.report_is ∙ ap (λ (l : List (List ℕ)). taken_lines l 0 taken ++ unless_quiet a.reporting.quiet (note_lines l j.notes))
+          (names_are files names are.streams are.read)
+          ∙ ap (λ (l : List ℕ). l ++ unless_quiet a.reporting.quiet (note_lines (names_of are.streams) j.notes))
+          (lines_are a [] 0 are.streams taken refl are.are);
       status_is = given.status_is ∙ ap (λ (b : Bool). status_of a.subcommand o.output (b || are_lost j.notes)) (less_is a are.streams taken are.are);
     })
 
-pub taken_lead : (a : JobArgumentsView) (files : Files) (names : List (List ℕ)) (taken : List TakenView) (o : Outcome) → AreTaken a files names taken → TakenLead a names taken o → FilesLead a files names o
+pub taken_lead : (a : JobArgumentsView) (files : Files) (names : List (List ℕ)) (taken : List TakenView) (o : Outcome) → AreTaken a files names taken →
+    TakenLead a names taken o → FilesLead a files names o
 taken_lead a files names taken o are lead =
     let ms = map (λ t. t.input) taken in
     let same : length names ≡ length are.streams = zip_size (HasRead files) names are.streams are.read in
@@ -320,8 +365,10 @@ taken_lead a files names taken o are lead =
     })
 
 -- the first one of which a job takes nothing, after others
-refused_after : (a : JobArgumentsView) (start : ℕ) (streams : List NamedStream) (taken : List TakenView) (s : NamedStream) (line : List ℕ) (number : ℕ) → AllZip (IsTakenFrom a) streams taken →
-    stream_input a.options s.bytes ≡ Err line → start + length streams ≡ number → stream_inputs a.options start (streams ++ s ∷ []) ≡ Err (input_line number s.name ++ line)
+refused_after : (a : JobArgumentsView) (start : ℕ) (streams : List NamedStream) (taken : List TakenView) (s : NamedStream) (line : List ℕ) (number : ℕ) →
+    AllZip (IsTakenFrom a) streams taken →
+    stream_input a.options s.bytes ≡ Err line → start + length streams ≡ number →
+    stream_inputs a.options start (streams ++ s ∷ []) ≡ Err (input_line number s.name ++ line)
 unfolding stream_inputs with_first
 refused_after a start [] [] s line number all refused at =
     let here : start ≡ number = omega (arith, at) in
@@ -332,12 +379,14 @@ refused_after a start (r ∷ rs) (t ∷ ts) s line number all refused at =
     let next : (start + 1) + length rs ≡ number = omega (arith, at) in
     rw (all.0.input_is, refused_after a (start + 1) rs ts s line number all.1 refused next) refl
 
-not_all : (a : JobArgumentsView) (streams : List NamedStream) (line : List ℕ) (n m : ℕ) → stream_inputs a.options 0 streams ≡ Err line → is_ok (stream_inputs a.options 0 streams) ≡ true → n ≡ m
+not_all : (a : JobArgumentsView) (streams : List NamedStream) (line : List ℕ) (n m : ℕ) → stream_inputs a.options 0 streams ≡ Err line →
+    is_ok (stream_inputs a.options 0 streams) ≡ true → n ≡ m
 not_all a streams line n m is taken =
     let no : false ≡ true = sym (ap (λ (x : Result (List JobInputView) (List ℕ)). is_ok x) is) ∙ taken in
     absurd (let never : ⊥ = cc in never)
 
-refused_lead : (a : JobArgumentsView) (files : Files) (names : List (List ℕ)) (o : Outcome) (e : EndsAt a files names o) → IsInputIn a files e.name (Err e.alone) → IsLedTo a files names o
+refused_lead : (a : JobArgumentsView) (files : Files) (names : List (List ℕ)) (o : Outcome) (e : EndsAt a files names o) →
+    IsInputIn a files e.name (Err e.alone) → IsLedTo a files names o
 refused_lead a files names o e one =
     let s : NamedStream = record { name = e.name; bytes = one.bytes } in
     let all = e.before.streams ++ s ∷ [] in
@@ -346,7 +395,8 @@ refused_lead a files names o e one =
     let front : length (take e.number names) ≡ e.number = length-take-le e.number names most in
     let count : length e.before.streams ≡ e.number = sym (zip_size (HasRead files) (take e.number names) e.before.streams e.before.read) ∙ front in
     let size : length all ≡ e.number + 1 = length-append e.before.streams (s ∷ []) ∙ ap (λ (n : ℕ). n + 1) count in
-    let at : e.name ≡ get_or names e.number e.name = same_Some e.name (get_or names e.number e.name) (sym e.at ∙ slice_get-get_or names e.number e.name within) in
+    let at : e.name ≡ get_or names e.number e.name =
+    same_Some e.name (get_or names e.number e.name) (sym e.at ∙ slice_get-get_or names e.number e.name within) in
     let longer : take e.number names ++ e.name ∷ [] ≡ take (length all) names =
     ap (λ (n : List ℕ). take e.number names ++ n ∷ []) at ∙ sym (take_more names e.number e.name within) ∙ ap (λ (n : ℕ). take n names) (sym size) in
     let refused : stream_inputs a.options 0 all ≡ Err (input_line e.number e.name ++ one.is.line) =
@@ -361,7 +411,8 @@ refused_lead a files names o e one =
           (e.told ∙ ap (λ (x : Outcome). told_under e.number e.name x) one.is.is);
     }
 
-ended : (a : JobArgumentsView) (files : Files) (names : List (List ℕ)) (o : Outcome) (e : EndsAt a files names o) → IsNamedInput a files e.name (Err e.alone) → FilesLead a files names o
+ended : (a : JobArgumentsView) (files : Files) (names : List (List ℕ)) (o : Outcome) (e : EndsAt a files names o) → IsNamedInput a files e.name (Err e.alone) →
+    FilesLead a files names o
 ended a files names o e (inl stop) = inl (record {
   number = e.number;
   name = e.name;
@@ -380,12 +431,15 @@ ends_lead a files names o e = ended a files names o e e.is
 
 -- 6. What calls answer
 
-pub named_answer : {E : Type 0} (a : JobArgumentsView) (files : Files) (name : List ℕ) (input : Device) (r : ReadingView) (x : Result (Result TakenView Outcome) E) → IsOpened files name →
-    input.before.bytes ≡ files.contents name → IsReadAs input (λ bytes. IsRead bytes r) → ((bytes : List ℕ) → IsRead bytes r → IfOk x (IsInput a bytes)) → IfOk x (IsNamedInput a files name)
+pub named_answer : {E : Type 0} (a : JobArgumentsView) (files : Files) (name : List ℕ) (input : Device) (r : ReadingView)
+    (x : Result (Result TakenView Outcome) E) → IsOpened files name →
+    input.before.bytes ≡ files.contents name → IsReadAs input (λ bytes. IsRead bytes r) → ((bytes : List ℕ) → IsRead bytes r → IfOk x (IsInput a bytes)) →
+    IfOk x (IsNamedInput a files name)
 named_answer a files name input r (Ok y) opened same read of = named_read a files name input r y opened same read of
 named_answer a files name input r (Err e) opened same read of = tt
 
-mapped_at : (names : List (Bor (List ℕ))) (k : ℕ) (d : Bor (List ℕ)) (e : List ℕ) → k < length names → (get_or names k d).now ≡ get_or (map (λ s. s.now) names) k e
+mapped_at : (names : List (Bor (List ℕ))) (k : ℕ) (d : Bor (List ℕ)) (e : List ℕ) → k < length names →
+    (get_or names k d).now ≡ get_or (map (λ s. s.now) names) k e
 mapped_at [] k d e within = absurd (let no : ⊥ = omega (arith, within) in no)
 mapped_at (n ∷ ns) zero d e within = refl
 mapped_at (n ∷ ns) (suc k) d e within = mapped_at ns k d e (let less : k < length ns = omega (arith, within) in less)
@@ -393,7 +447,8 @@ mapped_at (n ∷ ns) (suc k) d e within = mapped_at ns k d e (let less : k < len
 mapped_within : (names : List (Bor (List ℕ))) (k : ℕ) → k < length names → k < length (map (λ s. s.now) names)
 mapped_within names k within = let size = length-map names (λ s. s.now) in omega (arith, size, within)
 
-pub one_named : (a : JobArgumentsView) (files : Files) (names : List (Bor (List ℕ))) (k : ℕ) (d : Bor (List ℕ)) (x : Result TakenView Outcome) (taken next : List TakenView) (t : TakenView) → k < length names →
+pub one_named : (a : JobArgumentsView) (files : Files) (names : List (Bor (List ℕ))) (k : ℕ) (d : Bor (List ℕ)) (x : Result TakenView Outcome)
+    (taken next : List TakenView) (t : TakenView) → k < length names →
     AreTaken a files (take k (map (λ s. s.now) names)) taken → IsNamedInput a files (get_or names k d).now x → x ≡ Ok t → next ≡ taken ++ t ∷ [] →
     AreTaken a files (take (k + 1) (map (λ s. s.now) names)) next
 one_named a files names k d x taken next t within before is same pushed =
@@ -401,8 +456,10 @@ one_named a files names k d x taken next t within before is same pushed =
     one_more a files (map (λ s. s.now) names) k name taken next t (mapped_within names k within) (mapped_at names k d name within) before
     (subst (λ (y : Result TakenView Outcome). IsNamedInput a files name y) same is) pushed
 
-pub ends_named : (a : JobArgumentsView) (files : Files) (names : List (Bor (List ℕ))) (k : ℕ) (d : Bor (List ℕ)) (x : Result TakenView Outcome) (taken : List TakenView) (alone o : Outcome) → k < length names →
-    AreTaken a files (take k (map (λ s. s.now) names)) taken → IsNamedInput a files (get_or names k d).now x → x ≡ Err alone → o ≡ told_under k (get_or names k d).now alone →
+pub ends_named : (a : JobArgumentsView) (files : Files) (names : List (Bor (List ℕ))) (k : ℕ) (d : Bor (List ℕ)) (x : Result TakenView Outcome)
+    (taken : List TakenView) (alone o : Outcome) → k < length names →
+    AreTaken a files (take k (map (λ s. s.now) names)) taken → IsNamedInput a files (get_or names k d).now x → x ≡ Err alone →
+    o ≡ told_under k (get_or names k d).now alone →
     EndsAt a files (map (λ s. s.now) names) o
 ends_named a files names k d x taken alone o within before is same told =
     let name = (get_or names k d).now in
@@ -412,21 +469,26 @@ ends_named a files names k d x taken alone o within before is same told =
 few_mapped : (taken : List TakenView) → All (λ t. length t.input.streams ≤ 32) taken → All (λ m. length m.streams ≤ 32) (map (λ t. t.input) taken)
 few_mapped [] all = All-nil (λ m. length m.streams ≤ 32)
 few_mapped (t ∷ ts) all =
-    All-cons (λ m. length m.streams ≤ 32) t.input (map (λ t. t.input) ts) (All-head (λ t. length t.input.streams ≤ 32) t ts all) (few_mapped ts (All-tail (λ t. length t.input.streams ≤ 32) t ts all))
+    All-cons (λ m. length m.streams ≤ 32) t.input (map (λ t. t.input) ts) (All-head (λ t. length t.input.streams ≤ 32) t ts all)
+    (few_mapped ts (All-tail (λ t. length t.input.streams ≤ 32) t ts all))
 
-pub few_inputs : (taken : List TakenView) (ms : List JobInputView) → ms ≡ map (λ t. t.input) taken → All (λ t. length t.input.streams ≤ 32) taken → All (λ m. length m.streams ≤ 32) ms
+pub few_inputs : (taken : List TakenView) (ms : List JobInputView) → ms ≡ map (λ t. t.input) taken → All (λ t. length t.input.streams ≤ 32) taken →
+    All (λ m. length m.streams ≤ 32) ms
 few_inputs taken ms same all = subst (λ (l : List JobInputView). All (λ m. length m.streams ≤ 32) l) (sym same) (few_mapped taken all)
 
 joined_value : (r : Result JoinedInputsView JobRefusal) (j : JoinedInputsView) → Answers r (Ok j) → r ≡ Ok j
 unfolding Answers
 joined_value r j is = is
 
-pub joined_is_taken : {E : Type 0} (a : JobArgumentsView) (names : List (List ℕ)) (taken : List TakenView) (ms : List JobInputView) (j : JoinedInputsView) (r : Result Outcome E) → ms ≡ map (λ t. t.input) taken →
+pub joined_is_taken : {E : Type 0} (a : JobArgumentsView) (names : List (List ℕ)) (taken : List TakenView) (ms : List JobInputView) (j : JoinedInputsView)
+    (r : Result Outcome E) → ms ≡ map (λ t. t.input) taken →
     Answers (all_joined ms) (Ok j) → IfOk r (JoinedLeads a names taken (Ok j)) → IfOk r (TakenLead a names taken)
 joined_is_taken a names taken ms j r same is lead =
-    subst (λ (x : Result JoinedInputsView JobRefusal). IfOk r (JoinedLeads a names taken x)) (sym (ap all_joined (sym same) ∙ joined_value (all_joined ms) j is)) lead
+    subst (λ (x : Result JoinedInputsView JobRefusal). IfOk r (JoinedLeads a names taken x))
+    (sym (ap all_joined (sym same) ∙ joined_value (all_joined ms) j is)) lead
 
-pub refused_is_taken : {E : Type 0} (a : JobArgumentsView) (names : List (List ℕ)) (taken : List TakenView) (ms : List JobInputView) (error : JobError) (r : Result Outcome E) → ms ≡ map (λ t. t.input) taken →
+pub refused_is_taken : {E : Type 0} (a : JobArgumentsView) (names : List (List ℕ)) (taken : List TakenView) (ms : List JobInputView) (error : JobError)
+    (r : Result Outcome E) → ms ≡ map (λ t. t.input) taken →
     Answers (all_joined ms) (Err error) → IfOk r (ReportsWhy error) → IfOk r (TakenLead a names taken)
 unfolding Answers Refuses
 refused_is_taken a names taken ms error (Err e) same is told = tt
@@ -434,13 +496,16 @@ refused_is_taken a names taken ms Memory (Ok o) same is told = absurd told
 refused_is_taken a names taken ms (Refused refusal) (Ok o) same is told =
     subst (λ (x : Result JoinedInputsView JobRefusal). JoinedLeads a names taken x o) (sym (ap all_joined (sym same) ∙ is)) told
 
-pub taken_of : (a : JobArgumentsView) (files : Files) (names : List (List ℕ)) (x : Result (List TakenView) Outcome) (taken : List TakenView) → x ≡ Ok taken → AreNamedInputs a files names x → AreTaken a files names taken
+pub taken_of : (a : JobArgumentsView) (files : Files) (names : List (List ℕ)) (x : Result (List TakenView) Outcome) (taken : List TakenView) → x ≡ Ok taken →
+    AreNamedInputs a files names x → AreTaken a files names taken
 taken_of a files names x taken same are = subst (λ (y : Result (List TakenView) Outcome). AreNamedInputs a files names y) same are
 
-pub ended_of : (a : JobArgumentsView) (files : Files) (names : List (List ℕ)) (x : Result (List TakenView) Outcome) (o : Outcome) → x ≡ Err o → AreNamedInputs a files names x → FilesLead a files names o
+pub ended_of : (a : JobArgumentsView) (files : Files) (names : List (List ℕ)) (x : Result (List TakenView) Outcome) (o : Outcome) → x ≡ Err o →
+    AreNamedInputs a files names x → FilesLead a files names o
 ended_of a files names x o same are = ends_lead a files names o (subst (λ (y : Result (List TakenView) Outcome). AreNamedInputs a files names y) same are)
 
-pub files_answer : {E : Type 0} (a : JobArgumentsView) (files : Files) (names : List (List ℕ)) (taken : List TakenView) (r : Result Outcome E) → AreTaken a files names taken → IfOk r (TakenLead a names taken) →
+pub files_answer : {E : Type 0} (a : JobArgumentsView) (files : Files) (names : List (List ℕ)) (taken : List TakenView) (r : Result Outcome E) →
+    AreTaken a files names taken → IfOk r (TakenLead a names taken) →
     IfOk r (FilesLead a files names)
 files_answer a files names taken (Ok o) are lead = taken_lead a files names taken o are lead
 files_answer a files names taken (Err e) are lead = tt

@@ -1,12 +1,14 @@
 -- The lines of warnings, one after another.
-use Rattle.std.proofs.Common.{◌≡◌, ◌∙◌, ◌<◌, ◌≤◌, ◌+◌, ℕ, List, [], ◌++◌, length, drop, slice_index_or, Option, ap, sym, refl, add-one, append_assoc, append-nil}
+use Rattle.std.proofs.Common.{◌≡◌, ◌∙◌, ◌<◌, ◌≤◌, ◌+◌, ℕ, List, [], ◌++◌, length, drop, slice_index_or, Option, ap, sym, refl, add-one, append_assoc}
+use Rattle.std.proofs.Common.{append-nil}
 use Rattle.std.proofs.Math.Seq.{drop-cons}
 use Rattle.std.proofs.lemmas.List.{drop_all}
 use Rattle.stream_jobs.specs.declared.warning.Warning.{Warning}
 use Rattle.job_run.specs.WarningLines.{line_after, lines_after, scrambled_pid}
 
 from_here : (before : Option ℕ) (warnings : List Warning) (i : ℕ) (d : Warning) → i < length warnings →
-    lines_after before (drop i warnings) ≡ line_after before (slice_index_or warnings i d) ++ lines_after (scrambled_pid (slice_index_or warnings i d)) (drop (i + 1) warnings)
+    lines_after before (drop i warnings) ≡ line_after before (slice_index_or warnings i d)
+    ++ lines_after (scrambled_pid (slice_index_or warnings i d)) (drop (i + 1) warnings)
 unfolding lines_after
 from_here before warnings i d h = rw (add-one, drop-cons warnings i d h) refl
 

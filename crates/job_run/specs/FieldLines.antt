@@ -2,7 +2,9 @@
 use Rattle.std.specs.Prelude.{ℕ, Bool, ◌||◌, ◌&&◌, List, ◌++◌, flat_map, filter, codes, decimal}
 use Rattle.packet_sync.specs.Fields.{is_loss, is_of_packet}
 use Rattle.packet_sync.specs.declared.field.Field.{Field}
-use Rattle.packet_sync.specs.declared.field.Field.TheVariants.{TransportPriority, Discontinuity, RandomAccess, StreamPriority, OriginalClock, SpliceCountdown, AdaptationPrivateData, AdaptationExtension, Alignment, Flags, Scrambling, LongHeader, PrivateData, OtherHeaderData, UnreadHeader}
+use Rattle.packet_sync.specs.declared.field.Field.TheVariants.{TransportPriority, Discontinuity, RandomAccess, StreamPriority, OriginalClock, SpliceCountdown}
+use Rattle.packet_sync.specs.declared.field.Field.TheVariants.{AdaptationPrivateData, AdaptationExtension, Alignment, Flags, Scrambling, LongHeader}
+use Rattle.packet_sync.specs.declared.field.Field.TheVariants.{PrivateData, OtherHeaderData, UnreadHeader}
 use Rattle.packet_sync.specs.declared.left_out.FieldLeftOut.{FieldLeftOut}
 use Rattle.stream_jobs.specs.JobInput.{JobInputView, carries_table, has_clock, has_stream}
 

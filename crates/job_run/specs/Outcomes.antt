@@ -1,5 +1,6 @@
 -- The outcome for a transport stream.
-use Rattle.std.specs.Prelude.{◌≡◌, ◌⊎◌, ℕ, ◌/◌, ◌==◌, ◌||◌, not, Bool, true, false, List, [], ◌++◌, length, map, codes, decimal, if◌then◌else◌, Option, Some, None, Result, Ok, Err}
+use Rattle.std.specs.Prelude.{◌≡◌, ◌⊎◌, ℕ, ◌/◌, ◌==◌, ◌||◌, not, Bool, true, false, List, [], ◌++◌, length, map, codes, decimal, if◌then◌else◌, Option, Some}
+use Rattle.std.specs.Prelude.{None, Result, Ok, Err}
 use Rattle.std.specs.List.{list_any}
 use Rattle.std.specs.Str.{IsUtf8}
 use Rattle.pes_packet.specs.AccessUnits.{AccessUnit}
@@ -41,7 +42,7 @@ use Rattle.job_run.specs.FieldLines.{field_lines, told_fields}
 use Rattle.es_feed.specs.Records.{records_of, written}
 use Rattle.job_run.specs.RefusalLine.{refusal_line}
 use Rattle.job_run.specs.SlipLines.{packets_line, slip_lines}
-use Rattle.job_run.specs.Streams.{PacketNotesView, findings_for, notes_of}
+use Rattle.job_run.specs.Streams.{PacketNotesView, findings_for, notes_for}
 use Rattle.job_run.specs.TableLines.{other_table_lines, told_tables}
 use Rattle.job_run.specs.WarningLines.{told_warnings, warning_lines}
 
@@ -137,7 +138,8 @@ told_lines r notes findings m =
     unless_quiet r.quiet (loss_lines notes.slips (told_fields r.all m notes.fields) (told_tables r.all m (other_tables findings)) (told_warnings r m.warnings))
 
 abbrev pub is_told_less : Reporting → PacketNotesView → List FindingView → JobInputView → Bool
-is_told_less r notes findings m = is_less notes.slips (told_fields r.all m notes.fields) (told_tables r.all m (other_tables findings)) (told_warnings r m.warnings)
+is_told_less r notes findings m =
+    is_less notes.slips (told_fields r.all m notes.fields) (told_tables r.all m (other_tables findings)) (told_warnings r m.warnings)
 
 -- the status 1: of reasons where there is one, else where something is lost
 abbrev pub status_of : Subcommand → List ℕ → Bool → ℕ
@@ -170,7 +172,8 @@ FindingsLead arguments notes count findings o = InputLeads arguments notes findi
 -- for the bytes of a stream that are in no slip; a stream of packets of another size is refused
 abbrev pub BytesLead : JobArgumentsView → List ℕ → Option OtherPackets → Outcome → Type 0
 BytesLead arguments bytes (Some packets) o = o ≡ reported (packets_line packets)
-BytesLead arguments bytes None o = FindingsLead arguments (notes_of bytes) (length (carried bytes) / 188) (findings_for arguments.options bytes) o
+BytesLead arguments bytes None o =
+    FindingsLead arguments (notes_for arguments.options bytes) (length (carried bytes) / 188) (findings_for arguments.options bytes) o
 
 abbrev pub Leads : JobArgumentsView → List ℕ → Outcome → Type 0
 Leads arguments bytes o = BytesLead arguments bytes (other_packets bytes) o

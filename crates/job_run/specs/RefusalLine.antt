@@ -7,7 +7,9 @@ use Rattle.es_units.specs.declared.dts_from_pts.DtsFault.{DtsFault}
 use Rattle.es_units.specs.declared.dts_from_pts.DtsFault.TheVariants.{SamePts, PtsTooLate}
 use Rattle.stream_jobs.specs.declared.refusal.GreaterBuffers.{GreaterBuffers}
 use Rattle.stream_jobs.specs.declared.refusal.JobRefusal.{JobRefusal}
-use Rattle.stream_jobs.specs.declared.refusal.JobRefusal.TheVariants.{NoPackets, NoAssociation, NoProgram, NoStream, Scrambled, Programs, Streams, StreamId, NoStamps, OtherStreamId, Stamps, Dts, Units, Size, Buffers, Pids, Description, Plan, Declaration}
+use Rattle.stream_jobs.specs.declared.refusal.JobRefusal.TheVariants.{NoPackets, NoAssociation, NoProgram, NoStream, Scrambled, Programs, Streams, StreamId}
+use Rattle.stream_jobs.specs.declared.refusal.JobRefusal.TheVariants.{NoStamps, OtherStreamId, Stamps, Dts, Units, Size, Buffers, Pids, Description, Plan}
+use Rattle.stream_jobs.specs.declared.refusal.JobRefusal.TheVariants.{Declaration}
 
 -- time stamps that can't be moments of a run, after the packet and the PID of their unit
 unfoldable pub stamps_text : StampFault → List ℕ
@@ -26,7 +28,8 @@ making_text (PtsTooLate index after) = codes " unit " ++ decimal index ++ codes 
 
 -- units that their buffers do not hold, and the buffers that would take them
 unfoldable pub unfit_text : ℕ → ℕ → ℕ → ℕ → List ℕ
-unfit_text pid size rx main = codes "pid " ++ decimal pid ++ codes " units of up to " ++ decimal size ++ codes " bytes do not fit rx " ++ decimal rx ++ codes " and main " ++ decimal main
+unfit_text pid size rx main = codes "pid " ++ decimal pid ++ codes " units of up to " ++ decimal size ++ codes " bytes do not fit rx " ++ decimal rx
+    ++ codes " and main " ++ decimal main
 
 unfoldable pub greater_text : ℕ → ℕ → ℕ → List ℕ
 greater_text pid rx main = codes "; --buffers " ++ decimal pid ++ codes ":" ++ decimal rx ++ codes ":" ++ decimal main ++ codes " would carry it\n"
@@ -43,9 +46,11 @@ refusal_line NoStream = codes "no stream\n"
 refusal_line Scrambled = codes "no stream that is not scrambled\n"
 refusal_line (Programs count) = decimal count ++ codes " programs: more than 16\n"
 refusal_line (Streams count) = decimal count ++ codes " streams: more than 32\n"
-refusal_line (StreamId packet pid id) = codes "packet " ++ decimal packet ++ codes " pid " ++ decimal pid ++ codes " stream_id " ++ decimal id ++ codes " cannot be written\n"
+refusal_line (StreamId packet pid id) = codes "packet " ++ decimal packet ++ codes " pid " ++ decimal pid ++ codes " stream_id " ++ decimal id
+    ++ codes " cannot be written\n"
 refusal_line (NoStamps pid) = codes "pid " ++ decimal pid ++ codes " has no PTS in its PES packets\n"
-refusal_line (OtherStreamId packet pid id first) = codes "packet " ++ decimal packet ++ codes " pid " ++ decimal pid ++ codes " stream_id " ++ decimal id ++ codes " after " ++ decimal first ++ codes "\n"
+refusal_line (OtherStreamId packet pid id first) = codes "packet " ++ decimal packet ++ codes " pid " ++ decimal pid ++ codes " stream_id " ++ decimal id
+    ++ codes " after " ++ decimal first ++ codes "\n"
 refusal_line (Stamps packet pid fault mended) = codes "packet " ++ decimal packet ++ codes " pid " ++ decimal pid ++ stamps_text fault ++ remedy_text mended
 refusal_line (Dts pid fault) = codes "pid " ++ decimal pid ++ making_text fault
 refusal_line (Units pid count) = codes "pid " ++ decimal pid ++ codes " has " ++ decimal count ++ codes " units: more than 1048576\n"

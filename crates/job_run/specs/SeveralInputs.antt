@@ -1,5 +1,6 @@
 -- The outcome for several transport streams as one job, each in a file of its own.
-use Rattle.std.specs.Prelude.{◌≡◌, ◌⊎◌, ℕ, ◌+◌, ◌/◌, ◌==◌, ◌||◌, Bool, false, List, [], ◌∷◌, ◌++◌, length, map, if◌then◌else◌, Option, Some, None, Result, Ok, Err}
+use Rattle.std.specs.Prelude.{◌≡◌, ◌⊎◌, ℕ, ◌+◌, ◌/◌, ◌==◌, ◌||◌, Bool, false, List, [], ◌∷◌, ◌++◌, length, map, if◌then◌else◌, Option, Some, None, Result, Ok}
+use Rattle.std.specs.Prelude.{Err}
 use Rattle.std.specs.Str.{IsUtf8}
 use Rattle.pes_packet.specs.AccessUnits.{AccessUnit}
 use Rattle.demux.specs.Views.{FindingView}
@@ -26,7 +27,7 @@ use Rattle.job_run.specs.declared.job_arguments.Subcommand.{Subcommand}
 use Rattle.job_run.specs.declared.job_arguments.Subcommand.TheVariants.{Whole, Describe, Units, Why}
 use Rattle.job_run.specs.JobArguments.{JobArgumentsView}
 use Rattle.job_run.specs.Outcomes.{GivesReasons, GivesUnits, Withholds, is_told_less, status_of, told_lines, unless_quiet}
-use Rattle.job_run.specs.Streams.{findings_for, notes_of}
+use Rattle.job_run.specs.Streams.{findings_for, notes_for}
 
 -- a stream: the name of its file, and its bytes
 pub record NamedStream : Type 0 where
@@ -68,7 +69,7 @@ stream_inputs options number (s ∷ streams) = with_first number s.name (stream_
 
 -- of a stream of which a job takes this
 abbrev pub stream_lines : JobArgumentsView → JobInputView → List ℕ → List ℕ
-stream_lines a m bytes = told_lines a.reporting (notes_of bytes) (findings_for a.options bytes) m
+stream_lines a m bytes = told_lines a.reporting (notes_for a.options bytes) (findings_for a.options bytes) m
 
 -- under the number and the name of its input, if there is anything
 unfoldable pub under : ℕ → List ℕ → List ℕ → List ℕ
@@ -85,7 +86,7 @@ all_lines a streams ms j = streams_lines a 0 streams ms ++ unless_quiet a.report
 
 -- something of a stream is lost
 abbrev pub is_stream_less : JobArgumentsView → JobInputView → List ℕ → Bool
-is_stream_less a m bytes = is_told_less a.reporting (notes_of bytes) (findings_for a.options bytes) m
+is_stream_less a m bytes = is_told_less a.reporting (notes_for a.options bytes) (findings_for a.options bytes) m
 
 unfoldable pub are_streams_less : JobArgumentsView → List NamedStream → List JobInputView → Bool
 are_streams_less a (s ∷ streams) (m ∷ ms) = is_stream_less a m s.bytes || are_streams_less a streams ms

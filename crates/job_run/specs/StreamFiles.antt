@@ -16,7 +16,8 @@ use Rattle.job_run.specs.InputLines.{are_lost, input_line, name_of, note_lines}
 use Rattle.job_run.specs.RefusalLine.{refusal_line}
 use Rattle.job_run.specs.JobArguments.{JobArgumentsView}
 use Rattle.job_run.specs.Outcomes.{IsWritten, is_told_less, status_of, told_lines, unless_quiet}
-use Rattle.job_run.specs.SeveralInputs.{GivesIn, IsRefusedIn, NamedStream, StreamsLead, all_joined, is_stream_less, stream_input, stream_inputs, stream_lines, under}
+use Rattle.job_run.specs.SeveralInputs.{GivesIn, IsRefusedIn, NamedStream, StreamsLead, all_joined, is_stream_less, stream_input, stream_inputs, stream_lines}
+use Rattle.job_run.specs.SeveralInputs.{under}
 use Rattle.job_run.specs.Streams.{PacketNotesView, findings_for}
 
 -- 1. One stream

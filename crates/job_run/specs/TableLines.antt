@@ -2,7 +2,8 @@
 use Rattle.std.specs.Prelude.{ℕ, ◌&&◌, ◌||◌, Bool, not, List, ◌++◌, flat_map, filter, codes, decimal}
 use Rattle.other_tables.specs.TableKinds.{is_loss}
 use Rattle.other_tables.specs.declared.kinds.TableKind.{TableKind}
-use Rattle.other_tables.specs.declared.kinds.TableKind.TheVariants.{ConditionalAccess, Objects, Network, Services, Events, Time, Running, Applications, Splices, Private}
+use Rattle.other_tables.specs.declared.kinds.TableKind.TheVariants.{ConditionalAccess, Objects, Network, Services, Events, Time, Running, Applications, Splices}
+use Rattle.other_tables.specs.declared.kinds.TableKind.TheVariants.{Private}
 use Rattle.other_tables.specs.declared.tables.OtherTable.{OtherTable}
 use Rattle.stream_jobs.specs.JobInput.{JobInputView, carries_table}
 

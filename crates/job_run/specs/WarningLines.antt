@@ -26,10 +26,13 @@ unfoldable pub table_line : TableOmission → List ℕ
 table_line (table.NoMap program) = codes "program " ++ decimal program ++ codes " has no PMT: left out\n"
 table_line (table.ConditionalAccess program) = codes "CA descriptors of program " ++ decimal program ++ codes " left out\n"
 table_line (table.Multiplex program) = codes "multiplex descriptors of program " ++ decimal program ++ codes " left out\n"
-table_line (table.NoPes program pid stream_type) = codes "pid " ++ decimal pid ++ codes " of program " ++ decimal program ++ codes " stream_type " ++ decimal stream_type ++ codes " has no PES: left out\n"
+table_line (table.NoPes program pid stream_type) = codes "pid " ++ decimal pid ++ codes " of program " ++ decimal program ++ codes " stream_type "
+    ++ decimal stream_type ++ codes " has no PES: left out\n"
 table_line (table.Reserved program pid) = codes "pid " ++ decimal pid ++ codes " of program " ++ decimal program ++ codes " is reserved: left out\n"
-table_line (table.Taken program pid holder) = codes "pid " ++ decimal pid ++ codes " of program " ++ decimal program ++ codes " is in program " ++ decimal holder ++ codes " already: left out\n"
-table_line (table.SharedOtherwise program pid holder) = codes "pid " ++ decimal pid ++ codes " of program " ++ decimal program ++ codes " has the stream_type and descriptors of program " ++ decimal holder ++ codes ": its own left out\n"
+table_line (table.Taken program pid holder) = codes "pid " ++ decimal pid ++ codes " of program " ++ decimal program ++ codes " is in program "
+    ++ decimal holder ++ codes " already: left out\n"
+table_line (table.SharedOtherwise program pid holder) = codes "pid " ++ decimal pid ++ codes " of program " ++ decimal program
+    ++ codes " has the stream_type and descriptors of program " ++ decimal holder ++ codes ": its own left out\n"
 table_line (table.NoStream program) = codes "program " ++ decimal program ++ codes " has no stream: left out\n"
 
 -- why a finding on a PID is in no unit
@@ -49,7 +52,8 @@ reason_text unit.OpenEnded = codes "last PES packet has neither length nor end: 
 
 -- a stream with a stream_id that can't be written
 unfoldable pub id_line : ℕ → ℕ → ℕ → ℕ → List ℕ
-id_line program pid packet id = codes "packet " ++ decimal packet ++ codes " pid " ++ decimal pid ++ codes " of program " ++ decimal program ++ codes " stream_id " ++ decimal id ++ codes " cannot be written: left out\n"
+id_line program pid packet id = codes "packet " ++ decimal packet ++ codes " pid " ++ decimal pid ++ codes " of program " ++ decimal program
+    ++ codes " stream_id " ++ decimal id ++ codes " cannot be written: left out\n"
 
 -- a finding on a PID
 abbrev pub unit_line : ℕ → UnitWarning → List ℕ
@@ -81,11 +85,13 @@ program_line program UnreadText = codes "name of program " ++ decimal program ++
 
 -- the buffer that a stream says
 unfoldable pub header_line : ℕ → ℕ → ℕ → ℕ → List ℕ
-header_line pid said unit counted = codes "pid " ++ decimal pid ++ codes " says a buffer of " ++ decimal said ++ codes " bytes and has a unit of " ++ decimal unit ++ codes ": its level's " ++ decimal counted ++ codes " declared\n"
+header_line pid said unit counted = codes "pid " ++ decimal pid ++ codes " says a buffer of " ++ decimal said ++ codes " bytes and has a unit of "
+    ++ decimal unit ++ codes ": its level's " ++ decimal counted ++ codes " declared\n"
 
 -- the leak that nothing keeps
 unfoldable pub leak_line : ℕ → ℕ → ℕ → List ℕ
-leak_line pid rate leak = codes "pid " ++ decimal pid ++ codes " asks for " ++ decimal rate ++ codes " bits/s and its leak gives " ++ decimal leak ++ codes ": declared without rbx and mb\n"
+leak_line pid rate leak = codes "pid " ++ decimal pid ++ codes " asks for " ++ decimal rate ++ codes " bits/s and its leak gives " ++ decimal leak
+    ++ codes ": declared without rbx and mb\n"
 
 -- access units that a main buffer does not hold one by one
 unfoldable pub frames_line : ℕ → ℕ → List ℕ
@@ -108,7 +114,8 @@ warning_line (warning.NoUnit program pid) = codes "pid " ++ decimal pid ++ codes
 warning_line (warning.StreamId program pid packet id) = id_line program pid packet id
 warning_line warning.UnreadNetwork = codes "name of the network has characters that cannot be read\n"
 warning_line (warning.Information about) = information_line about
-warning_line (warning.MapMoved program from to) = codes "PMT of program " ++ decimal program ++ codes " moved from pid " ++ decimal from ++ codes " to " ++ decimal to ++ codes "\n"
+warning_line (warning.MapMoved program from to) = codes "PMT of program " ++ decimal program ++ codes " moved from pid " ++ decimal from ++ codes " to "
+    ++ decimal to ++ codes "\n"
 warning_line (warning.HeaderBuffer pid said unit counted) = header_line pid said unit counted
 warning_line (warning.Leak pid rate leak) = leak_line pid rate leak
 warning_line (warning.LeftOut pid why) = left_out_line pid why

@@ -70,8 +70,8 @@ fn is_told(all: bool, input: &JobInput, left_out: &FieldLeftOut) -> bool
     is_carried(input, left_out) && (all || left_out.field.is_loss())
 }
 
-/// Returns the fields that are reported: of streams that are carried, and in packets also of tables and clocks; all, or those by
-/// which a viewer loses something.
+/// Returns the fields that are reported: of streams that are carried, and in packets also of tables and clocks; all, or
+/// those by which a viewer loses something.
 pub fn told_fields(
     alloc: Global,
     all: bool,

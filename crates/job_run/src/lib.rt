@@ -6,8 +6,9 @@
 //! program, and all of it from the reader on. `stream_files` has what a job takes of streams in files by their names
 //! (`specs/StreamFiles`), and `files_outcome` the outcome for all of them as one job (`specs/SeveralInputs`).
 //!
-//! Which lines are reported is part of the request (`Reporting`): all, those that say of a loss, or refusals alone; the status is
-//! the same in each case (`status_stays`). There is a line for each thing that is left out or changed, and a line for a refusal; `specs/` has the text of each:
+//! Which lines are reported is part of the request (`Reporting`): all, those that say of a loss, or refusals alone; the
+//! status is the same in each case (`status_stays`). There is a line for each thing that is left out or changed, and a
+//! line for a refusal; `specs/` has the text of each:
 //!
 //! - `slip_lines`: packets that are not in step or have another size.
 //! - `field_lines`: fields that are not written again.
@@ -31,6 +32,7 @@ mod refusal_line;
 mod slip_lines;
 mod stream_files;
 mod table_lines;
+mod timed_text;
 mod warning_lines;
 mod written;
 

@@ -25,6 +25,7 @@ use crate::reason_output::reason_output;
 use crate::refusal_line::write_refusal;
 use crate::slip_lines::{write_packets, write_slips};
 use crate::table_lines::{are_missed, told_tables, write_other_tables};
+use crate::timed_text::timed_stream;
 use crate::warning_lines::{is_damaged, told_warnings, write_warnings};
 use demux::Finding;
 use other_tables::{OtherTable, other_tables};
@@ -369,9 +370,15 @@ fn carried_outcome(
     ensures { (bytes : List ℕ) → IsRead bytes stream → other_packets bytes ≡ None →
         IfOk result (λ a. spec.BytesLead arguments.now bytes None a) }
 {
-    let ReadStream { notes, demux, size } = stream.end()?;
+    let ReadStream {
+        notes,
+        references,
+        demux,
+        size,
+    } = stream.end()?;
     let count = size as u64 / 188;
-    let findings = mark_as_asked(alloc, &arguments.options(), demux.into_findings())?;
+    let marked = mark_as_asked(alloc, &arguments.options(), demux.into_findings())?;
+    let (notes, findings) = timed_stream(alloc, references, notes, marked)?;
     let outcome = findings_outcome(alloc, arguments, &notes, count, findings)?;
     Ok(outcome)
 }

@@ -1,5 +1,6 @@
 -- The text of a description that `tsjob` writes: no line of it is the first of a plan's text.
-use Rattle.std.proofs.Common.{◌≡◌, ℕ, pos, ◌==◌, Bool, true, false, if◌then◌else◌, decimal, List, [], ◌∷◌, ◌++◌, length, map, zip, flat_map, refl, ap, ◌∙◌, subst, append_assoc, codes, Option, Some, None}
+use Rattle.std.proofs.Common.{◌≡◌, ℕ, pos, ◌==◌, Bool, true, false, if◌then◌else◌, decimal, List, [], ◌∷◌, ◌++◌, length, map, zip, flat_map, refl, ap, ◌∙◌}
+use Rattle.std.proofs.Common.{subst, append_assoc, codes, Option, Some, None}
 use Rattle.std.specs.Prelude.{nat_eq}
 use Rattle.std.specs.List.{starts_with}
 use Rattle.std.proofs.lemmas.Bool.{cond_both}
@@ -11,9 +12,11 @@ use Rattle.unit_timing.specs.declared.framing.Framing.{Framing}
 use Rattle.unit_timing.specs.declared.multiplexing_buffer.MultiplexingBuffer.{MultiplexingBuffer}
 use Rattle.demux.specs.Views.{FindingView}
 use Rattle.job_text.specs.DescriptionParts.{EventPartView, HeadingView, NetworkPartView, ProgramPartView, StreamPartView, TablePartView}
-use Rattle.job_text.specs.Fields.{burst_numbers, drain_numbers, first_numbers, frame_numbers, group_numbers, last_numbers, leak_numbers, limit_numbers, pace_numbers, place_numbers, program_numbers, size_numbers, table_numbers, time_numbers}
+use Rattle.job_text.specs.Fields.{burst_numbers, drain_numbers, first_numbers, frame_numbers, group_numbers, last_numbers, leak_numbers, limit_numbers}
+use Rattle.job_text.specs.Fields.{pace_numbers, place_numbers, program_numbers, size_numbers, table_numbers, time_numbers}
 use Rattle.job_text.specs.KeyLines.{digits_of, header, hex_line, items_of, items_text, key_line, list_line, number_line, number_lines, table_header, value_text}
-use Rattle.job_text.specs.Texts.{event_back, event_names, event_numbers, event_text, heading_text, network_if_any, program_front, program_service, program_text, stream_end, stream_front, stream_place, stream_text, stream_times, table_back, table_front, table_text}
+use Rattle.job_text.specs.Texts.{event_back, event_names, event_numbers, event_text, heading_text, network_if_any, program_front, program_service, program_text}
+use Rattle.job_text.specs.Texts.{stream_end, stream_front, stream_place, stream_text, stream_times, table_back, table_front, table_text}
 use Rattle.stream_programs.specs.NetworkInformation.{stream_network}
 use Rattle.stream_programs.specs.Services.{FoundServiceView, service}
 use Rattle.service_information.specs.Events.{FoundEventView}
@@ -23,7 +26,8 @@ use Rattle.stream_jobs.specs.JobInput.{JobInputView}
 use Rattle.stream_jobs.specs.JobOptions.{JobOptionsView}
 use Rattle.stream_jobs.specs.JobPrograms.{JobProgramView}
 use Rattle.stream_jobs.specs.JobTables.{table_lines, table_part, tables_text}
-use Rattle.stream_jobs.specs.Texts.{description_text, events_text, heading_of, program_lines, program_part, program_with, programs_text, stream_lines, stream_part, streams_text}
+use Rattle.stream_jobs.specs.Texts.{description_text, events_text, heading_of, program_lines, program_part, program_with, programs_text, stream_lines}
+use Rattle.stream_jobs.specs.Texts.{stream_part, streams_text}
 use Rattle.checked_jobs.specs.Jobs.{first_plan_line}
 use Rattle.laws_pipe.proofs.PlainLines.{Passes, both_pass, flat_both, is_flat, line_passes, none_passes}
 use Rattle.laws_pipe.proofs.PlainNames.{PlainOptions, PlainPart, PlainService, begin_flat, decoded_flat, moment_flat, part_plain, service_plain}
@@ -42,7 +46,8 @@ key_passes key value other plain flat =
     let line : (key ++ (codes " = " ++ value_text value)) ++ 10 ∷ [] ≡ key ++ (codes " = " ++ (value_text value ++ codes "\n")) =
     append_assoc key (codes " = " ++ value_text value) (10 ∷ []) ∙ ap (λ (t : List ℕ). key ++ t) (append_assoc (codes " = ") (value_text value) (10 ∷ [])) in
     subst Passes line
-    (line_passes (key ++ (codes " = " ++ value_text value)) (flat_both key (codes " = " ++ value_text value) plain (flat_both (codes " = ") (value_text value) refl flat))
+    (line_passes (key ++ (codes " = " ++ value_text value))
+    (flat_both key (codes " = " ++ value_text value) plain (flat_both (codes " = ") (value_text value) refl flat))
     (λ rest. ap (λ (t : List ℕ). starts_with nat_eq t first_plan_line) (append_assoc key (codes " = " ++ value_text value) (10 ∷ rest))
     ∙ other ((codes " = " ++ value_text value) ++ 10 ∷ rest)))
 
@@ -83,7 +88,8 @@ list_passes : (ns : List ℕ) → Passes (list_line (codes "shared_with") ns)
 unfolding list_line
 list_passes ns =
     cond_both (length ns == 0) [] (key_line (codes "shared_with") (array (items_of ns))) Passes (λ _. none_passes)
-    (λ _. key_passes (codes "shared_with") (array (items_of ns)) (λ rest. refl) refl (flat_both (codes "[") (items_text true (items_of ns)) refl (items_flat true ns)))
+    (λ _. key_passes (codes "shared_with") (array (items_of ns)) (λ rest. refl) refl
+    (flat_both (codes "[") (items_text true (items_of ns)) refl (items_flat true ns)))
 
 -- of an array of strings of digits
 digits_flat : (is_first : Bool) (bs : List (List ℕ)) → is_flat (items_text is_first (digits_of bs)) ≡ true
@@ -111,7 +117,8 @@ empty_line = line_passes [] refl (λ rest. refl)
 heading_passes : (h : HeadingView) → is_flat h.start ≡ true → Passes (heading_text h)
 heading_passes h plain =
     let last = number_passes (codes "ts_id") h.transport_stream_id (λ rest. refl) refl in
-    let time = both_pass (key_line (codes "tdt") (boolean h.tdt)) (number_line (codes "ts_id", h.transport_stream_id)) (truth_passes (codes "tdt") h.tdt (λ rest. refl) refl) last in
+    let time = both_pass (key_line (codes "tdt") (boolean h.tdt)) (number_line (codes "ts_id", h.transport_stream_id))
+    (truth_passes (codes "tdt") h.tdt (λ rest. refl) refl) last in
     let start = both_pass (key_line (codes "start") (string h.start)) _ (text_passes (codes "start") h.start (λ rest. refl) refl plain) time in
     let services = both_pass (key_line (codes "sdt") (boolean h.sdt)) _ (truth_passes (codes "sdt") h.sdt (λ rest. refl) refl) start in
     let rate = both_pass (number_line (codes "rate", h.rate)) _ (number_passes (codes "rate") h.rate (λ rest. refl) refl) services in
@@ -138,9 +145,12 @@ program_passes p name provider =
     let head = both_pass (header (codes "program")) (hex_line (codes "descriptors") p.descriptors) program_header (bytes_pass p.descriptors) in
     let front = both_pass _ (key_line (codes "name") (string p.name)) head (text_passes (codes "name") p.name (λ rest. refl) refl name) in
     let kind = number_passes (codes "service_type") p.service_type (λ rest. refl) refl in
-    let services = both_pass (key_line (codes "provider") (string p.provider)) (number_line (codes "service_type", p.service_type)) (text_passes (codes "provider") p.provider (λ rest. refl) refl provider) kind in
+    let services =
+    both_pass (key_line (codes "provider") (string p.provider)) (number_line (codes "service_type", p.service_type))
+    (text_passes (codes "provider") p.provider (λ rest. refl) refl provider) kind in
     let numbers = numbers_pass (program_numbers p) ((λ rest. refl), (refl, ((λ rest. refl), (refl, ((λ rest. refl), (refl, ((λ rest. refl), (refl, tt)))))))) in
-    both_pass (program_front p) (number_lines (program_numbers p) ++ program_service p) front (both_pass (number_lines (program_numbers p)) (program_service p) numbers services)
+    both_pass (program_front p) (number_lines (program_numbers p) ++ program_service p) front
+    (both_pass (number_lines (program_numbers p)) (program_service p) numbers services)
 
 event_header : Passes (header (codes "event"))
 unfolding header
@@ -156,10 +166,12 @@ pub record PlainEvent (e : EventPartView) : Type 0 where
 event_passes : (e : EventPartView) → PlainEvent e → Passes (event_text e)
 event_passes e plain =
     let text = text_passes (codes "text") e.text (λ rest. refl) refl plain.text in
-    let start = both_pass (key_line (codes "start") (string e.start)) (key_line (codes "text") (string e.text)) (text_passes (codes "start") e.start (λ rest. refl) refl plain.start) text in
+    let start = both_pass (key_line (codes "start") (string e.start)) (key_line (codes "text") (string e.text))
+    (text_passes (codes "start") e.start (λ rest. refl) refl plain.start) text in
     let back = both_pass (number_line (codes "program", e.program)) _ (number_passes (codes "program") e.program (λ rest. refl) refl) start in
     let name = text_passes (codes "name") e.name (λ rest. refl) refl plain.name in
-    let names = both_pass (key_line (codes "language") (string e.language)) (key_line (codes "name") (string e.name)) (text_passes (codes "language") e.language (λ rest. refl) refl plain.language) name in
+    let names = both_pass (key_line (codes "language") (string e.language)) (key_line (codes "name") (string e.name))
+    (text_passes (codes "language") e.language (λ rest. refl) refl plain.language) name in
     let numbers = numbers_pass (event_numbers e) ((λ rest. refl), (refl, ((λ rest. refl), (refl, tt)))) in
     both_pass (header (codes "event")) (number_lines (event_numbers e) ++ (event_names e ++ event_back e)) event_header
     (both_pass (number_lines (event_numbers e)) (event_names e ++ event_back e) numbers (both_pass (event_names e) (event_back e) names back))
@@ -198,7 +210,8 @@ limit_passes (Some n) = numbers_pass (limit_numbers (Some n)) ((λ rest. refl), 
 
 stream_passes : (s : StreamPartView) → Passes (stream_text s)
 stream_passes s =
-    let groups = both_pass (number_lines (frame_numbers s.framing)) (number_lines (group_numbers s.allowance)) (frames_pass s.framing) (groups_pass s.allowance) in
+    let groups = both_pass (number_lines (frame_numbers s.framing)) (number_lines (group_numbers s.allowance)) (frames_pass s.framing)
+    (groups_pass s.allowance) in
     let frames = both_pass (hex_line (codes "descriptors") s.descriptors) _ (bytes_pass s.descriptors) groups in
     let burst = both_pass (number_lines (burst_numbers s.allowance)) _ (burst_passes s.allowance) frames in
     let front = both_pass (header (codes "stream")) _ stream_header burst in
@@ -284,7 +297,8 @@ one_program : (limit : ℕ) (p : JobProgramView) (s : FoundServiceView) → Plai
 unfolding program_with
 one_program limit p s plain = program_passes (program_part limit (p, s)) plain.name plain.provider
 
-programs_pass : (limit : ℕ) (programs : List JobProgramView) (services : List FoundServiceView) → Each PlainService services → Passes (programs_text limit programs services)
+programs_pass : (limit : ℕ) (programs : List JobProgramView) (services : List FoundServiceView) → Each PlainService services →
+    Passes (programs_text limit programs services)
 programs_pass limit [] services plain = none_passes
 programs_pass limit (p ∷ ps) [] plain = none_passes
 programs_pass limit (p ∷ ps) (s ∷ ss) plain =

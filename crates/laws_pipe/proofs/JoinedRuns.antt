@@ -1,5 +1,6 @@
 -- Both programs, one after the other, where the first reads its streams from files.
-use Rattle.std.proofs.Common.{◌≡◌, ◌<◌, ℕ, ◌+◌, ◌-◌, ◌/◌, ◌^◌, ◌==◌, Bool, true, false, if◌then◌else◌, List, [], ◌∷◌, length, take, take_all, is_some, Option, Some, None, Result, Ok, Err, All, refl, sym, ap, ◌∙◌, subst, arith, inl, inr}
+use Rattle.std.proofs.Common.{◌≡◌, ◌<◌, ℕ, ◌+◌, ◌-◌, ◌/◌, ◌^◌, ◌==◌, Bool, true, false, if◌then◌else◌, List, [], ◌∷◌, length, take, take_all, is_some, Option}
+use Rattle.std.proofs.Common.{Some, None, Result, Ok, Err, All, refl, sym, ap, ◌∙◌, subst, arith, inl, inr}
 use Rattle.std.specs.Prelude.{is_ok}
 use Rattle.std.specs.List.{AllZip}
 use Rattle.clap.specs.Words.{Text}
@@ -24,7 +25,8 @@ use Rattle.devices.specs.Outcomes.{Outcome}
 use Rattle.job_run.specs.declared.job_arguments.Subcommand.{Subcommand}
 use Rattle.job_run.specs.JobArguments.{JobArgumentsView}
 use Rattle.job_run.specs.Outcomes.{IsWritten}
-use Rattle.job_run.specs.SeveralInputs.{GivesIn, GivesJobIn, InputsLead, JoinedLead, NamedStream, all_findings, all_joined, input_or_line, packets_input, stream_input, stream_inputs, with_first}
+use Rattle.job_run.specs.SeveralInputs.{GivesIn, GivesJobIn, InputsLead, JoinedLead, NamedStream, all_findings, all_joined, input_or_line, packets_input}
+use Rattle.job_run.specs.SeveralInputs.{stream_input, stream_inputs, with_first}
 use Rattle.job_run.specs.StreamFiles.{FilesLead, HasRead, IsStop, PerformsFiles, told_under}
 use Rattle.job_run.specs.Streams.{findings_for}
 use Rattle.tsjob_cli.specs.Arguments.{arguments_in}
@@ -147,11 +149,14 @@ inputs_by a streams o (Err lines) e leads some = absurd (none_written o _ leads 
 inputs_by a streams o (Ok ms) e leads some = record { inputs = ms; are = e; of = joined_by a streams ms o (all_joined ms) refl leads some }
 
 -- a file that can't be opened or read leads to no output
-none_stopped : (files : Files) (o alone : Outcome) (number : ℕ) (name : List ℕ) → o ≡ told_under number name alone → IsStop files name alone → 0 < length o.output → ⊥
+none_stopped : (files : Files) (o alone : Outcome) (number : ℕ) (name : List ℕ) → o ≡ told_under number name alone → IsStop files name alone →
+    0 < length o.output → ⊥
 none_stopped files o alone number name told (inl e) some =
-    let none : length o.output ≡ 0 = ap (λ (x : Outcome). length x.output) told ∙ ap (λ (x : Outcome). length x.output) e.0 in absurd (omega (arith, none, some))
+    let none : length o.output ≡ 0 = ap (λ (x : Outcome). length x.output) told ∙ ap (λ (x : Outcome). length x.output) e.0 in
+    absurd (omega (arith, none, some))
 none_stopped files o alone number name told (inr e) some =
-    let none : length o.output ≡ 0 = ap (λ (x : Outcome). length x.output) told ∙ ap (λ (x : Outcome). length x.output) e.0 in absurd (omega (arith, none, some))
+    let none : length o.output ≡ 0 = ap (λ (x : Outcome). length x.output) told ∙ ap (λ (x : Outcome). length x.output) e.0 in
+    absurd (omega (arith, none, some))
 
 record StreamsOf (a : JobArgumentsView) (files : Files) (names : List Text) (o : Outcome) : Type 0 where
   streams : List NamedStream

@@ -1,5 +1,6 @@
 -- Both programs, one after the other.
-use Rattle.std.proofs.Common.{◌≡◌, ◌<◌, ℕ, ◌+◌, ◌-◌, ◌/◌, ◌^◌, Bool, false, List, [], ◌++◌, length, Option, Some, None, Result, Ok, Err, refl, sym, ap, ◌∙◌, subst, arith, is_some, inl, inr, All}
+use Rattle.std.proofs.Common.{◌≡◌, ◌<◌, ℕ, ◌+◌, ◌-◌, ◌/◌, ◌^◌, Bool, false, List, [], ◌++◌, length, Option, Some, None, Result, Ok, Err, refl, sym, ap, ◌∙◌}
+use Rattle.std.proofs.Common.{subst, arith, is_some, inl, inr, All}
 use Rattle.std.specs.Io.KnownBytes.{Appends}
 use Rattle.clap.specs.Words.{Text}
 use Rattle.demux.specs.Views.{FindingView}
@@ -26,7 +27,7 @@ use Rattle.job_run.specs.declared.job_arguments.Subcommand.{Subcommand}
 use Rattle.job_run.specs.JobArguments.{JobArgumentsView}
 use Rattle.tsjob_cli.specs.Arguments.{arguments_in}
 use Rattle.job_run.specs.Outcomes.{BytesLead, Gives, GivesJob, InputLeads, Leads}
-use Rattle.job_run.specs.Streams.{findings_for, notes_of}
+use Rattle.job_run.specs.Streams.{findings_for, notes_for}
 use Rattle.tsmux_cli.specs.declared.request.MuxOptions.{MuxOptions}
 use Rattle.tsmux_cli.specs.MuxJobs.{MuxJobView, mux_job_of}
 use Rattle.tsmux_cli.specs.Multiplexing.{IsKept, KeepsPromises, KeptUnlessRefused, cause_of, multiplexed, packets_of, unless_refused, with_job}
@@ -42,11 +43,13 @@ use Rattle.laws_pipe.proofs.WrittenRecords.{Fits, records_read, units_fit}
 
 -- 1. What is written is read
 
-pub plain_of : (w : JobOptionsView) (id : ℕ) (findings : List FindingView) (m : JobInputView) → PlainOptions w → m.information ≡ information_of w id findings m.programs →
+pub plain_of : (w : JobOptionsView) (id : ℕ) (findings : List FindingView) (m : JobInputView) → PlainOptions w →
+    m.information ≡ information_of w id findings m.programs →
     PlainInformation m.information
 plain_of w id findings m plain is = subst PlainInformation (sym is) (information_plain w id findings m.programs plain)
 
-passes : (w : JobOptionsView) (findings : List FindingView) (m : JobInputView) (output : List ℕ) → PlainInformation m.information → (job : GivesJob w findings m output) → Passes job.text
+passes : (w : JobOptionsView) (findings : List FindingView) (m : JobInputView) (output : List ℕ) → PlainInformation m.information →
+    (job : GivesJob w findings m output) → Passes job.text
 passes w findings m output plain job =
     subst Passes (sym job.job.described.text_is) (description_passes w m job.job.described.rate plain)
 
@@ -57,7 +60,8 @@ fits w findings m output job =
     (all_kept units_kept w.make_dts (schedule_for job.description job.plan) findings job.units ranges job.found)
     (units_sixteen w.make_dts findings job.description job.units job.found) job.found.numbered
 
-read_with : (w : JobOptionsView) (findings : List FindingView) (m : JobInputView) (output : List ℕ) → PlainInformation m.information → (job : GivesJob w findings m output) →
+read_with : (w : JobOptionsView) (findings : List FindingView) (m : JobInputView) (output : List ℕ) → PlainInformation m.information →
+    (job : GivesJob w findings m output) →
     mux_job_of false output ≡ Ok (as_mux_job job)
 read_with w findings m output plain job =
     ap (mux_job_of false) job.is
@@ -65,7 +69,8 @@ read_with w findings m output plain job =
     (records_read records_are_read job.units (fits w findings m output job))
 
 pub written_is_read : WrittenIsRead
-written_is_read words a id findings m output asked is job = read_with a.options findings m output (plain_of a.options id findings m (options_plain words a asked) is) job
+written_is_read words a id findings m output asked is job =
+    read_with a.options findings m output (plain_of a.options id findings m (options_plain words a asked) is) job
 
 -- 2. What `tsjob` wrote
 
@@ -88,17 +93,20 @@ pub none_written : (o : Outcome) (line : List ℕ) → o ≡ reported line → 0
 none_written o line e some = let none : length o.output ≡ 0 = ap (λ (x : Outcome). length x.output) e in absurd (omega (arith, none, some))
 
 given_by : (a : JobArgumentsView) (bytes : List ℕ) (o : Outcome) (r : Result JobInputView JobRefusal) →
-    job_input a.options (length (carried bytes) / 188) (findings_for a.options bytes) ≡ r → InputLeads a (notes_of bytes) (findings_for a.options bytes) r o → 0 < length o.output →
+    job_input a.options (length (carried bytes) / 188) (findings_for a.options bytes) ≡ r →
+    InputLeads a (notes_for a.options bytes) (findings_for a.options bytes) r o → 0 < length o.output →
     GivenOf a bytes o.output
 given_by a bytes o (Err refusal) e leads some = absurd (none_written o _ leads some)
 given_by a bytes o (Ok m) e (inl given) some = record { input = m; input_is = e; gives = given.gives }
 given_by a bytes o (Ok m) e (inr refused) some = absurd (none_written o _ refused.is some)
 
-given_of : (a : JobArgumentsView) (bytes : List ℕ) (o : Outcome) (p : Option OtherPackets) → BytesLead a bytes p o → 0 < length o.output → GivenOf a bytes o.output
+given_of : (a : JobArgumentsView) (bytes : List ℕ) (o : Outcome) (p : Option OtherPackets) → BytesLead a bytes p o → 0 < length o.output →
+    GivenOf a bytes o.output
 given_of a bytes o (Some packets) leads some = absurd (none_written o _ leads some)
 given_of a bytes o None leads some = given_by a bytes o (job_input a.options (length (carried bytes) / 188) (findings_for a.options bytes)) refl leads some
 
-pub given_by_run : (a : JobArgumentsView) (bytes output : List ℕ) (stream job told : Device) (status : ℕ) → stream.before.bytes ≡ Some bytes → Ends (Leads a) stream job told status →
+pub given_by_run : (a : JobArgumentsView) (bytes output : List ℕ) (stream job told : Device) (status : ℕ) → stream.before.bytes ≡ Some bytes →
+    Ends (Leads a) stream job told status →
     job.before.bytes ≡ Some [] → job.after.bytes ≡ Some output → 0 < length output → GivenOf a bytes output
 given_by_run a bytes output stream job told status known ends empty output_is some =
     let same : ends.outcome.output ≡ output = taken job.before.bytes job.after.bytes ends.outcome.output output empty output_is ends.written in
@@ -108,7 +116,8 @@ given_by_run a bytes output stream job told status known ends empty output_is so
 -- 3. What `mux` does with it
 
 -- the outcome of a job of which nothing is refused
-good : (o : MuxOptions) (output : List ℕ) (j : MuxJobView) → o.periods ≡ None → mux_job_of false output ≡ Ok j → cause_of o j ≡ None → multiplexed o output ≡ printed (packets_of o j) 0
+good : (o : MuxOptions) (output : List ℕ) (j : MuxJobView) → o.periods ≡ None → mux_job_of false output ≡ Ok j → cause_of o j ≡ None →
+    multiplexed o output ≡ printed (packets_of o j) 0
 unfolding with_job unless_refused
 good o output j one read none =
     ap (λ (p : Option ℕ). with_job o (mux_job_of (is_some p) output)) one ∙ ap (with_job o) read ∙ ap (λ c. unless_refused c (packets_of o j)) none
@@ -126,7 +135,8 @@ pub record TakenOf (o : MuxOptions) (output : List ℕ) (j : MuxJobView) (packet
   pub written : Takes packets (packets_of o j)
   pub kept : IsKept o j
 
-pub muxed : (o : MuxOptions) (output : List ℕ) (j : MuxJobView) (job packets faults : Device) (status : ℕ) → MuxesAll o output job packets faults status → mux_job_of false output ≡ Ok j →
+pub muxed : (o : MuxOptions) (output : List ℕ) (j : MuxJobView) (job packets faults : Device) (status : ℕ) → MuxesAll o output job packets faults status →
+    mux_job_of false output ≡ Ok j →
     cause_of o j ≡ None → TakenOf o output j packets faults status
 muxed o output j job packets faults status m read none =
     let leads = m.ends.leads output m.known in
@@ -140,9 +150,11 @@ muxed o output j job packets faults status m read none =
 
 -- 4. Both
 
-through : AcceptedLaw → FoundAgainLaw → (words : List Text) (a : JobArgumentsView) (o : MuxOptions) (bytes output : List ℕ) (job_again packets faults : Device) (status : ℕ) →
+through : AcceptedLaw → FoundAgainLaw → (words : List Text) (a : JobArgumentsView) (o : MuxOptions) (bytes output : List ℕ) (job_again packets faults : Device)
+    (status : ℕ) →
     arguments_in words ≡ Some a → MuxesAll o output job_again packets faults status → (input : JobInputView) →
-    job_input a.options (length (carried bytes) / 188) (findings_for a.options bytes) ≡ Ok input → GivesJob a.options (findings_for a.options bytes) input output →
+    job_input a.options (length (carried bytes) / 188) (findings_for a.options bytes) ≡ Ok input →
+    GivesJob a.options (findings_for a.options bytes) input output →
     GoesThrough a o bytes output packets faults status
 through accepted again words a o bytes output job_again packets faults status asked m input input_is job =
     let ranges = text_in_range job.description job.text job.job.read in
@@ -162,7 +174,8 @@ through accepted again words a o bytes output job_again packets faults status as
       kept = done.kept;
       time = λ clock. job.description.base0 + 2 ^ 33 - constants.constant clock;
       units = λ own bytes_out short k s is.
-          units_again again (findings_for a.options bytes) o (as_mux_job job) (constants.constant (clock_in input.programs s.program)) refl m.all_slots bytes_out ranges job.serving
+          units_again again (findings_for a.options bytes) o (as_mux_job job) (constants.constant (clock_in input.programs s.program)) refl m.all_slots
+          bytes_out ranges job.serving
           (subst (λ (made : Bool). AreUnits made (findings_for a.options bytes) job.description job.units) own job.found) short k s is
           (moved_units a.options (findings_for a.options bytes) job.description input job.units constants own job.agree job.job.merged k s is);
     }

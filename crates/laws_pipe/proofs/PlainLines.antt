@@ -1,5 +1,6 @@
 -- Lines that do not begin a plan's text: a job's description ends after them.
-use Rattle.std.proofs.Common.{◌≡◌, ℕ, ◌+◌, ◌==◌, Bool, true, false, not, List, [], ◌∷◌, ◌++◌, length, refl, sym, ap, ◌∙◌, arith, append_assoc, length-append, inl, inr, ne_eqb, if◌then◌else◌, Some}
+use Rattle.std.proofs.Common.{◌≡◌, ℕ, ◌+◌, ◌==◌, Bool, true, false, not, List, [], ◌∷◌, ◌++◌, length, refl, sym, ap, ◌∙◌, arith, append_assoc, length-append}
+use Rattle.std.proofs.Common.{inl, inr, ne_eqb, if◌then◌else◌, Some}
 use Rattle.std.specs.Prelude.{nat_eq}
 use Rattle.std.specs.List.{list_all, starts_with}
 use Rattle.std.proofs.lemmas.Bool.{and_parts, and_from, cases_Bool, eqb-true, false≢true, not_from_false}
@@ -66,10 +67,12 @@ past_line i [] rest e = let same : i + 1 ≡ i + 0 + 1 = omega arith in ap (λ (
 past_line i (x ∷ xs) rest e =
     let parts = and_parts (is_inside x) (is_flat xs) e in
     let next : i + 1 + length xs + 1 ≡ i + length (x ∷ xs) + 1 = omega arith in
-    ap (λ (b : Bool). plan_offset (i + 1) b (xs ++ 10 ∷ rest)) (not_end x parts.0) ∙ past_line (i + 1) xs rest parts.1 ∙ ap (λ (n : ℕ). plan_offset n true rest) next
+    ap (λ (b : Bool). plan_offset (i + 1) b (xs ++ 10 ∷ rest)) (not_end x parts.0) ∙ past_line (i + 1) xs rest parts.1
+    ∙ ap (λ (n : ℕ). plan_offset n true rest) next
 
 -- the search at the beginning of a line that is no plan's first
-other_line : (i x : ℕ) (xs : List ℕ) (b : Bool) → starts_with nat_eq (x ∷ xs) first_plan_line ≡ false → (x == 10) ≡ b → plan_offset i true (x ∷ xs) ≡ plan_offset (i + 1) b xs
+other_line : (i x : ℕ) (xs : List ℕ) (b : Bool) → starts_with nat_eq (x ∷ xs) first_plan_line ≡ false → (x == 10) ≡ b →
+    plan_offset i true (x ∷ xs) ≡ plan_offset (i + 1) b xs
 other_line i x xs b other end =
     by (starts_with nat_eq (x ∷ xs) first_plan_line) other ∙ ap (λ (t : Bool). plan_offset (i + 1) t xs) end
   where

@@ -1,5 +1,6 @@
 -- The names and the moment that a description is made of have no end of a line in them.
-use Rattle.std.proofs.Common.{◌≡◌, ℕ, ◌+◌, ◌/◌, ◌%◌, ◌++◌, decimal, ◌<◌, length, get_or, sym, ap, ◌∙◌, ◌==◌, Bool, true, false, List, [], ◌∷◌, map, refl, subst, arith, Option, Some, None, All, find, option_map, option_and_then, unwrap_or, codes, if◌then◌else◌}
+use Rattle.std.proofs.Common.{◌≡◌, ℕ, ◌+◌, ◌/◌, ◌%◌, ◌++◌, decimal, ◌<◌, length, get_or, sym, ap, ◌∙◌, ◌==◌, Bool, true, false, List, [], ◌∷◌, map, refl, subst}
+use Rattle.std.proofs.Common.{arith, Option, Some, None, All, find, option_map, option_and_then, unwrap_or, codes, if◌then◌else◌}
 use Rattle.std.specs.Option.{option_or}
 use Rattle.std.specs.Char.{is_control}
 use Rattle.std.specs.List.{list_all, onto_first, slice_split}
@@ -26,12 +27,14 @@ use Rattle.stream_jobs.specs.Information.{named_service, network_found, network_
 use Rattle.word_faults.specs.GivenOptions.{given_options}
 use Rattle.tsjob_cli.specs.FileMark.{has_mark}
 use Rattle.job_run.specs.JobArguments.{JobArgumentsView}
-use Rattle.tsjob_cli.specs.Arguments.{aligned_in, arguments_in, arguments_of, lead_in, limit_in, options_in, programs_in, rate_in, stream_of, values_of, without_in}
+use Rattle.tsjob_cli.specs.Arguments.{aligned_in, arguments_in, arguments_of, lead_in, limit_in, options_in, programs_in, rate_in, stream_of, values_of}
+use Rattle.tsjob_cli.specs.Arguments.{without_in}
 use Rattle.tsjob_cli.specs.Options.{options}
 use Rattle.tsjob_cli.specs.Subcommands.{subcommand_of}
 use Rattle.option_lists.specs.JobValues.{base_of, declare_by_of, is_of_time, start_of}
 use Rattle.option_lists.specs.Lists.{all_of, buffer_list, colon_parts, number_in}
-use Rattle.option_lists.specs.NameLists.{are_printable, is_printable, name_list, name_of, network_if_given, network_in, network_of as network_named, network_with}
+use Rattle.option_lists.specs.NameLists.{are_printable, is_printable, name_list, name_of, network_if_given, network_in, network_of as network_named}
+use Rattle.option_lists.specs.NameLists.{network_with}
 use Rattle.laws_pipe.proofs.PlainTexts.{decimal_flat}
 use Rattle.laws_pipe.proofs.PlainLines.{flat_both, flat_if, flat_more, inside_ne, is_flat, is_inside}
 
@@ -88,7 +91,8 @@ parts_plain p [] e = (refl, tt)
 parts_plain p (x ∷ text) e =
     let each = and_parts (is_inside x) (is_flat text) e in
     let more = parts_plain p text each.1 in
-    cond_both (p x) ([] ∷ slice_split p text) (onto_first x (slice_split p text)) AllPlain (λ _. (refl, more)) (λ _. onto_plain x (slice_split p text) each.0 more)
+    cond_both (p x) ([] ∷ slice_split p text) (onto_first x (slice_split p text)) AllPlain (λ _. (refl, more))
+    (λ _. onto_plain x (slice_split p text) each.0 more)
 
 printable_flat : (text : Text) → are_printable text ≡ true → is_flat text ≡ true
 printable_flat text e = flat_if is_printable text refl e
@@ -101,7 +105,8 @@ name_plain (number ∷ name ∷ []) n h e = subst PlainName (map_some _ (number_
 name_plain (number ∷ name ∷ provider ∷ []) n h e = subst PlainName (map_some _ (number_in 1 65535 number) n e).1.1 (h.1.0, h.1.1.0)
 name_plain (number ∷ name ∷ provider ∷ more ∷ parts) n h e = absurd cc
 
-first_plain : (parts : List Text) (o : Option ServiceNameView) (rest : List (Option ServiceNameView)) (ns : List ServiceNameView) → AllPlain parts → name_of parts ≡ o →
+first_plain : (parts : List Text) (o : Option ServiceNameView) (rest : List (Option ServiceNameView)) (ns : List ServiceNameView) → AllPlain parts →
+    name_of parts ≡ o →
     ((more : List ServiceNameView) → all_of rest ≡ Some more → All PlainName more) → all_of (o ∷ rest) ≡ Some ns → All PlainName ns
 unfolding all_of
 first_plain parts None rest ns h is more e = absurd cc
@@ -109,7 +114,8 @@ first_plain parts (Some n) rest ns h is more e =
     let all = map_some (λ xs. n ∷ xs) (all_of rest) ns e in
     subst (All PlainName) all.1.1 (All-cons PlainName n all.0 (name_plain parts n h is) (more all.0 all.1.0))
 
-names_plain : (texts : List Text) (ns : List ServiceNameView) → AllPlain texts → all_of (map (λ text. name_of (colon_parts text)) texts) ≡ Some ns → All PlainName ns
+names_plain : (texts : List Text) (ns : List ServiceNameView) → AllPlain texts → all_of (map (λ text. name_of (colon_parts text)) texts) ≡ Some ns →
+    All PlainName ns
 unfolding all_of
 names_plain [] ns h e = subst (All PlainName) (same_value [] ns e) (All-nil PlainName)
 names_plain (t ∷ ts) ns h e =
@@ -123,7 +129,8 @@ list_plain (Some text) ns e =
     let printed = if_some (are_printable text) _ ns e in
     names_plain (slice_split (λ b. b == 44) text) ns (parts_plain (λ b. b == 44) text (printable_flat text printed.0)) printed.1
 
-with_plain : (id name : Text) (original : Option Text) (n : NetworkNameView) → is_flat name ≡ true → network_with id name original ≡ Some n → PlainNetwork (Some n)
+with_plain : (id name : Text) (original : Option Text) (n : NetworkNameView) → is_flat name ≡ true → network_with id name original ≡ Some n →
+    PlainNetwork (Some n)
 unfolding network_with
 with_plain id name None n h e = subst (λ x. PlainNetwork (Some x)) (map_some _ (number_in 0 65535 id) n e).1.1 h
 with_plain id name (Some original) n h e =
@@ -210,18 +217,22 @@ two_flat : (n : ℕ) → is_flat (two_digits n) ≡ true
 unfolding two_digits
 two_flat n = flat_both (decimal (n / 10)) (decimal (n % 10)) (decimal_flat (n / 10)) (decimal_flat (n % 10))
 
-three_flat : (a b c sign : List ℕ) → is_flat a ≡ true → is_flat b ≡ true → is_flat c ≡ true → is_flat sign ≡ true → is_flat (a ++ (sign ++ (b ++ (sign ++ c)))) ≡ true
-three_flat a b c sign p q r s = flat_both a (sign ++ (b ++ (sign ++ c))) p (flat_both sign (b ++ (sign ++ c)) s (flat_both b (sign ++ c) q (flat_both sign c s r)))
+three_flat : (a b c sign : List ℕ) → is_flat a ≡ true → is_flat b ≡ true → is_flat c ≡ true → is_flat sign ≡ true →
+    is_flat (a ++ (sign ++ (b ++ (sign ++ c)))) ≡ true
+three_flat a b c sign p q r s =
+    flat_both a (sign ++ (b ++ (sign ++ c))) p (flat_both sign (b ++ (sign ++ c)) s (flat_both b (sign ++ c) q (flat_both sign c s r)))
 
 date_flat : (day : ℕ) → is_flat (date_text day) ≡ true
 unfolding date_text
 date_flat day =
-    three_flat (decimal (year_of day)) (two_digits (month_of day)) (two_digits (day_of_month day)) (codes "-") (decimal_flat (year_of day)) (two_flat (month_of day)) (two_flat (day_of_month day)) refl
+    three_flat (decimal (year_of day)) (two_digits (month_of day)) (two_digits (day_of_month day)) (codes "-") (decimal_flat (year_of day))
+    (two_flat (month_of day)) (two_flat (day_of_month day)) refl
 
 clock_flat : (seconds : ℕ) → is_flat (clock_text seconds) ≡ true
 unfolding clock_text
 clock_flat seconds =
-    three_flat (two_digits (seconds / 3600)) (two_digits (seconds / 60 % 60)) (two_digits (seconds % 60)) (codes ":") (two_flat (seconds / 3600)) (two_flat (seconds / 60 % 60))
+    three_flat (two_digits (seconds / 3600)) (two_digits (seconds / 60 % 60)) (two_digits (seconds % 60)) (codes ":") (two_flat (seconds / 3600))
+    (two_flat (seconds / 60 % 60))
     (two_flat (seconds % 60)) refl
 
 pub moment_flat : (moment : ℕ) → is_flat (civil_text moment) ≡ true
@@ -235,7 +246,8 @@ unfolding start_found
 found_start None = refl
 found_start (Some moment) = moment_flat moment
 
-pub begin_flat : (given : Option Text) (events : List FoundEventView) (findings : List FindingView) → PlainIfAny given → is_flat (begin_of given events findings) ≡ true
+pub begin_flat : (given : Option Text) (events : List FoundEventView) (findings : List FindingView) → PlainIfAny given →
+    is_flat (begin_of given events findings) ≡ true
 unfolding begin_of
 begin_flat None events findings h = found_start (option_or (stream_time findings) (first_start events))
 begin_flat (Some text) events findings h = h
@@ -269,7 +281,8 @@ unfolding service_with renamed
 with_name None s h plain = plain
 with_name (Some n) s h plain = record { name = h.0; provider = or_flat n.provider s.provider h.1 plain.provider }
 
-pub service_plain : (ns : List ServiceNameView) (number : ℕ) (o : Option FoundServiceView) → All PlainName ns → PlainService (service_with (name_given number ns) (named_service o))
+pub service_plain : (ns : List ServiceNameView) (number : ℕ) (o : Option FoundServiceView) → All PlainName ns →
+    PlainService (service_with (name_given number ns) (named_service o))
 unfolding name_given
 service_plain ns number o h = with_name (find (λ n. n.program == number) ns) (named_service o) (found_name (λ n. n.program == number) ns h) (found_service o)
 

@@ -1,10 +1,12 @@
 -- Values of a description as they are written: none has the end of a line in it, where its text has none.
-use Rattle.std.proofs.Common.{◌≡◌, ℕ, zero, suc, ◌+◌, ◌/◌, ◌%◌, ◌==◌, ◌||◌, nat_lt, Bool, true, false, cond, List, [], ◌∷◌, ◌++◌, slice_index, refl, ap, arith, codes, decimal}
+use Rattle.std.proofs.Common.{◌≡◌, ℕ, zero, suc, ◌+◌, ◌/◌, ◌%◌, ◌==◌, ◌||◌, nat_lt, Bool, true, false, cond, List, [], ◌∷◌, ◌++◌, slice_index, refl, ap, arith}
+use Rattle.std.proofs.Common.{codes, decimal}
 use Rattle.std.specs.Fmt.{digit_glyph, digits, digits_onto}
 use Rattle.std.proofs.lemmas.Bool.{and_parts, cond_both, or_from}
 use Rattle.hex.specs.Hex.{encode_lower, encode_with, lower_digits}
 use Rattle.toml_parser.specs.Lexical.{apostrophe, backslash, line_feed, quote}
-use Rattle.toml_writer.specs.Text.{Encoding, basic, encoded, encoding_of, escape_letter, escape_text, escaped, has, literal, multi_basic, multi_literal, needs_escape, opening_newline, quotes_after, string_text}
+use Rattle.toml_writer.specs.Text.{Encoding, basic, encoded, encoding_of, escape_letter, escape_text, escaped, has, literal, multi_basic, multi_literal}
+use Rattle.toml_writer.specs.Text.{needs_escape, opening_newline, quotes_after, string_text}
 use Rattle.laws_pipe.proofs.PlainLines.{flat_both, flat_more, inside_ne, is_flat, is_inside, not_end}
 
 -- 1. Numbers
@@ -12,13 +14,15 @@ use Rattle.laws_pipe.proofs.PlainLines.{flat_both, flat_more, inside_ne, is_flat
 glyph_inside : (upper : Bool) (d : ℕ) → is_inside (digit_glyph upper d) ≡ true
 glyph_inside upper d =
     cond_both (nat_lt d 10) (48 + d) (cond upper (55 + d) (87 + d)) (λ c. is_inside c ≡ true) (λ e. inside_ne (48 + d) (λ n. omega (arith, n)))
-    (λ e. cond_both upper (55 + d) (87 + d) (λ c. is_inside c ≡ true) (λ f. inside_ne (55 + d) (λ n. omega (arith, n))) (λ f. inside_ne (87 + d) (λ n. omega (arith, n))))
+    (λ e. cond_both upper (55 + d) (87 + d) (λ c. is_inside c ≡ true) (λ f. inside_ne (55 + d) (λ n. omega (arith, n)))
+    (λ f. inside_ne (87 + d) (λ n. omega (arith, n))))
 
 digits_flat : (k : ℕ) (base n : ℕ) (upper : Bool) (acc : List ℕ) → is_flat acc ≡ true → is_flat (digits_onto k base upper n acc) ≡ true
 digits_flat zero base n upper acc e = e
 digits_flat (suc k) base n upper acc e =
     let more = flat_more (digit_glyph upper (n % base)) acc (glyph_inside upper (n % base)) e in
-    cond_both (n / base == 0) (digit_glyph upper (n % base) ∷ acc) (digits_onto k base upper (n / base) (digit_glyph upper (n % base) ∷ acc)) (λ l. is_flat l ≡ true) (λ _. more)
+    cond_both (n / base == 0) (digit_glyph upper (n % base) ∷ acc) (digits_onto k base upper (n / base) (digit_glyph upper (n % base) ∷ acc))
+    (λ l. is_flat l ≡ true) (λ _. more)
     (λ _. digits_flat k base (n / base) upper (digit_glyph upper (n % base) ∷ acc) more)
 
 pub decimal_flat : (n : ℕ) → is_flat (decimal n) ≡ true
@@ -54,7 +58,8 @@ escape_flat : (c : ℕ) → is_inside c ≡ true → is_flat (escape_text c) ≡
 escape_flat c e =
     let a = flat_more (digit_glyph true (c % 16)) [] (glyph_inside true (c % 16)) refl in
     let b = flat_more (digit_glyph true (c / 16)) (digit_glyph true (c % 16) ∷ []) (glyph_inside true (c / 16)) a in
-    cond_both (escape_letter c == 0) (codes "\\u00" ++ digit_glyph true (c / 16) ∷ digit_glyph true (c % 16) ∷ []) (backslash ∷ escape_letter c ∷ []) (λ l. is_flat l ≡ true)
+    cond_both (escape_letter c == 0) (codes "\\u00" ++ digit_glyph true (c / 16) ∷ digit_glyph true (c % 16) ∷ []) (backslash ∷ escape_letter c ∷ [])
+    (λ l. is_flat l ≡ true)
     (λ _. flat_both (codes "\\u00") (digit_glyph true (c / 16) ∷ digit_glyph true (c % 16) ∷ []) refl b)
     (λ _. flat_more backslash (escape_letter c ∷ []) refl (flat_more (escape_letter c) [] (letter_inside c e) refl))
 
@@ -81,7 +86,8 @@ encoded_flat basic s e = flat_more quote (escaped false 0 s ++ quote ∷ []) ref
 encoded_flat literal s e = flat_more apostrophe (s ++ apostrophe ∷ []) refl (flat_both s (apostrophe ∷ []) e refl)
 encoded_flat multi_basic s e =
     flat_both (codes "\"\"\"") (opening_newline s ++ (escaped true 0 s ++ codes "\"\"\"")) refl
-    (flat_both (opening_newline s) (escaped true 0 s ++ codes "\"\"\"") (opening_flat s e) (flat_both (escaped true 0 s) (codes "\"\"\"") (escaped_flat true 0 s e) refl))
+    (flat_both (opening_newline s) (escaped true 0 s ++ codes "\"\"\"") (opening_flat s e)
+    (flat_both (escaped true 0 s) (codes "\"\"\"") (escaped_flat true 0 s e) refl))
 encoded_flat multi_literal s e =
     flat_both (codes "'''") (opening_newline s ++ (s ++ codes "'''")) refl
     (flat_both (opening_newline s) (s ++ codes "'''") (opening_flat s e) (flat_both s (codes "'''") e refl))

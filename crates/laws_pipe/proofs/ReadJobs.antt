@@ -1,5 +1,6 @@
 -- A job that is written, read as `mux` reads a job.
-use Rattle.std.proofs.Common.{◌≡◌, ◌≤◌, ℕ, ◌+◌, Bool, true, false, if◌then◌else◌, List, ◌++◌, length, take, drop, take_at, drop_at, Option, Some, None, is_some, Result, Ok, Err, IsUtf8, option_map, refl, sym, ap, ap₂, ◌∙◌, subst, arith, append_assoc, length-append}
+use Rattle.std.proofs.Common.{◌≡◌, ◌≤◌, ℕ, ◌+◌, Bool, true, false, if◌then◌else◌, List, ◌++◌, length, take, drop, take_at, drop_at, Option, Some, None, is_some}
+use Rattle.std.proofs.Common.{Result, Ok, Err, IsUtf8, option_map, refl, sym, ap, ap₂, ◌∙◌, subst, arith, append_assoc, length-append}
 use Rattle.std.specs.List.{list_any}
 use Rattle.std.specs.Option.{option_or}
 use Rattle.std.proofs.lemmas.List.Elements.{All-weaker}
@@ -33,7 +34,8 @@ use Rattle.slot_plan.proofs.NamedSlots.{named_law}
 use Rattle.slot_plan.proofs.TextPlans.{plan-complete}
 use Rattle.stream_jobs.specs.Rates.{IsText}
 use Rattle.es_feed.specs.Records.{records_of, written}
-use Rattle.checked_jobs.specs.Jobs.{Fails, described, fault_of, job, job_of, of_parts, parts_of, plan_offset, planned, unless_failed, with_description, with_plan}
+use Rattle.checked_jobs.specs.Jobs.{Fails, described, fault_of, job, job_of, of_parts, parts_of, plan_offset, planned, unless_failed, with_description}
+use Rattle.checked_jobs.specs.Jobs.{with_plan}
 use Rattle.tsmux_cli.specs.MuxJobs.{mux_job_of, served, with_records, with_units}
 use Rattle.tsmux_cli.specs.UnitList.{units_in}
 use Rattle.laws_pipe.proofs.PlainLines.{Passes}
@@ -41,7 +43,8 @@ use Rattle.laws_pipe.proofs.PlainLines.{Passes}
 -- 1. A description that is read is in its ranges
 
 unfaulty : (d : Described) (o : Option DescFault) (x : Described) →
-    ◌≡◌ {A = Result Described DescError} (Ok x) (elim o as (λ _. Result Described DescError) [ None ↦ Ok d | Some f ↦ Err (refused_by.Refused f) ]) → (o ≡ None) × (x ≡ d)
+    ◌≡◌ {A = Result Described DescError} (Ok x) (elim o as (λ _. Result Described DescError) [ None ↦ Ok d | Some f ↦ Err (refused_by.Refused f) ]) →
+    (o ≡ None) × (x ≡ d)
 unfaulty d None x e = let same : x ≡ d = cc in (refl, same)
 unfaulty d (Some f) x e = absurd cc
 
@@ -75,9 +78,11 @@ few_tables : (d : Described) → IsInRange d → table_count d ≤ 37
 few_tables d ranges =
     let two = both_lists (only_if (is_some d.network) Nit) (only_if d.has_sdt Sdt) 1 1 (only_one (is_some d.network) Nit) (only_one d.has_sdt Sdt) in
     let three =
-    both_lists (only_if (is_some d.network) Nit ++ only_if d.has_sdt Sdt) (only_if (list_any has_event d.programs) Eit) 2 1 two (only_one (list_any has_event d.programs) Eit) in
+    both_lists (only_if (is_some d.network) Nit ++ only_if d.has_sdt Sdt) (only_if (list_any has_event d.programs) Eit) 2 1 two
+    (only_one (list_any has_event d.programs) Eit) in
     let four : length (service_tables d) ≤ 4 =
-    both_lists (only_if (is_some d.network) Nit ++ only_if d.has_sdt Sdt ++ only_if (list_any has_event d.programs) Eit) (only_if d.has_tdt Tdt) 3 1 three (only_one d.has_tdt Tdt) in
+    both_lists (only_if (is_some d.network) Nit ++ only_if d.has_sdt Sdt ++ only_if (list_any has_event d.programs) Eit) (only_if d.has_tdt Tdt) 3 1 three
+    (only_one d.has_tdt Tdt) in
     omega (arith, table_count-is d, ranges.most_programs, ranges.most_tables, four)
 
 small_slot : (d : Described) (slot : Slot) → IsInRange d → IsNamed d slot → IsByteSlot slot
@@ -112,8 +117,10 @@ both_parts front back = Some (front, back)
 cut : (text rest : List ℕ) (p : Planned) → Passes text → parts_of ((text ++ plan_text p) ++ rest) ≡ Some (text, plan_text p ++ rest)
 cut text rest p passes =
     let whole = append_assoc text (plan_text p) rest in
-    let front : take (length text) ((text ++ plan_text p) ++ rest) ≡ text = ap (take (length text)) whole ∙ take_at text (plan_text p ++ rest) (length text) refl in
-    let back : drop (length text) ((text ++ plan_text p) ++ rest) ≡ plan_text p ++ rest = ap (drop (length text)) whole ∙ drop_at text (plan_text p ++ rest) (length text) refl in
+    let front : take (length text) ((text ++ plan_text p) ++ rest) ≡ text =
+    ap (take (length text)) whole ∙ take_at text (plan_text p ++ rest) (length text) refl in
+    let back : drop (length text) ((text ++ plan_text p) ++ rest) ≡ plan_text p ++ rest =
+    ap (drop (length text)) whole ∙ drop_at text (plan_text p ++ rest) (length text) refl in
     ap (option_map (cut_at ((text ++ plan_text p) ++ rest))) (place text rest p passes) ∙ ap₂ both_parts front back
 
 described_again : (d : Described) (text : List ℕ) → IsUtf8 text → IsText d text → described text ≡ Ok d
@@ -131,7 +138,8 @@ no_fault d p serving = serving
 
 -- 4. The whole
 
-pub plans_again : (d : Described) (p : Planned) (text rest : List ℕ) → Passes text → IsUtf8 text → IsText d text → IsServing d p → plan_error p.slots p.certificate ≡ None →
+pub plans_again : (d : Described) (p : Planned) (text rest : List ℕ) → Passes text → IsUtf8 text → IsText d text → IsServing d p →
+    plan_error p.slots p.certificate ≡ None →
     job_of false ((text ++ plan_text p) ++ rest) ≡ Ok (job d p None rest)
 unfolding job_of
 plans_again d p text rest passes utf8 is serving within =

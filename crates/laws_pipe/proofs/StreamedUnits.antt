@@ -1,5 +1,6 @@
 -- What both ways of `tsjob units` write of a stream.
-use Rattle.std.proofs.Common.{◌≡◌, ◌∙◌, ◌<◌, ◌≤◌, ℕ, zero, suc, ◌+◌, ◌/◌, ◌++◌, Bool, true, false, if◌then◌else◌, Option, Some, None, List, [], ◌∷◌, All, length, map, slice_get, get_or, refl, sym, ap, subst, ◌⊎◌, inl, inr, arith}
+use Rattle.std.proofs.Common.{◌≡◌, ◌∙◌, ◌<◌, ◌≤◌, ℕ, zero, suc, ◌+◌, ◌/◌, ◌++◌, Bool, true, false, if◌then◌else◌, Option, Some, None, List, [], ◌∷◌, All}
+use Rattle.std.proofs.Common.{length, map, slice_get, get_or, refl, sym, ap, subst, ◌⊎◌, inl, inr, arith}
 use Rattle.std.specs.Io.KnownBytes.{Consumes, IsAtEnd}
 use Rattle.std.specs.Prelude.{option_map}
 use Rattle.std.proofs.lemmas.List.{append-nil, length-map}
@@ -12,6 +13,8 @@ use Rattle.description.proofs.Pids.{pid_positions, pids_apart}
 use Rattle.description.specs.Tables.{table_count}
 use Rattle.demux.specs.Views.{FindingView}
 use Rattle.packet_sync.specs.Slips.{carried}
+use Rattle.data_times.specs.DataTimes.{is_unstamped, seen_in}
+use Rattle.data_times.specs.References.{references_in}
 use Rattle.es_units.specs.ApartUnits.{apart_wire_units, has_same}
 use Rattle.es_units.specs.CarriedUnits.{CarriedUnit, carried_units, wire_units}
 use Rattle.es_units.specs.Stamps.{distance, dts_at, moved, unit_at}
@@ -40,10 +43,10 @@ use Rattle.job_run.specs.declared.job_arguments.Subcommand.{Subcommand}
 use Rattle.job_run.specs.declared.job_arguments.Subcommand.TheVariants.{Units}
 use Rattle.job_run.specs.JobArguments.{JobArgumentsView}
 use Rattle.job_run.specs.Outcomes.{Gives, GivesUnits}
-use Rattle.job_run.specs.Streams.{findings_for, findings_of}
+use Rattle.job_run.specs.Streams.{asked_findings, findings_for, findings_of}
 use Rattle.tsjob_cli.specs.StreamedUnits.{GoesBy, earliest, feed_of, maps_of, marking_by, pids_of, streams_from}
 use Rattle.laws_pipe.specs.StreamedUnits.{AreAlike, AreLaterByOne, AreMarkedAlike, TheSameUnits}
-use Rattle.laws_pipe.proofs.MarkedUnits.{alone_alike, carried_alike, wire_alike}
+use Rattle.laws_pipe.proofs.MarkedUnits.{alone_timed, carried_timed, wire_timed, alone_alike, carried_alike, wire_alike}
 use Rattle.laws_pipe.proofs.PipedRuns.{GivenOf, given_by_run, taken}
 use Rattle.laws_pipe.proofs.RisingUnits.{none_same}
 
@@ -68,7 +71,8 @@ described_at n zero (s ∷ ss) t at =
     record { stream = s; at = refl; is = sym is ∙ ap (λ (m : ℕ). fed_stream m s.pid) same }
 described_at n (suc k) (s ∷ ss) t at = shifted n k ss s t (described_at (n + 1) k ss t at)
 
-fed_at : (n k : ℕ) (ss : List DescribedStream) (s : DescribedStream) → slice_get ss k ≡ Some s → slice_get (streams_from n ss) k ≡ Some (fed_stream (n + k) s.pid)
+fed_at : (n k : ℕ) (ss : List DescribedStream) (s : DescribedStream) → slice_get ss k ≡ Some s →
+    slice_get (streams_from n ss) k ≡ Some (fed_stream (n + k) s.pid)
 unfolding streams_from
 fed_at n k [] s at = absurd cc
 fed_at n zero (x ∷ ss) s at =
@@ -84,7 +88,8 @@ unfolding streams_from
 count_from n [] = refl
 count_from n (s ∷ ss) = let rest = count_from (n + 1) ss in omega (arith, rest)
 
-streams_apart : (d : Described) (j k : ℕ) (s t : DescribedStream) → IsInRange d → slice_get d.streams j ≡ Some s → slice_get d.streams k ≡ Some t → s.pid ≡ t.pid → j ≡ k
+streams_apart : (d : Described) (j k : ℕ) (s t : DescribedStream) → IsInRange d → slice_get d.streams j ≡ Some s → slice_get d.streams k ≡ Some t →
+    s.pid ≡ t.pid → j ≡ k
 streams_apart d j k s t ranges one two same =
     let places = pid_positions d in
     let there = pids_apart d (table_count d + length d.programs + j) (table_count d + length d.programs + k) t.pid ranges
@@ -137,13 +142,15 @@ at_end : (E : Type 0) (fed : List Fed) → have_fault fed ≡ false → E ⊎ (h
 at_end E fed none (inl ends) = ends
 at_end E fed none (inr refused) = absurd (refusal_told fed none refused)
 
-ended : (w : JobOptionsView) (d : Described) (bytes output : List ℕ) (stream records faults : Device) → stream.before.bytes ≡ Some bytes → records.before.bytes ≡ Some [] → records.after.bytes ≡ Some output →
+ended : (w : JobOptionsView) (d : Described) (bytes output : List ℕ) (stream records faults : Device) → stream.before.bytes ≡ Some bytes →
+    records.before.bytes ≡ Some [] → records.after.bytes ≡ Some output →
     EndsStream (feed_of w d) (pids_of d) stream records faults 0 → FedBy w d bytes output
 ended w d bytes output stream records faults known empty output_is e =
     let p = e.passes in
     let quiet : e.faulty ≡ false = not_faulty e.faulty 0 refl e.status_is in
     let none : have_fault p.fed ≡ false = sym p.faulty_is ∙ quiet in
-    let came : p.came ≡ bytes = all_came stream.before.bytes stream.after.bytes bytes p.came known p.passes.read (at_end (IsAtEnd stream.after.bytes) p.fed none p.ends) in
+    let came : p.came ≡ bytes =
+    all_came stream.before.bytes stream.after.bytes bytes p.came known p.passes.read (at_end (IsAtEnd stream.after.bytes) p.fed none p.ends) in
     let all : p.fed ≡ fed_of (feed_of w d) p.came = clear_is_fed (feed_of w d) p.came p.fed p.fed_is none in
     record {
       silent = ap (λ (b : List ℕ). have_fault (fed_of (feed_of w d) b)) (sym came) ∙ ap have_fault (sym all) ∙ none;
@@ -151,7 +158,8 @@ ended w d bytes output stream records faults known empty output_is e =
           ∙ ap fed_records all ∙ ap (λ (b : List ℕ). fed_records (fed_of (feed_of w d) b)) came;
     }
 
-gone : (w : JobOptionsView) (d : Described) (bytes output : List ℕ) (stream records faults : Device) → stream.before.bytes ≡ Some bytes → records.before.bytes ≡ Some [] → records.after.bytes ≡ Some output →
+gone : (w : JobOptionsView) (d : Described) (bytes output : List ℕ) (stream records faults : Device) → stream.before.bytes ≡ Some bytes →
+    records.before.bytes ≡ Some [] → records.after.bytes ≡ Some output →
     GoesBy w d stream records faults 0 → FedBy w d bytes output
 gone w d bytes output stream records faults known empty output_is (inl (inl e)) = ended w d bytes output stream records faults known empty output_is e
 gone w d bytes output stream records faults known empty output_is (inl (inr stops)) = absurd (not_three 0 refl stops.status_is)
@@ -171,7 +179,8 @@ some_at [] k below = absurd (let no : ⊥ = omega (arith, below) in no)
 some_at (x ∷ xs) zero below = (x, refl)
 some_at (x ∷ xs) (suc k) below = let less : k < length xs = omega (arith, below) in some_at xs k less
 
-both_at : (a : JobArgumentsView) (w : JobOptionsView) (d : Described) (bytes : List ℕ) (input : JobInputView) (k : ℕ) → AreAlike a w d bytes input → k < length d.streams → Both d input k
+both_at : (a : JobArgumentsView) (w : JobOptionsView) (d : Described) (bytes : List ℕ) (input : JobInputView) (k : ℕ) → AreAlike a w d bytes input →
+    k < length d.streams → Both d input k
 both_at a w d bytes input k alike below =
     let s = some_at d.streams k below in
     let count : length d.streams ≡ length input.streams =
@@ -199,31 +208,45 @@ whole_marking a bytes = marking_of a.options (findings_of (carried bytes))
 abbrev streamed_findings : JobOptionsView → Described → List ℕ → List FindingView
 streamed_findings w d bytes = all_marked (marking_by w d) (findings_of (carried bytes))
 
-marks_of : (a : JobArgumentsView) (w : JobOptionsView) (d : Described) (bytes : List ℕ) (input : JobInputView) (k : ℕ) (t : TimedStreamView) → AreAlike a w d bytes input →
+marks_of : (a : JobArgumentsView) (w : JobOptionsView) (d : Described) (bytes : List ℕ) (input : JobInputView) (k : ℕ) (t : TimedStreamView) →
+    AreAlike a w d bytes input →
     slice_get input.streams k ≡ Some t → AreMarkedAlike (whole_marking a bytes) (marking_by w d) t.pid
 marks_of a w d bytes input k t alike at =
     at_place (λ t. AreMarkedAlike (whole_marking a bytes) (marking_by w d) t.pid) input.streams k t alike.marks at
 
-same_wire : (a : JobArgumentsView) (w : JobOptionsView) (d : Described) (bytes : List ℕ) (input : JobInputView) (k : ℕ) (t : TimedStreamView) → AreAlike a w d bytes input →
+stamps_of : (a : JobArgumentsView) (w : JobOptionsView) (d : Described) (bytes : List ℕ) (input : JobInputView) (k : ℕ) (t : TimedStreamView) →
+    AreAlike a w d bytes input →
+    slice_get input.streams k ≡ Some t → is_unstamped (seen_in (asked_findings a.options bytes)) t.pid ≡ false
+stamps_of a w d bytes input k t alike at =
+    at_place (λ t. is_unstamped (seen_in (asked_findings a.options bytes)) t.pid ≡ false) input.streams k t alike.stamped at
+
+same_wire : (a : JobArgumentsView) (w : JobOptionsView) (d : Described) (bytes : List ℕ) (input : JobInputView) (k : ℕ) (t : TimedStreamView) →
+    AreAlike a w d bytes input →
     slice_get input.streams k ≡ Some t → wire_units t.pid (findings_for a.options bytes) ≡ wire_units t.pid (streamed_findings w d bytes)
 same_wire a w d bytes input k t alike at =
-    wire_alike (whole_marking a bytes) (marking_by w d) t.pid (findings_of (carried bytes)) (marks_of a w d bytes input k t alike at)
+    wire_timed (references_in (carried bytes)) t.pid (asked_findings a.options bytes) (stamps_of a w d bytes input k t alike at)
+    ∙ wire_alike (whole_marking a bytes) (marking_by w d) t.pid (findings_of (carried bytes)) (marks_of a w d bytes input k t alike at)
 
-same_alone : (a : JobArgumentsView) (w : JobOptionsView) (d : Described) (bytes : List ℕ) (input : JobInputView) (k : ℕ) (t : TimedStreamView) → AreAlike a w d bytes input →
+same_alone : (a : JobArgumentsView) (w : JobOptionsView) (d : Described) (bytes : List ℕ) (input : JobInputView) (k : ℕ) (t : TimedStreamView) →
+    AreAlike a w d bytes input →
     slice_get input.streams k ≡ Some t → one_by_one t.pid (streamed_findings w d bytes) ≡ true
 same_alone a w d bytes input k t alike at =
     sym (alone_alike (whole_marking a bytes) (marking_by w d) t.pid (findings_of (carried bytes)) (marks_of a w d bytes input k t alike at))
+    ∙ sym (alone_timed (references_in (carried bytes)) t.pid (asked_findings a.options bytes) (stamps_of a w d bytes input k t alike at))
     ∙ at_place (λ t. one_by_one t.pid (findings_for a.options bytes) ≡ true) input.streams k t alike.alone at
 
-same_carried : (a : JobArgumentsView) (w : JobOptionsView) (d : Described) (bytes : List ℕ) (input : JobInputView) (k : ℕ) (t : TimedStreamView) → AreAlike a w d bytes input →
+same_carried : (a : JobArgumentsView) (w : JobOptionsView) (d : Described) (bytes : List ℕ) (input : JobInputView) (k : ℕ) (t : TimedStreamView) →
+    AreAlike a w d bytes input →
     slice_get input.streams k ≡ Some t → carried_units t.pid (findings_for a.options bytes) ≡ carried_units t.pid (streamed_findings w d bytes)
 same_carried a w d bytes input k t alike at =
-    carried_alike (whole_marking a bytes) (marking_by w d) t.pid (findings_of (carried bytes)) (marks_of a w d bytes input k t alike at)
+    carried_timed (references_in (carried bytes)) t.pid (asked_findings a.options bytes) (stamps_of a w d bytes input k t alike at)
+    ∙ carried_alike (whole_marking a bytes) (marking_by w d) t.pid (findings_of (carried bytes)) (marks_of a w d bytes input k t alike at)
 
 -- 5. All are moved by the constant of their clock
 
 -- the units of a stream that comes are due one after another, so no two in a row are due at one moment
-stream_apart : (w : JobOptionsView) (d : Described) (bytes : List ℕ) (k : ℕ) (s : FedStreamView) → IsInRange d → have_fault (fed_of (feed_of w d) bytes) ≡ false →
+stream_apart : (w : JobOptionsView) (d : Described) (bytes : List ℕ) (k : ℕ) (s : FedStreamView) → IsInRange d →
+    have_fault (fed_of (feed_of w d) bytes) ≡ false →
     slice_get (streams_from 0 d.streams) k ≡ Some s → one_by_one s.units.pid (streamed_findings w d bytes) ≡ true →
     has_same (carried_units s.units.pid (streamed_findings w d bytes)) ≡ false
 stream_apart w d bytes k s ranges silent at alone =
@@ -238,7 +261,8 @@ Stay : JobArgumentsView → List ℕ → JobInputView → Type 0
 Stay a bytes input = (k : ℕ) (t : TimedStreamView) → slice_get input.streams k ≡ Some t →
     apart_wire_units t.pid (findings_for a.options bytes) ≡ wire_units t.pid (findings_for a.options bytes)
 
-stay : (a : JobArgumentsView) (w : JobOptionsView) (d : Described) (bytes : List ℕ) (input : JobInputView) → IsInRange d → have_fault (fed_of (feed_of w d) bytes) ≡ false →
+stay : (a : JobArgumentsView) (w : JobOptionsView) (d : Described) (bytes : List ℕ) (input : JobInputView) → IsInRange d →
+    have_fault (fed_of (feed_of w d) bytes) ≡ false →
     AreAlike a w d bytes input → Stay a bytes input
 unfolding Stay
 stay a w d bytes input ranges silent alike k t is =
@@ -252,7 +276,8 @@ stay a w d bytes input ranges silent alike k t is =
     let number : 0 + k ≡ k = omega arith in
     let place : slice_get (streams_from 0 d.streams) k ≡ Some (fed_stream k b.described.pid) =
     fed_at 0 k d.streams b.described b.described_is ∙ ap (λ (n : ℕ). Some (fed_stream n b.described.pid)) number in
-    let alone : one_by_one b.described.pid streamed ≡ true = subst (λ (p : ℕ). one_by_one p streamed ≡ true) (sym pid) (same_alone a w d bytes input k t alike is) in
+    let alone : one_by_one b.described.pid streamed ≡ true =
+    subst (λ (p : ℕ). one_by_one p streamed ≡ true) (sym pid) (same_alone a w d bytes input k t alike is) in
     let apart : has_same (carried_units b.described.pid streamed) ≡ false = stream_apart w d bytes k (fed_stream k b.described.pid) ranges silent place alone in
     let none : has_same (carried_units t.pid (findings_for a.options bytes)) ≡ false =
     ap has_same (same_carried a w d bytes input k t alike is) ∙ ap (λ (p : ℕ). has_same (carried_units p streamed)) (sym pid) ∙ apart in
@@ -263,7 +288,8 @@ with_own : (findings : List FindingView) (base : ℕ) (t : TimedStreamView) → 
 unfolding source_of
 with_own findings base t stays moved = subst (λ (wire : List AccessUnit). AreMoved wire base t.units) stays moved
 
-by_one : (a : JobArgumentsView) (w : JobOptionsView) (d : Described) (bytes : List ℕ) (input : JobInputView) (k : ℕ) (t : TimedStreamView) (constants : HasConstants a.options (findings_for a.options bytes) input)
+by_one : (a : JobArgumentsView) (w : JobOptionsView) (d : Described) (bytes : List ℕ) (input : JobInputView) (k : ℕ) (t : TimedStreamView)
+    (constants : HasConstants a.options (findings_for a.options bytes) input)
     (alike : AreAlike a w d bytes input) → Stay a bytes input → slice_get input.streams k ≡ Some t →
     AreMoved (wire_units t.pid (findings_for a.options bytes)) (constants.constant alike.clock) t.units
 unfolding Stay
@@ -283,7 +309,8 @@ record JobStream (input : JobInputView) (k pid : ℕ) : Type 0 where
   at : slice_get input.streams k ≡ Some stream
   pid_is : stream.pid ≡ pid
 
-job_stream : (a : JobArgumentsView) (w : JobOptionsView) (d : Described) (bytes : List ℕ) (input : JobInputView) (k : ℕ) (s : FedStreamView) → AreAlike a w d bytes input →
+job_stream : (a : JobArgumentsView) (w : JobOptionsView) (d : Described) (bytes : List ℕ) (input : JobInputView) (k : ℕ) (s : FedStreamView) →
+    AreAlike a w d bytes input →
     slice_get (streams_from 0 d.streams) k ≡ Some s → JobStream input k s.units.pid
 job_stream a w d bytes input k s alike at =
     let x = described_at 0 k d.streams s at in
@@ -295,16 +322,20 @@ job_stream a w d bytes input k s alike at =
       pid_is = sym b.pid ∙ ap (λ (y : DescribedStream). y.pid) same ∙ sym (ap (λ (y : FedStreamView). y.units.pid) x.is);
     }
 
-first_moved : (base : ℕ) (wire us : List AccessUnit) (w : AccessUnit) (ws : List AccessUnit) → us ≡ moved base None wire → wire ≡ w ∷ ws → slice_get us 0 ≡ Some (unit_at base None w)
+first_moved : (base : ℕ) (wire us : List AccessUnit) (w : AccessUnit) (ws : List AccessUnit) → us ≡ moved base None wire → wire ≡ w ∷ ws →
+    slice_get us 0 ≡ Some (unit_at base None w)
 unfolding moved
 first_moved base wire us w ws are is = ap (λ (xs : List AccessUnit). slice_get xs 0) (are ∙ ap (λ (xs : List AccessUnit). moved base None xs) is)
 
-near_on_wire : (base apart : ℕ) (u v : AccessUnit) → (unit_at base None u).dts ≤ (unit_at base None v).dts + apart → distance base u.dts ≤ distance base v.dts + apart
+near_on_wire : (base apart : ℕ) (u v : AccessUnit) → (unit_at base None u).dts ≤ (unit_at base None v).dts + apart → distance base u.dts ≤ distance base v.dts
+    + apart
 unfolding unit_at dts_at
 near_on_wire base apart u v near = near
 
-whole_streams : (a : JobArgumentsView) (w : JobOptionsView) (d : Described) (bytes : List ℕ) (input : JobInputView) (constants : HasConstants a.options (findings_for a.options bytes) input)
-    (alike : AreAlike a w d bytes input) → Stay a bytes input → AreWhole (constants.constant alike.clock) earliest (streams_from 0 d.streams) (streamed_findings w d bytes)
+whole_streams : (a : JobArgumentsView) (w : JobOptionsView) (d : Described) (bytes : List ℕ) (input : JobInputView)
+    (constants : HasConstants a.options (findings_for a.options bytes) input)
+    (alike : AreAlike a w d bytes input) → Stay a bytes input →
+    AreWhole (constants.constant alike.clock) earliest (streams_from 0 d.streams) (streamed_findings w d bytes)
 whole_streams a w d bytes input constants alike stays =
     let base = constants.constant alike.clock in
     let whole = findings_for a.options bytes in
@@ -325,7 +356,8 @@ whole_streams a w d bytes input constants alike stays =
 
 -- 7. Both
 
-alike_units : (a : JobArgumentsView) (w : JobOptionsView) (d : Described) (bytes : List ℕ) (input : JobInputView) (units : List (ℕ × AccessUnit)) → HasConstants a.options (findings_for a.options bytes) input →
+alike_units : (a : JobArgumentsView) (w : JobOptionsView) (d : Described) (bytes : List ℕ) (input : JobInputView) (units : List (ℕ × AccessUnit)) →
+    HasConstants a.options (findings_for a.options bytes) input →
     IsInRange d → have_fault (fed_of (feed_of w d) bytes) ≡ false → AreMerged (map (λ t. t.units) input.streams) units → AreAlike a w d bytes input →
     AreLaterByOne (length d.streams) (fed_of (feed_of w d) bytes) units
 alike_units a w d bytes input units constants ranges silent merged alike =

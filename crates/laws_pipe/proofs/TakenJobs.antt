@@ -35,7 +35,8 @@ one_plan : (o : MuxOptions) (j : MuxJobView) → j.second ≡ None → range_cau
 one_plan o j e = ap (λ second. range_cause_of (first_of j) second (periods_of o) (slots_of o j)) e
 
 -- it is asked for all packets, and no unit is refused over its plan
-pub no_cause : (o : MuxOptions) (j : MuxJobView) → j.second ≡ None → o.slots ≡ None → first_refused (schedule_for j.description j.plan) (capacity_for j.units) [] j.units ≡ None →
+pub no_cause : (o : MuxOptions) (j : MuxJobView) → j.second ≡ None → o.slots ≡ None →
+    first_refused (schedule_for j.description j.plan) (capacity_for j.units) [] j.units ≡ None →
     cause_of o j ≡ None
 no_cause o j second all accepted =
     let few = one_plan o j second ∙ few_slots (slots_of o j) ((greatest_dts j.units * j.description.rate + 135359999) / 135360000) (all_slots o j all) in
@@ -43,6 +44,7 @@ no_cause o j second all accepted =
     none_early (range_cause o j) (first_refused (schedule_of o j) (capacity_for j.units) [] j.units) few
     ∙ ap (λ x. first_refused x (capacity_for j.units) [] j.units) same ∙ accepted
 
-pub none_refused : AcceptedLaw → (made : Bool) (findings : List FindingView) (o : MuxOptions) (j : MuxJobView) → j.second ≡ None → o.slots ≡ None → IsInRange j.description →
+pub none_refused : AcceptedLaw → (made : Bool) (findings : List FindingView) (o : MuxOptions) (j : MuxJobView) → j.second ≡ None → o.slots ≡ None →
+    IsInRange j.description →
     AreUnits made findings j.description j.units → cause_of o j ≡ None
 none_refused law made findings o j second all ranges are = no_cause o j second all (law made (schedule_for j.description j.plan) findings j.units ranges are)

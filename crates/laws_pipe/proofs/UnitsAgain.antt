@@ -1,5 +1,6 @@
 -- What a demultiplexer finds in the packets of a job that was written are the units that it found in the stream.
-use Rattle.std.proofs.Common.{◌≡◌, ◌≤◌, ℕ, ◌+◌, ◌-◌, ◌*◌, ◌/◌, ◌^◌, ◌==◌, min, max, Bool, false, List, [], ◌∷◌, filter, fold, map, slice_get, Some, None, All, ap, subst, ◌∙◌, arith, mul-le-mul, mul-le-mul_right}
+use Rattle.std.proofs.Common.{◌≡◌, ◌≤◌, ℕ, ◌+◌, ◌-◌, ◌*◌, ◌/◌, ◌^◌, ◌==◌, min, max, Bool, false, List, [], ◌∷◌, filter, fold, map, slice_get, Some, None, All}
+use Rattle.std.proofs.Common.{ap, subst, ◌∙◌, arith, mul-le-mul, mul-le-mul_right}
 use Rattle.std.proofs.lemmas.List.Elements.{All-nil, All-cons, All-filter, All-map, All-weaker}
 use Rattle.pes_packet.specs.AccessUnits.{AccessUnit}
 use Rattle.pes_packet.specs.Units.{units_of}
@@ -41,7 +42,8 @@ no_less (entry ∷ units) from = omega (arith, no_less units (max from entry.1.d
 all_below : (units : List (ℕ × AccessUnit)) (from : ℕ) → All (λ e. e.1.dts ≤ fold later_dts from units) units
 all_below [] from = All-nil (λ e. e.1.dts ≤ from)
 all_below (entry ∷ units) from =
-    All-cons (λ e. e.1.dts ≤ fold later_dts (max from entry.1.dts) units) entry units (omega (arith, no_less units (max from entry.1.dts))) (all_below units (max from entry.1.dts))
+    All-cons (λ e. e.1.dts ≤ fold later_dts (max from entry.1.dts) units) entry units (omega (arith, no_less units (max from entry.1.dts)))
+    (all_below units (max from entry.1.dts))
 
 stream_below : (k : ℕ) (units : List (ℕ × AccessUnit)) → All (λ u. u.dts ≤ greatest_dts units) (units_of k units)
 stream_below k units =
@@ -51,7 +53,8 @@ stream_below k units =
 whole_slots : (x : ℕ) → x ≤ (x + 135359999) / 135360000 * 135360000
 whole_slots x = omega arith
 
-due_within : (dts greatest rate n : ℕ) → n ≡ min ((greatest * rate + 135359999) / 135360000) (2 ^ 40) → dts ≤ greatest → greatest ≤ 2 ^ 40 → rate ≤ 100000000 → dts * rate ≤ n * 135360000
+due_within : (dts greatest rate n : ℕ) → n ≡ min ((greatest * rate + 135359999) / 135360000) (2 ^ 40) → dts ≤ greatest → greatest ≤ 2 ^ 40 → rate ≤ 100000000 →
+    dts * rate ≤ n * 135360000
 due_within dts greatest rate n e below short slow =
     let last : dts * rate ≤ greatest * rate = mul-le-mul_right rate below in
     let under : rate ≤ 135360000 = omega (arith, slow) in
@@ -69,16 +72,21 @@ all_due o j k all ranges short =
 -- 2. The units
 
 -- those of a stream are moved by the constant of the clock of its program
-those_moved : (findings : List FindingView) (programs : List JobProgramView) (constant : ProgramClock → ℕ) (s : DescribedStream) (us : List AccessUnit) (t : TimedStreamView) → IsEntry s t →
-    us ≡ t.units → IsMovedBy false findings (constant (clock_of programs t)) t → AreMoved (apart_wire_units s.pid findings) (constant (clock_in programs s.program)) us
+those_moved : (findings : List FindingView) (programs : List JobProgramView) (constant : ProgramClock → ℕ) (s : DescribedStream) (us : List AccessUnit)
+    (t : TimedStreamView) → IsEntry s t →
+    us ≡ t.units → IsMovedBy false findings (constant (clock_of programs t)) t →
+    AreMoved (apart_wire_units s.pid findings) (constant (clock_in programs s.program)) us
 unfolding source_of
 those_moved findings programs constant s us t entry same moved = rw (same, entry.pid, entry.program) moved
 
-pub moved_units : (options : JobOptionsView) (findings : List FindingView) (d : Described) (input : JobInputView) (units : List (ℕ × AccessUnit)) (constants : HasConstants options findings input) →
-    options.make_dts ≡ false → AllAgree d input → AreMerged (map (λ t. t.units) input.streams) units → (k : ℕ) (s : DescribedStream) → slice_get d.streams k ≡ Some s →
+pub moved_units : (options : JobOptionsView) (findings : List FindingView) (d : Described) (input : JobInputView) (units : List (ℕ × AccessUnit))
+    (constants : HasConstants options findings input) →
+    options.make_dts ≡ false → AllAgree d input → AreMerged (map (λ t. t.units) input.streams) units → (k : ℕ) (s : DescribedStream) →
+    slice_get d.streams k ≡ Some s →
     AreMoved (apart_wire_units s.pid findings) (constants.constant (clock_in input.programs s.program)) (units_of k units)
 moved_units options findings d input units constants own agree merged k s is =
-    let stands = stands_for d input units (λ t. IsMovedBy options.make_dts findings (constants.constant (clock_of input.programs t)) t) agree merged constants.streams k s is in
+    let stands = stands_for d input units (λ t. IsMovedBy options.make_dts findings (constants.constant (clock_of input.programs t)) t) agree merged
+    constants.streams k s is in
     let moved = subst (λ (made : Bool). IsMovedBy made findings (constants.constant (clock_of input.programs stands.stream)) stands.stream) own stands.holds in
     those_moved findings input.programs constants.constant s (units_of k units) stands.stream stands.agrees.entry stands.units_are moved
 
@@ -92,7 +100,8 @@ packets_are o j second bytes =
 pub slots_within : (o : MuxOptions) (j : MuxJobView) → o.slots ≡ None → slots_of o j ≤ 2 ^ 40
 slots_within o j all = omega (arith, all_slots o j all)
 
-pub units_again : FoundAgainLaw → (findings : List FindingView) (o : MuxOptions) (j : MuxJobView) (base : ℕ) → j.second ≡ None → o.slots ≡ None → o.hex ≡ false → IsInRange j.description →
+pub units_again : FoundAgainLaw → (findings : List FindingView) (o : MuxOptions) (j : MuxJobView) (base : ℕ) → j.second ≡ None → o.slots ≡ None →
+    o.hex ≡ false → IsInRange j.description →
     IsServing j.description j.plan → AreUnits false findings j.description j.units → greatest_dts j.units ≤ 2 ^ 40 →
     (k : ℕ) (s : DescribedStream) → slice_get j.description.streams k ≡ Some s → AreMoved (apart_wire_units s.pid findings) base (units_of k j.units) →
     AreLater (j.description.base0 + 2 ^ 33 - base) (apart_wire_units s.pid findings) (wire_units s.pid (findings_of (packets_of o j)))

@@ -1,5 +1,6 @@
 -- The records of a job's units, read one after another.
-use Rattle.std.proofs.Common.{◌≡◌, ◌≤◌, ◌<◌, ℕ, zero, suc, ◌+◌, Bool, true, false, cond, is_some, List, [], ◌∷◌, ◌++◌, length, length-append, slice_get, Some, None, Ok, All, refl, sym, ap, ◌∙◌, subst, arith, append_assoc}
+use Rattle.std.proofs.Common.{◌≡◌, ◌≤◌, ◌<◌, ℕ, zero, suc, ◌+◌, Bool, true, false, cond, is_some, List, [], ◌∷◌, ◌++◌, length, length-append, slice_get, Some}
+use Rattle.std.proofs.Common.{None, Ok, All, refl, sym, ap, ◌∙◌, subst, arith, append_assoc}
 use Rattle.std.proofs.lemmas.List.Elements.{All-nil, All-cons, All-head, All-tail, All-weaker}
 use Rattle.byteorder.specs.Endian.{big_bytes}
 use Rattle.pes_packet.specs.AccessUnits.{AccessUnit}
@@ -28,7 +29,8 @@ no_record : record_at [] ≡ Ok None
 unfolding record_at
 no_record = refl
 
-read_from : RecordsAreRead → (units : List (ℕ × AccessUnit)) (n index : ℕ) → length units < n → All Fits units → units_from n index (records_of units) ≡ Ok units
+read_from : RecordsAreRead → (units : List (ℕ × AccessUnit)) (n index : ℕ) → length units < n → All Fits units →
+    units_from n index (records_of units) ≡ Ok units
 unfolding units_from units_step with_first
 read_from law units zero index lt fits = absurd (omega (arith, lt))
 read_from law [] (suc n) index lt fits = ap (λ o. units_step index o (units_from n (index + 1) (after_record []))) no_record
@@ -46,7 +48,8 @@ record_some : (k : ℕ) (u : AccessUnit) → 1 ≤ length (record_bytes k u)
 unfolding record_head
 record_some k u =
     some_bytes k
-    ((big_bytes 4 (word_of u.marks (private_size u.marks + length u.bytes)) ++ (big_bytes 8 u.dts ++ (big_bytes 8 u.pts ++ private_bytes u.marks.private_data))) ++ u.bytes)
+    ((big_bytes 4 (word_of u.marks (private_size u.marks + length u.bytes)) ++ (big_bytes 8 u.dts ++ (big_bytes 8 u.pts ++ private_bytes u.marks.private_data)))
+    ++ u.bytes)
 
 -- a record has bytes
 no_fewer : (units : List (ℕ × AccessUnit)) → length units ≤ length (records_of units)
@@ -63,7 +66,8 @@ private_most true true access = omega arith
 private_most true false access = omega arith
 private_most false long access = omega arith
 
-unit_fits : (line : Scheduled) (k : ℕ) (s : DescribedStream) (u : AccessUnit) → IsStream s → IsUnit (owned_stream line k s).parameters u × Sixteen u → FitsRecord u
+unit_fits : (line : Scheduled) (k : ℕ) (s : DescribedStream) (u : AccessUnit) → IsStream s → IsUnit (owned_stream line k s).parameters u × Sixteen u →
+    FitsRecord u
 unit_fits line k s u range is = record {
   size = omega (arith, is.0.most, range.most_size, private_most (is_some u.marks.private_data) u.marks.long u.marks.random_access);
   dts = omega (arith, is.0.last);
@@ -80,16 +84,19 @@ second_half : (P : AccessUnit → Type 0) (us : List AccessUnit) (u : AccessUnit
 second_half P [] u more all = All-head P u more all
 second_half P (x ∷ us) u more all = second_half P us u more (All-tail P x (us ++ (u ∷ more)) all)
 
-after_them : (P : AccessUnit → Type 0) (count : ℕ) (fed units : List (ℕ × AccessUnit)) → OfEach P count (fed ++ units) → All (λ e. e.0 < count) units → All (λ e. P e.1) units
+after_them : (P : AccessUnit → Type 0) (count : ℕ) (fed units : List (ℕ × AccessUnit)) → OfEach P count (fed ++ units) → All (λ e. e.0 < count) units →
+    All (λ e. P e.1) units
 after_them P count fed [] each below = All-nil (λ e. P e.1)
 after_them P count fed (entry ∷ units) each below =
     let parts : units_of entry.0 (fed ++ (entry ∷ units)) ≡ units_of entry.0 fed ++ (entry.1 ∷ units_of entry.0 units) =
     units_append entry.0 fed (entry ∷ units) ∙ ap (λ (us : List AccessUnit). units_of entry.0 fed ++ us) (own_units entry.0 entry units refl) in
     let own = subst (All P) parts (each entry.0 (All-head (λ e. e.0 < count) entry units below)) in
     All-cons (λ e. P e.1) entry units (second_half P (units_of entry.0 fed) entry.1 (units_of entry.0 units) own)
-    (after_them P count (fed ++ (entry ∷ [])) units (subst (OfEach P count) (sym (append_assoc fed (entry ∷ []) units)) each) (All-tail (λ e. e.0 < count) entry units below))
+    (after_them P count (fed ++ (entry ∷ [])) units (subst (OfEach P count) (sym (append_assoc fed (entry ∷ []) units)) each)
+    (All-tail (λ e. e.0 < count) entry units below))
 
-pub of_all : (P : AccessUnit → Type 0) (count : ℕ) (units : List (ℕ × AccessUnit)) → ((k : ℕ) → k < count → All P (units_of k units)) → All (λ e. e.0 < count) units → All (λ e. P e.1) units
+pub of_all : (P : AccessUnit → Type 0) (count : ℕ) (units : List (ℕ × AccessUnit)) → ((k : ℕ) → k < count → All P (units_of k units)) →
+    All (λ e. e.0 < count) units → All (λ e. P e.1) units
 of_all P count units each below = after_them P count [] units each below
 
 both_of : (P Q : AccessUnit → Type 0) (us : List AccessUnit) → All P us → All Q us → All (λ u. P u × Q u) us

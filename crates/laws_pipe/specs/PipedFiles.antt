@@ -88,7 +88,8 @@ pub record FilesGoThrough (a : JobArgumentsView) (o : MuxOptions) (files : Files
   pub time : ℕ → ProgramClock → ℕ
   pub units : a.options.make_dts ≡ false → o.hex ≡ false → greatest_dts job.units ≤ 2 ^ 40 →
       (k : ℕ) (s : DescribedStream) (from : Origin) → slice_get job.description.streams k ≡ Some s → slice_get joined.origins k ≡ Some from →
-      AreLater (time from.input from.clock) (wire_units_in (all_findings a.options streams) from) (wire_units s.pid (findings_of (packets_of o (as_joined_job job))))
+      AreLater (time from.input from.clock) (wire_units_in (all_findings a.options streams) from)
+      (wire_units s.pid (findings_of (packets_of o (as_joined_job job))))
 
 abbrev pub TheFilePipe : Type 0
 TheFilePipe = (words : List Text) (a : JobArgumentsView) (o : MuxOptions) (files : Files) (output : List ℕ) (input job told : Device) (job_status : ℕ)

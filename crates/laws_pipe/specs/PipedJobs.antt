@@ -33,8 +33,10 @@ as_mux_job job = record { description = job.description; plan = job.plan; second
 
 -- so a job is read, whatever words ask for it, where it says of the transport stream as a whole what is found of a transport_stream_id
 abbrev pub WrittenIsRead : Type 0
-WrittenIsRead = (words : List Text) (a : JobArgumentsView) (id : ℕ) (findings : List FindingView) (m : JobInputView) (output : List ℕ) → arguments_in words ≡ Some a →
-    m.information ≡ information_of a.options id findings m.programs → (job : GivesJob a.options findings m output) → mux_job_of false output ≡ Ok (as_mux_job job)
+WrittenIsRead = (words : List Text) (a : JobArgumentsView) (id : ℕ) (findings : List FindingView) (m : JobInputView) (output : List ℕ) →
+    arguments_in words ≡ Some a →
+    m.information ≡ information_of a.options id findings m.programs → (job : GivesJob a.options findings m output) →
+    mux_job_of false output ≡ Ok (as_mux_job job)
 
 -- ---- both programs
 
@@ -77,8 +79,11 @@ pub record GoesThrough (a : JobArgumentsView) (o : MuxOptions) (bytes output : L
   pub time : ProgramClock → ℕ
   pub units : a.options.make_dts ≡ false → o.hex ≡ false → greatest_dts job.units ≤ 2 ^ 40 →
       (k : ℕ) (s : DescribedStream) → slice_get job.description.streams k ≡ Some s →
-      AreLater (time (clock_in input.programs s.program)) (apart_wire_units s.pid (findings_for a.options bytes)) (wire_units s.pid (findings_of (packets_of o (as_mux_job job))))
+      AreLater (time (clock_in input.programs s.program)) (apart_wire_units s.pid (findings_for a.options bytes))
+      (wire_units s.pid (findings_of (packets_of o (as_mux_job job))))
 
 abbrev pub ThePipe : Type 0
-ThePipe = (words : List Text) (a : JobArgumentsView) (o : MuxOptions) (bytes output : List ℕ) (stream job told : Device) (job_status : ℕ) (job_again packets faults : Device) (status : ℕ) →
-    WritesJob words a bytes output stream job told job_status → MuxesAll o output job_again packets faults status → GoesThrough a o bytes output packets faults status
+ThePipe = (words : List Text) (a : JobArgumentsView) (o : MuxOptions) (bytes output : List ℕ) (stream job told : Device) (job_status : ℕ)
+    (job_again packets faults : Device) (status : ℕ) →
+    WritesJob words a bytes output stream job told job_status → MuxesAll o output job_again packets faults status →
+    GoesThrough a o bytes output packets faults status

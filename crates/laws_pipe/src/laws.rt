@@ -4,18 +4,19 @@ ghost use Rattle.laws_pipe.specs.PipedJobs.{ThePipe, WrittenIsRead};
 ghost use Rattle.laws_pipe.specs.StreamedUnits.{AskAlike, TheSameUnits};
 
 /// States that a job that `tsjob` writes, whatever the stream and the options of its command line, `mux` reads as that
-/// description, that plan and these units: nothing is wrong with it, no record is refused as one, and no byte is left after
-/// the last.
+/// description, that plan and these units: nothing is wrong with it, no record is refused as one, and no byte is left
+/// after the last.
 pub fn written_is_read()
     ensures { WrittenIsRead }
 {}
 
-/// States that, if `tsjob` ran to its end and wrote a job, and `mux`, asked for all its packets over one plan, ran to its end
-/// over these bytes, `mux` refused nothing and reported nothing: its status is 0, and it wrote the packets of that job's
-/// units, which keep every promise. Where the DTS are the stream's own, what a demultiplexer finds in these packets on the PID
-/// of each stream of the job are all units that it finds there in the input, and no other: in order, their bytes the same,
-/// with the marks that are asked for, their stamps later by a constant, modulo 2^33, which is one for all programs of a clock
-/// of the input. If units of a data stream in a row have one DTS, all but the last are decoded a little earlier.
+/// States that, if `tsjob` ran to its end and wrote a job, and `mux`, asked for all its packets over one plan, ran to
+/// its end over these bytes, `mux` refused nothing and reported nothing: its status is 0, and it wrote the packets of
+/// that job's units, which keep every promise. Where the DTS are the stream's own, what a demultiplexer finds in these
+/// packets on the PID of each stream of the job are all units that it finds there in the input, and no other: in order,
+/// their bytes the same, with the marks that are asked for, their stamps later by a constant, modulo 2^33, which is one
+/// for all programs of a clock of the input. If units of a data stream in a row have one DTS, all but the last are
+/// decoded a little earlier. Teletext without stamps has in the input the moments at which it came.
 ///
 /// A device that fails, or memory that runs out, ends either program earlier, with status 3. The writer held nothing
 /// before, and its bytes are known; what a demultiplexer finds is said of jobs whose units are due within 2^40 units of
@@ -27,23 +28,24 @@ pub fn goes_through()
     laws_job::laws::found_again();
 }
 
-/// States that `mux` reads a job that `tsjob` writes of streams in files (one or several, whatever they are and whatever
-/// options precede their names) as that description, that plan and these units, as it reads a job of an input.
+/// States that `mux` reads a job that `tsjob` writes of streams in files (one or several, whatever they are and
+/// whatever options precede their names) as that description, that plan and these units, as it reads a job of an input.
 pub fn joined_is_read()
     ensures { JoinedIsRead }
 {}
 
-/// States that, if `tsjob -- FILE..` wrote a job of the streams in these files, and its status was not 3, and `mux`, asked for
-/// all its packets over one plan, ran to its end over these bytes, `mux` refused nothing and reported nothing: its status is
-/// 0, and it wrote the packets of that job's units, which keep every promise. Where the DTS are the streams' own, what a
-/// demultiplexer finds in these packets on the PID of each stream of the job are all units that it finds in the input where
-/// the stream was found, on the PID that it had there, and no other: in order, their bytes the same, with the marks that are
-/// asked for, their stamps later by a constant, modulo 2^33, which is one for all programs of a clock of that input. If units
-/// of a data stream in a row have one DTS, all but the last are decoded a little earlier.
+/// States that, if `tsjob -- FILE..` wrote a job of the streams in these files, and its status was not 3, and `mux`,
+/// asked for all its packets over one plan, ran to its end over these bytes, `mux` refused nothing and reported
+/// nothing: its status is 0, and it wrote the packets of that job's units, which keep every promise. Where the DTS are
+/// the streams' own, what a demultiplexer finds in these packets on the PID of each stream of the job are all units
+/// that it finds in the input where the stream was found, on the PID that it had there, and no other: in order, their
+/// bytes the same, with the marks that are asked for, their stamps later by a constant, modulo 2^33, which is one for
+/// all programs of a clock of that input. If units of a data stream in a row have one DTS, all but the last are decoded
+/// a little earlier. Teletext without stamps has in the input the moments at which it came.
 ///
-/// A device that fails, a file that can't be opened or read, or memory that runs out, ends `tsjob` with status 3. The writer
-/// held nothing before, and its bytes are known, the files' need not be; what a demultiplexer finds is said of jobs whose
-/// units are due within 2^40 units of 90 kHz.
+/// A device that fails, a file that can't be opened or read, or memory that runs out, ends `tsjob` with status 3. The
+/// writer held nothing before, and its bytes are known, the files' need not be; what a demultiplexer finds is said of
+/// jobs whose units are due within 2^40 units of 90 kHz.
 pub fn joined_goes_through()
     ensures { TheFilePipe }
 {
@@ -51,13 +53,15 @@ pub fn joined_goes_through()
     laws_job::laws::joined_again();
 }
 
-/// States that `tsjob units` and `tsjob units --stream` write the same units, stream by stream and in order, due later by one
-/// time for all streams: if `tsjob units` ran to its end over the bytes of a stream and wrote records, and `tsjob units
-/// --stream` went by a description of the job's streams over the same bytes to their end and reported nothing (`same`).
+/// States that `tsjob units` and `tsjob units --stream` write the same units, stream by stream and in order, due later
+/// by one time for all streams: if `tsjob units` ran to its end over the bytes of a stream and wrote records, and
+/// `tsjob units --stream` went by a description of the job's streams over the same bytes to their end and reported
+/// nothing (`same`).
 ///
 /// This is so for a job whose DTS are the stream's own and whose programs are on one clock, if its streams begin within
-/// three seconds of one another, each of their units is one PES packet that nothing interrupts, and both ways ask for the
-/// same marks. They do if neither asks for `--mark-access` and both ask for the same `--aligned`, or for none (`marks`).
+/// three seconds of one another, none is teletext without stamps, each of their units is one PES packet that nothing
+/// interrupts, and both ways ask for the same marks. They do if neither asks for `--mark-access` and both ask for the
+/// same `--aligned`, or for none (`marks`).
 pub fn streamed_as_whole()
     ensures same { TheSameUnits }
     ensures marks { AskAlike }

@@ -1,5 +1,6 @@
 -- The buffers of a stream of a run begin with the first packet of its PID, where the tables come before it.
-use Rattle.std.proofs.Common.{◌≡◌, ◌∙◌, sym, ℕ, zero, suc, ◌+◌, ◌^◌, ◌≤◌, ◌<◌, ◌&&◌, not, is_some, Bool, true, false, List, [], ◌∷◌, ◌++◌, length, map, Option, Some, None, if◌then◌else◌, refl, ap, subst, inl, inr, nat_eq, arith, append_assoc, append-nil, eqb-true}
+use Rattle.std.proofs.Common.{◌≡◌, ◌∙◌, sym, ℕ, zero, suc, ◌+◌, ◌^◌, ◌≤◌, ◌<◌, ◌&&◌, not, is_some, Bool, true, false, List, [], ◌∷◌, ◌++◌, length, map, Option}
+use Rattle.std.proofs.Common.{Some, None, if◌then◌else◌, refl, ap, subst, inl, inr, nat_eq, arith, append_assoc, append-nil, eqb-true}
 use Rattle.std.specs.Prelude.{slice_get}
 use Rattle.std.specs.List.{concat}
 use Rattle.std.specs.Map.{lookup}
@@ -75,7 +76,8 @@ pub all_next : (s : ViewState) (bytes : List ℕ) (packets : List (List ℕ)) �
 unfolding after_all
 all_next s bytes packets = ap (λ (x : ViewState). after_all x packets) (packet_is s bytes)
 
-streams_stay : (s : ViewState) (packets : List (List ℕ)) (found : FoundProgramsView) → s.seen.named.streams ≡ Some found → (after_all s packets).seen.named.streams ≡ Some found
+streams_stay : (s : ViewState) (packets : List (List ℕ)) (found : FoundProgramsView) → s.seen.named.streams ≡ Some found →
+    (after_all s packets).seen.named.streams ≡ Some found
 unfolding after_all
 streams_stay s [] found e = e
 streams_stay s (bytes ∷ packets) found e =
@@ -86,11 +88,14 @@ taken_keeps : (options : ViewOptions) (index window : ℕ) (clocks : ClockEntrie
     ((taken options index window clocks t packet).choice ≡ t.choice) × ((taken options index window clocks t packet).places ≡ t.places)
 taken_keeps options index window clocks t packet = by (lookup (nat_eq packet.header.pid) t.places)
   where
-    at : (place : ℕ) (o : Option EntryState) → ((taken_at options index window clocks t packet place o).choice ≡ t.choice) × ((taken_at options index window clocks t packet place o).places ≡ t.places)
+    at : (place : ℕ) (o : Option EntryState) →
+        ((taken_at options index window clocks t packet place o).choice ≡ t.choice) ×
+        ((taken_at options index window clocks t packet place o).places ≡ t.places)
     at place None = unfold taken_at in (refl, refl)
     at place (Some e) = unfold taken_at in (refl, refl)
 
-    by : (o : Option ℕ) → ((taken_if options index window clocks t packet o).choice ≡ t.choice) × ((taken_if options index window clocks t packet o).places ≡ t.places)
+    by : (o : Option ℕ) →
+        ((taken_if options index window clocks t packet o).choice ≡ t.choice) × ((taken_if options index window clocks t packet o).places ≡ t.places)
     by None = unfold taken_if in (refl, refl)
     by (Some place) = unfold taken_if in (at place (slice_get t.entries place))
 
@@ -107,7 +112,8 @@ unfolding after_sound
 choice_sound s None = refl
 choice_sound s (Some packet) =
     let c : ViewState = clocked s packet in
-    (taken_keeps c.seen.options c.seen.packets (next_window c.seen) c.seen.clocks (with_begun c packet) packet).0 ∙ begun_keeps c.seen.options c.seen.named c.table packet
+    (taken_keeps c.seen.options c.seen.packets (next_window c.seen) c.seen.clocks (with_begun c packet) packet).0
+    ∙ begun_keeps c.seen.options c.seen.named c.table packet
 
 choice_stays : (s : ViewState) (packets : List (List ℕ)) → (after_all s packets).table.choice ≡ s.table.choice
 unfolding after_all
@@ -119,9 +125,11 @@ pub agree_stays : (s : ViewState) (packets : List (List ℕ)) → Agree s.table 
 unfolding after_all
 agree_stays s [] agree = agree
 agree_stays s (bytes ∷ packets) agree =
-    subst (λ (x : ViewState). Agree x.table) (sym (all_next s bytes packets)) (agree_stays (next s bytes) packets (sound_agrees s (sound_packet (packet_at bytes)) agree))
+    subst (λ (x : ViewState). Agree x.table) (sym (all_next s bytes packets))
+    (agree_stays (next s bytes) packets (sound_agrees s (sound_packet (packet_at bytes)) agree))
 
-place_stays : (s : ViewState) (packets : List (List ℕ)) (pid j : ℕ) → Agree s.table → s.seen.packets + length packets < 2 ^ 64 → lookup (nat_eq pid) s.table.places ≡ Some j →
+place_stays : (s : ViewState) (packets : List (List ℕ)) (pid j : ℕ) → Agree s.table → s.seen.packets + length packets < 2 ^ 64 →
+    lookup (nat_eq pid) s.table.places ≡ Some j →
     lookup (nat_eq pid) (after_all s packets).table.places ≡ Some j
 place_stays s packets pid j agree few there =
     let entry = agree.at pid j there in
@@ -140,24 +148,28 @@ begins_place s packet stream begins =
     (taken_keeps c.seen.options c.seen.packets (next_window c.seen) c.seen.clocks (with_begun c packet) packet).1
     ∙ rw begins (lookup_same s.table.places packet.header.pid (length s.table.entries))
 
-chosen_is : (a : Bool) (o : Option ℕ) (c : Option FoundStreamView) (stream : FoundStreamView) → (if a && not (is_some o) then c else None) ≡ Some stream → c ≡ Some stream
+chosen_is : (a : Bool) (o : Option ℕ) (c : Option FoundStreamView) (stream : FoundStreamView) → (if a && not (is_some o) then c else None) ≡ Some stream →
+    c ≡ Some stream
 chosen_is true None c stream e = e
 chosen_is true (Some j) c stream e = absurd (let no : ⊥ = cc in no)
 chosen_is false None c stream e = absurd (let no : ⊥ = cc in no)
 chosen_is false (Some j) c stream e = absurd (let no : ⊥ = cc in no)
 
-begins_if : (a : Bool) (o : Option ℕ) (c : Option FoundStreamView) (stream : FoundStreamView) → a ≡ true → o ≡ None → c ≡ Some stream → (if a && not (is_some o) then c else None) ≡ Some stream
+begins_if : (a : Bool) (o : Option ℕ) (c : Option FoundStreamView) (stream : FoundStreamView) → a ≡ true → o ≡ None → c ≡ Some stream →
+    (if a && not (is_some o) then c else None) ≡ Some stream
 begins_if a o c stream start none is = rw (start, none) is
 
 nothing_there : (places : List (ℕ × ℕ)) (pid j : ℕ) → lookup (nat_eq pid) places ≡ None → lookup (nat_eq pid) places ≡ Some j → ⊥
 nothing_there places pid j none some = let both : None ≡ Some j = sym none ∙ some in (let no : ⊥ = cc in no)
 
-table_next : (s : ViewState) (bytes : List ℕ) (packet : PacketView) → sound_packet (packet_at bytes) ≡ Some packet → (next s bytes).table ≡ (with_packet s packet).table
+table_next : (s : ViewState) (bytes : List ℕ) (packet : PacketView) → sound_packet (packet_at bytes) ≡ Some packet →
+    (next s bytes).table ≡ (with_packet s packet).table
 unfolding after_sound
 table_next s bytes packet sound = ap (λ (o : Option PacketView). (after_sound s o).table) sound
 
 -- so not with a later packet than the first one that begins something once the streams are known
-not_later : (s : ViewState) (bytes : List ℕ) (post : List (List ℕ)) (first packet : PacketView) (found : FoundProgramsView) (stream : FoundStreamView) → Agree s.table →
+not_later : (s : ViewState) (bytes : List ℕ) (post : List (List ℕ)) (first packet : PacketView) (found : FoundProgramsView) (stream : FoundStreamView) →
+    Agree s.table →
     s.seen.packets + length (bytes ∷ post) < 2 ^ 64 → s.seen.named.streams ≡ Some found → sound_packet (packet_at bytes) ≡ Some first →
     first.header.payload_unit_start_indicator ≡ true → first.header.pid ≡ packet.header.pid →
     beginning (after_all s (bytes ∷ post)).seen.named (after_all s (bytes ∷ post)).table packet ≡ Some stream → ⊥
@@ -180,7 +192,8 @@ not_later s bytes post first packet found stream agree few known sound starts sa
     by (Some j) there = nothing_there later.table.places first.header.pid j new (place_stays s (bytes ∷ post) first.header.pid j agree few there)
     by None none =
         let begin : beginning s.seen.named s.table first ≡ Some stream =
-        begins_if first.header.payload_unit_start_indicator (lookup (nat_eq first.header.pid) s.table.places) (chosen s.table.choice (stream_of s.seen.named first.header.pid)) stream starts none is in
+        begins_if first.header.payload_unit_start_indicator (lookup (nat_eq first.header.pid) s.table.places)
+        (chosen s.table.choice (stream_of s.seen.named first.header.pid)) stream starts none is in
         let o : Option PacketView = sound_packet (packet_at bytes) in
         let place : lookup (nat_eq first.header.pid) (next s bytes).table.places ≡ Some (length s.table.entries) =
         ap (λ (t : TableState). lookup (nat_eq first.header.pid) t.places) (table_next s bytes first sound) ∙ begins_place s first stream begin in
@@ -212,7 +225,8 @@ entry_later pid i x chunks e f = record {
   on = f.on;
 }
 
-entry_here : (pid i : ℕ) (x : List ℕ) (chunks : List (List ℕ)) (o : Option PacketView) (e : Entry) (rest es : List Entry) → sound_packet (packet_at x) ≡ o → listed pid i x o rest ≡ e ∷ es →
+entry_here : (pid i : ℕ) (x : List ℕ) (chunks : List (List ℕ)) (o : Option PacketView) (e : Entry) (rest es : List Entry) → sound_packet (packet_at x) ≡ o →
+    listed pid i x o rest ≡ e ∷ es →
     (rest ≡ e ∷ es → FirstEntry pid i (x ∷ chunks) e) → FirstEntry pid i (x ∷ chunks) e
 unfolding listed
 entry_here pid i x chunks None e rest es sound is later = later is
@@ -245,7 +259,8 @@ first_entry pid i (x ∷ chunks) e es is =
     (λ rest. entry_later pid i x chunks e (first_entry pid (i + 1) chunks e es rest))
 
 -- it carries the begin of a unit
-first_starts : (base0 n : ℕ) (e : Entry) (es : List Entry) (us : List AccessUnit) → AllSent base0 n None (e ∷ es) us → e.packet.header.payload_unit_start_indicator ≡ true
+first_starts : (base0 n : ℕ) (e : Entry) (es : List Entry) (us : List AccessUnit) → AllSent base0 n None (e ∷ es) us →
+    e.packet.header.payload_unit_start_indicator ≡ true
 unfolding AllSent
 first_starts base0 n e es [] sent = absurd sent
 first_starts base0 n e es (u ∷ us) sent = elim sent.0.begins [
@@ -255,7 +270,8 @@ first_starts base0 n e es (u ∷ us) sent = elim sent.0.begins [
 
 -- ---- the slots before it
 
-run_front : (content : ℕ → Content) (s n : ℕ) (pre rest : List (List ℕ)) → Fits content → cut_packets (run_bytes content s n) ≡ pre ++ rest → concat pre ≡ run_bytes content s (length pre)
+run_front : (content : ℕ → Content) (s n : ℕ) (pre rest : List (List ℕ)) → Fits content → cut_packets (run_bytes content s n) ≡ pre ++ rest →
+    concat pre ≡ run_bytes content s (length pre)
 unfolding run_bytes
 run_front content s n [] rest fits e = refl
 run_front content s zero (x ∷ pre) rest fits e = absurd (let no : ⊥ = cc in no)
@@ -271,7 +287,8 @@ unfoldable onto : List (List ℕ) → List (List ℕ) → List (List ℕ)
 onto [] earlier = earlier
 onto (bytes ∷ packets) earlier = onto packets (bytes ∷ earlier)
 
-named_all : (s : ViewState) (packets earlier : List (List ℕ)) → s.seen.named ≡ state_of earlier → (after_all s packets).seen.named ≡ state_of (onto packets earlier)
+named_all : (s : ViewState) (packets earlier : List (List ℕ)) → s.seen.named ≡ state_of earlier →
+    (after_all s packets).seen.named ≡ state_of (onto packets earlier)
 unfolding after_all state_of onto
 named_all s [] earlier e = e
 named_all s (bytes ∷ packets) earlier e =
@@ -294,7 +311,8 @@ bytes_front packets = bytes_all packets []
 known_first : (packets : List (List ℕ)) → ((last : Bool) → is_some (streams_at last (found_of packets)) ≡ true) → is_some (first_streams packets) ≡ true
 unfolding first_streams bytes_of association first_pat streams_by
 known_first [] known = known false
-known_first (packet ∷ earlier) known = by (first_streams earlier) (streams_at (is_last (length (packet ∷ earlier))) (found_of (packet ∷ earlier))) (known (is_last (length (packet ∷ earlier))))
+known_first (packet ∷ earlier) known =
+    by (first_streams earlier) (streams_at (is_last (length (packet ∷ earlier))) (found_of (packet ∷ earlier))) (known (is_last (length (packet ∷ earlier))))
   where
     by : (o later : Option FoundProgramsView) → is_some later ≡ true → is_some (option_or o later) ≡ true
     by None later e = e
@@ -311,8 +329,10 @@ all_two s (x ∷ xs) ys = all_next s x (xs ++ ys) ∙ all_two (next s x) xs ys �
 
 -- ---- so the buffers of a stream whose units are due late begin with the first packet of its PID
 
-from_the_first : (d : Scheduled) (units : ℕ → List AccessUnit) (slots : ℕ) (request : RequestView) (e : EntryState) (k : ℕ) → IsInRange d.description → Promised d.description d.schedule →
-    UnitsKept d units → slots ≤ most_packets → IsViewedAs d request k e → (whole : IsWhole request d.description.rate (cut_packets (run_bytes (content_at d units) 0 slots)) e) →
+from_the_first : (d : Scheduled) (units : ℕ → List AccessUnit) (slots : ℕ) (request : RequestView) (e : EntryState) (k : ℕ) → IsInRange d.description →
+    Promised d.description d.schedule →
+    UnitsKept d units → slots ≤ most_packets → IsViewedAs d request k e →
+    (whole : IsWhole request d.description.rate (cut_packets (run_bytes (content_at d units) 0 slots)) e) →
     DueLate (units k) → FromTheFirst e.pid whole.begun.before
 from_the_first d units slots request e k ranges promised kept few viewed whole late = by (entries_from pid 0 whole.begun.before) refl
   where
@@ -326,7 +346,8 @@ from_the_first d units slots request e k ranges promised kept few viewed whole l
     rest = whole.begun.first ∷ whole.begun.later
 
     none : entries_from pid 0 whole.begun.before ≡ [] → FromTheFirst e.pid whole.begun.before
-    none is = ap (λ (q : ℕ). packets_from q 0 whole.begun.before) viewed.pid ∙ sym (packets_entries pid 0 whole.begun.before) ∙ ap (λ (es : List Entry). map entry_packet es) is
+    none is = ap (λ (q : ℕ). packets_from q 0 whole.begun.before) viewed.pid ∙ sym (packets_entries pid 0 whole.begun.before)
+        ∙ ap (λ (es : List Entry). map entry_packet es) is
 
     no_first : (first : Entry) (es : List Entry) → entries_from pid 0 whole.begun.before ≡ first ∷ es → ⊥
     no_first first es is =
@@ -342,8 +363,10 @@ from_the_first d units slots request e k ranges promised kept few viewed whole l
         let place : first.index ≡ n = omega (arith, f.index) in
         let cut : cut_packets bytes ≡ f.pre ++ ((f.bytes ∷ f.post) ++ rest) =
         whole.begun.split ∙ ap (λ (l : List (List ℕ)). l ++ rest) f.split ∙ append_assoc f.pre (f.bytes ∷ f.post) rest in
-        let front : concat f.pre ≡ run_bytes (content_at d units) 0 n = run_front (content_at d units) 0 slots f.pre ((f.bytes ∷ f.post) ++ rest) (contents_fit d units ranges kept) cut in
-        let many : length whole.begun.before ≡ n + suc (length f.post) = ap (λ (l : List (List ℕ)). length l) f.split ∙ length-append f.pre (f.bytes ∷ f.post) in
+        let front : concat f.pre ≡ run_bytes (content_at d units) 0 n =
+        run_front (content_at d units) 0 slots f.pre ((f.bytes ∷ f.post) ++ rest) (contents_fit d units ranges kept) cut in
+        let many : length whole.begun.before ≡ n + suc (length f.post) = ap (λ (l : List (List ℕ)). length l) f.split
+        ∙ length-append f.pre (f.bytes ∷ f.post) in
         let low : n < slots = omega (arith, many, v.lengths) in
         let h : Headline d units n (run_bytes (content_at d units) 0 n) = headline d units n ranges promised kept in
         let s : ViewState = after_all (start request) f.pre in
@@ -358,11 +381,14 @@ from_the_first d units slots request e k ranges promised kept few viewed whole l
         let named : s.seen.named ≡ state_of (onto f.pre []) = named_all (start request) f.pre [] (nothing_named request) in
         let found = some_found (first_streams (onto f.pre [])) known in
         let streams : s.seen.named.streams ≡ Some found.0 = ap (λ (x : NamedView). x.streams) named ∙ first_law (onto f.pre []) ∙ found.1 in
-        let knows = knows_all (start request) (followed request e) nothing_known f.pre (record { options = refl; index = refl; clock = refl }) (omega (arith, low, few)) in
-        let count : s.seen.packets ≡ n = sym knows.index ∙ index_all (followed request e) nothing_known f.pre ∙ (let zero_is : 0 + n ≡ n = omega arith in zero_is) in
+        let knows = knows_all (start request) (followed request e) nothing_known f.pre (record { options = refl; index = refl; clock = refl })
+        (omega (arith, low, few)) in
+        let count : s.seen.packets ≡ n = sym knows.index ∙ index_all (followed request e) nothing_known f.pre
+        ∙ (let zero_is : 0 + n ≡ n = omega arith in zero_is) in
         let is_later : after_all (start request) whole.begun.before ≡ after_all s (f.bytes ∷ f.post) =
         ap (λ (l : List (List ℕ)). after_all (start request) l) f.split ∙ all_two (start request) f.pre (f.bytes ∷ f.post) in
-        not_later s f.bytes f.post first.packet whole.begun.packet found.0 whole.begun.stream (agree_stays (start request) f.pre (none_agree request)) (omega (arith, count, many, v.lengths, few)) streams f.sound starts
+        not_later s f.bytes f.post first.packet whole.begun.packet found.0 whole.begun.stream (agree_stays (start request) f.pre (none_agree request))
+        (omega (arith, count, many, v.lengths, few)) streams f.sound starts
         (f.on ∙ sym viewed.pid ∙ whole.begun.pid)
         (subst (λ (x : ViewState). beginning x.seen.named x.table whole.begun.packet ≡ Some whole.begun.stream) is_later whole.begun.begins)
 
@@ -375,15 +401,18 @@ run_first_law = from_the_first
 
 pub run_late_units_law : RunLateUnitsLaw
 run_late_units_law d units slots request e k ranges promised kept few viewed whole late =
-    (run_main_law d units slots request e k ranges promised kept few viewed whole).measured (from_the_first d units slots request e k ranges promised kept few viewed whole late)
+    (run_main_law d units slots request e k ranges promised kept few viewed whole).measured
+    (from_the_first d units slots request e k ranges promised kept few viewed whole late)
 
 pub job_first_law : JobFirstLaw
 job_first_law d units slots request e k ranges promised none few viewed =
     let each : ℕ → List AccessUnit = λ j. units_of j units in
     let same : run_bytes (content_at d each) 0 slots ≡ output_of false d (job_history units slots) = sym (output_bytes (content_at d each) 0 slots) in
-    subst (λ (bytes : List ℕ). (whole : IsWhole request d.description.rate (cut_packets bytes) e) → DueLate (units_of k units) → FromTheFirst e.pid whole.begun.before) same
+    subst (λ (bytes : List ℕ). (whole : IsWhole request d.description.rate (cut_packets bytes) e) → DueLate (units_of k units) →
+    FromTheFirst e.pid whole.begun.before) same
     (from_the_first d each slots request e k ranges promised (job_kept d units ranges none) few viewed)
 
 pub job_late_units_law : JobLateUnitsLaw
 job_late_units_law d units slots request e k ranges promised none few viewed whole late =
-    (job_main_law d units slots request e k ranges promised none few viewed whole).measured (job_first_law d units slots request e k ranges promised none few viewed whole late)
+    (job_main_law d units slots request e k ranges promised none few viewed whole).measured
+    (job_first_law d units slots request e k ranges promised none few viewed whole late)

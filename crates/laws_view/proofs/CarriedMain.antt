@@ -1,5 +1,6 @@
 -- What the packets of a PID that carries units leave in the main buffer of a view.
-use Rattle.std.proofs.Common.{◌≡◌, ◌∙◌, sym, ℕ, zero, suc, ◌+◌, ◌≤◌, List, [], ◌∷◌, ◌++◌, length, map, take, drop, Option, None, refl, ap, subst, inl, arith, All}
+use Rattle.std.proofs.Common.{◌≡◌, ◌∙◌, sym, ℕ, zero, suc, ◌+◌, ◌≤◌, List, [], ◌∷◌, ◌++◌, length, map, take, drop, Option, None, refl, ap, subst, inl, arith}
+use Rattle.std.proofs.Common.{All}
 use Rattle.std.proofs.lemmas.List.{length-append}
 use Rattle.clock27.specs.Departure.{last_left}
 use Rattle.ts_packet.specs.PidList.{Entry, payload_of, pid_list}
@@ -51,7 +52,8 @@ carried_sizes id base0 pid cuts bytes c =
 
 -- it is no more than a model has of them and of those before, where its transport buffer begins empty with them too
 pub later_within : (rate rx size low x id base0 : ℕ) (cuts : List CutUnit) (ps : List Arriving) (front back : List Packet) → ComeFrom low ps →
-    Follows rate rx None ps (drop (length front) (cut_senders cuts)) → map timed_packet ps ≡ back → All (λ p. p.size ≤ 188) front → All (λ p. p.size ≤ 188) back →
+    Follows rate rx None ps (drop (length front) (cut_senders cuts)) → map timed_packet ps ≡ back → All (λ p. p.size ≤ 188) front →
+    All (λ p. p.size ≤ 188) back →
     All (IsCut id base0) cuts → packet_sizes (front ++ back) ≡ take (length (front ++ back)) (sizes_of (cut_pieces cuts)) →
     main_fullness rate (after_each (empty rate rx size) (AtRate rate) ps).parts x
     ≤ mb_fullness rate rx x (timed_pes_packets id base0 (cut_units cuts)) (pes_left rate rx 0 front ++ pes_left rate rx 0 back)
@@ -69,9 +71,12 @@ later_within rate rx size low x id base0 cuts ps front back come follows same sm
     omega (arith, all, here, more, kept_units rate rx x id base0 cuts (front ++ back) (pes_left rate rx 0 front ++ pes_left rate rx 0 back) cut sizes many)
 
 -- and just what a model has of them where a unit is under way from the first of them on
-pub main_is : (rate rx size low x id base0 : ℕ) (cuts : List CutUnit) (ps : List Arriving) (qs : List Packet) → ComeFrom low ps → Follows rate rx None ps (cut_senders cuts) →
-    UnderWay None ps → map timed_packet ps ≡ qs → All (λ p. p.size ≤ 188) qs → All (IsCut id base0) cuts → packet_sizes qs ≡ take (length qs) (sizes_of (cut_pieces cuts)) →
-    main_fullness rate (after_each (empty rate rx size) (AtRate rate) ps).parts x ≡ mb_fullness rate rx x (timed_pes_packets id base0 (cut_units cuts)) (pes_left rate rx 0 qs)
+pub main_is : (rate rx size low x id base0 : ℕ) (cuts : List CutUnit) (ps : List Arriving) (qs : List Packet) → ComeFrom low ps →
+    Follows rate rx None ps (cut_senders cuts) →
+    UnderWay None ps → map timed_packet ps ≡ qs → All (λ p. p.size ≤ 188) qs → All (IsCut id base0) cuts →
+    packet_sizes qs ≡ take (length qs) (sizes_of (cut_pieces cuts)) →
+    main_fullness rate (after_each (empty rate rx size) (AtRate rate) ps).parts x ≡ mb_fullness rate rx x (timed_pes_packets id base0 (cut_units cuts))
+    (pes_left rate rx 0 qs)
 unfolding main_fullness arrivals_of last_left until_of until_at
 main_is rate rx size low x id base0 cuts ps qs come follows under_way same small cut sizes =
     let vs : List AccessUnit = cut_senders cuts in
@@ -91,8 +96,10 @@ pub record FromBegin (rate : ℕ) (us : List AccessUnit) (request : RequestView)
   pub follows : Follows rate e.held.rx None (stream_packets request e before rest) us
   pub packets : map timed_packet (stream_packets request e before rest) ≡ map entry_packet (entries_from pid (length before) rest)
 
-pub from_begin : (rate base0 : ℕ) (us : List AccessUnit) (request : RequestView) (e : EntryState) (pid n : ℕ) (last : Option AccessUnit) (before rest : List (List ℕ)) →
-    request.options.arrival ≡ AtRate rate → length before + length rest ≤ most_packets → e.pid ≡ pid → AllSent base0 n last (entries_from pid (length before) rest) us →
+pub from_begin : (rate base0 : ℕ) (us : List AccessUnit) (request : RequestView) (e : EntryState) (pid n : ℕ) (last : Option AccessUnit)
+    (before rest : List (List ℕ)) →
+    request.options.arrival ≡ AtRate rate → length before + length rest ≤ most_packets → e.pid ≡ pid →
+    AllSent base0 n last (entries_from pid (length before) rest) us →
     Clocked rate base0 (entries_from pid (length before) rest) us (clocks_seen (followed request e) (known_at_begin (followed request e) before) rest) →
     FromBegin rate us request e pid before rest
 from_begin rate base0 us request e pid n last before rest at_rate few same sent clock =
@@ -102,7 +109,8 @@ from_begin rate base0 us request e pid n last before rest at_rate few same sent 
     let all : entries_from pid (length before) rest ≡ entries_from f.pid b.index rest =
     ap (λ (i : ℕ). entries_from pid i rest) (sym index) ∙ ap (λ (q : ℕ). entries_from q b.index rest) (sym same) in
     let sent_now : AllSent base0 n last (entries_from f.pid b.index rest) us = subst (λ (es : List Entry). AllSent base0 n last es us) all sent in
-    let clock_now : Clocked rate base0 (entries_from f.pid b.index rest) us (clocks_seen f b rest) = subst (λ (es : List Entry). Clocked rate base0 es us (clocks_seen f b rest)) all clock in
+    let clock_now : Clocked rate base0 (entries_from f.pid b.index rest) us (clocks_seen f b rest) =
+    subst (λ (es : List Entry). Clocked rate base0 es us (clocks_seen f b rest)) all clock in
     let known : Known rate f n b last None = record { counter = inl refl; goes = inl refl; none = λ e. refl } in
     record {
       come = they_come f b rest (omega (arith, index, few));

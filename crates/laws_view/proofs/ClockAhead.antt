@@ -1,5 +1,6 @@
 -- The clock references of a program as a view keeps the last of them: each says the clock at its byte, and the next is never far.
-use Rattle.std.proofs.Common.{◌≡◌, ◌∙◌, ◌⊎◌, ℕ, ◌+◌, ◌-◌, ◌*◌, ◌/◌, ◌%◌, ◌≤◌, ◌<◌, Bool, true, false, List, [], ◌∷◌, map, Option, Some, None, if◌then◌else◌, refl, ap, inl, inr, nat_eq, arith}
+use Rattle.std.proofs.Common.{◌≡◌, ◌∙◌, ◌⊎◌, ℕ, ◌+◌, ◌-◌, ◌*◌, ◌/◌, ◌%◌, ◌≤◌, ◌<◌, Bool, true, false, List, [], ◌∷◌, map, Option, Some, None, if◌then◌else◌}
+use Rattle.std.proofs.Common.{refl, ap, inl, inr, nat_eq, arith}
 use Rattle.std.specs.Option.{option_or}
 use Rattle.clock27.specs.Recurrence.{Recur}
 use Rattle.clock27.specs.Reference.{pcr_at, pcr_ticks}
@@ -34,7 +35,8 @@ unfolding NoneBefore
 none_lower index [] h = tt
 none_lower index (e ∷ es) h = omega (arith, h)
 
-none_listed : (pid index : ℕ) (bytes : List ℕ) (o : Option PacketView) (es : List Entry) → NoneBefore (index + 1) es → NoneBefore index (listed pid index bytes o es)
+none_listed : (pid index : ℕ) (bytes : List ℕ) (o : Option PacketView) (es : List Entry) → NoneBefore (index + 1) es →
+    NoneBefore index (listed pid index bytes o es)
 unfolding listed NoneBefore
 none_listed pid index bytes None es h = none_lower index es h
 none_listed pid index bytes (Some packet) es h = by (nat_eq pid packet.header.pid) refl
@@ -46,7 +48,8 @@ none_listed pid index bytes (Some packet) es h = by (nat_eq pid packet.header.pi
 pub none_before : (pid index : ℕ) (chunks : List (List ℕ)) → NoneBefore index (entries_from pid index chunks)
 unfolding entries_from
 none_before pid index [] = unfold NoneBefore in tt
-none_before pid index (bytes ∷ chunks) = none_listed pid index bytes (sound_packet (packet_at bytes)) (entries_from pid (index + 1) chunks) (none_before pid (index + 1) chunks)
+none_before pid index (bytes ∷ chunks) =
+    none_listed pid index bytes (sound_packet (packet_at bytes)) (entries_from pid (index + 1) chunks) (none_before pid (index + 1) chunks)
 
 -- ---- a clock reference
 
@@ -91,19 +94,22 @@ unfoldable pub ClockIs : ViewOptions → ℕ → ℕ → ℕ → ℕ → ℕ →
 ClockIs options rate base0 limit slots pid index clock es =
     (AreClocks rate base0 pid es × IsReference rate base0 limit slots index clock es) ⊎ ((clock ≡ None) × NoClocks options es)
 
-later_reference : (rate base0 limit slots index : ℕ) (clock : Option PcrSample) (es : List Entry) → IsReference rate base0 limit slots index clock es → IsReference rate base0 limit slots (index + 1) clock es
+later_reference : (rate base0 limit slots index : ℕ) (clock : Option PcrSample) (es : List Entry) → IsReference rate base0 limit slots index clock es →
+    IsReference rate base0 limit slots (index + 1) clock es
 unfolding IsReference
 later_reference rate base0 limit slots index None es h = h
 later_reference rate base0 limit slots index (Some clock) es h = (h.0, (h.1.0, (omega (arith, h.1.1.0), h.1.1.1)))
 
-next_reference : (rate base0 limit slots index : ℕ) (clock : Option PcrSample) (e : Entry) (es : List Entry) → e.index ≡ index → IsReference rate base0 limit slots index clock (e ∷ es) →
+next_reference : (rate base0 limit slots index : ℕ) (clock : Option PcrSample) (e : Entry) (es : List Entry) → e.index ≡ index →
+    IsReference rate base0 limit slots index clock (e ∷ es) →
     IsReference rate base0 limit slots (index + 1) (Some (reference_at rate base0 index)) es
 unfolding IsReference Recur
 next_reference rate base0 limit slots index None e es is h = (index, (refl, (omega arith, rw is at h.1)))
 next_reference rate base0 limit slots index (Some clock) e es is h = (index, (refl, (omega arith, rw is at h.1.1.1.1)))
 
 -- a packet that is on the PID, and one that is not
-own_clock : (options : ViewOptions) (rate base0 limit slots pid index : ℕ) (bytes : List ℕ) (packet : PacketView) (clock : Option PcrSample) (es : List Entry) → options.arrival ≡ AtRate rate → index < most_packets →
+own_clock : (options : ViewOptions) (rate base0 limit slots pid index : ℕ) (bytes : List ℕ) (packet : PacketView) (clock : Option PcrSample) (es : List Entry) →
+    options.arrival ≡ AtRate rate → index < most_packets →
     ClockIs options rate base0 limit slots pid index clock (record { index = index; bytes = bytes; packet = packet } ∷ es) →
     ClockIs options rate base0 limit slots pid (index + 1) (option_or (reference_in options index packet) clock) es
 unfolding ClockIs AreClocks NoClocks
@@ -120,7 +126,8 @@ other_clock options rate base0 limit slots pid index clock es (inl told) = inl (
 other_clock options rate base0 limit slots pid index clock es (inr quiet) = inr quiet
 
 -- a packet more
-pub clock_step : (f : Followed) (b : Before) (rate base0 limit slots : ℕ) (bytes : List ℕ) (o : Option PacketView) (es : List Entry) → f.options.arrival ≡ AtRate rate → b.index < most_packets →
+pub clock_step : (f : Followed) (b : Before) (rate base0 limit slots : ℕ) (bytes : List ℕ) (o : Option PacketView) (es : List Entry) →
+    f.options.arrival ≡ AtRate rate → b.index < most_packets →
     ClockIs f.options rate base0 limit slots f.clock_pid b.index b.clock (listed f.clock_pid b.index bytes o es) →
     ClockIs f.options rate base0 limit slots f.clock_pid (b.index + 1) (known_after f b o).clock es
 unfolding known_after listed
@@ -132,7 +139,8 @@ clock_step f b rate base0 limit slots bytes (Some packet) es at_rate few h = by 
 
     by : (w : Bool) → nat_eq f.clock_pid packet.header.pid ≡ w →
         ClockIs f.options rate base0 limit slots f.clock_pid b.index b.clock (if nat_eq f.clock_pid packet.header.pid then e ∷ es else es) →
-        ClockIs f.options rate base0 limit slots f.clock_pid (b.index + 1) (if nat_eq f.clock_pid packet.header.pid then option_or (reference_in f.options b.index packet) b.clock else b.clock) es
+        ClockIs f.options rate base0 limit slots f.clock_pid (b.index + 1)
+        (if nat_eq f.clock_pid packet.header.pid then option_or (reference_in f.options b.index packet) b.clock else b.clock) es
     by true own h = rw own (own_clock f.options rate base0 limit slots f.clock_pid b.index bytes packet b.clock es at_rate few (rw own at h))
     by false other h = rw other (other_clock f.options rate base0 limit slots f.clock_pid b.index b.clock es (rw other at h))
 

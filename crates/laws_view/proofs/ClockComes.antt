@@ -1,5 +1,6 @@
 -- A program's clock reference has come before a stream whose units are due late.
-use Rattle.std.proofs.Common.{◌≡◌, ◌∙◌, ◌⊎◌, sym, ℕ, ◌+◌, ◌*◌, ◌≤◌, ◌<◌, false, is_some, Bool, true, List, [], ◌∷◌, ◌++◌, length, Option, Some, None, if◌then◌else◌, refl, ap, subst, inl, inr, nat_eq, arith}
+use Rattle.std.proofs.Common.{◌≡◌, ◌∙◌, ◌⊎◌, sym, ℕ, ◌+◌, ◌*◌, ◌≤◌, ◌<◌, false, is_some, Bool, true, List, [], ◌∷◌, ◌++◌, length, Option, Some, None}
+use Rattle.std.proofs.Common.{if◌then◌else◌, refl, ap, subst, inl, inr, nat_eq, arith}
 use Rattle.std.specs.Prelude.{slice_get}
 use Rattle.std.specs.Option.{option_or}
 use Rattle.std.proofs.Math.Nat.{mul-le-mul_right}
@@ -45,7 +46,8 @@ use Rattle.laws_view.proofs.StreamIndices.{index_more}
 
 -- ---- once one has come, one is known
 
-some_clock : (options : ViewOptions) (clock_pid index : ℕ) (packet : PacketView) (clock : Option PcrSample) → is_some clock ≡ true → is_some (clock_with options clock_pid index packet clock) ≡ true
+some_clock : (options : ViewOptions) (clock_pid index : ℕ) (packet : PacketView) (clock : Option PcrSample) → is_some clock ≡ true →
+    is_some (clock_with options clock_pid index packet clock) ≡ true
 some_clock options clock_pid index packet clock e = by (nat_eq clock_pid packet.header.pid) (reference_in options index packet)
   where
     by : (b : Bool) (o : Option PcrSample) → is_some (if b then option_or o clock else clock) ≡ true
@@ -67,9 +69,11 @@ stays_some f b (bytes ∷ chunks) e =
 
 -- a packet on the PID has one
 abbrev One : ℕ → ℕ → Followed → Before → List ℕ → Option PacketView → List Entry → Type 0
-One rate base0 f b bytes o es = (is_some (known_after f b o).clock ≡ true) ⊎ ((listed f.clock_pid b.index bytes o es ≡ es) × AreClocks rate base0 f.clock_pid es)
+One rate base0 f b bytes o es =
+    (is_some (known_after f b o).clock ≡ true) ⊎ ((listed f.clock_pid b.index bytes o es ≡ es) × AreClocks rate base0 f.clock_pid es)
 
-one_seen : (rate base0 : ℕ) (f : Followed) (b : Before) (bytes : List ℕ) (o : Option PacketView) (es : List Entry) → f.options.arrival ≡ AtRate rate → b.index < most_packets →
+one_seen : (rate base0 : ℕ) (f : Followed) (b : Before) (bytes : List ℕ) (o : Option PacketView) (es : List Entry) → f.options.arrival ≡ AtRate rate →
+    b.index < most_packets →
     AreClocks rate base0 f.clock_pid (listed f.clock_pid b.index bytes o es) → One rate base0 f b bytes o es
 unfolding listed known_after AreClocks
 one_seen rate base0 f b bytes None es at_rate few clocks = inr (refl, clocks)
@@ -78,7 +82,8 @@ one_seen rate base0 f b bytes (Some packet) es at_rate few clocks = by (nat_eq f
     e : Entry
     e = record { index = b.index; bytes = bytes; packet = packet }
 
-    by : (w : Bool) → nat_eq f.clock_pid packet.header.pid ≡ w → AreClocks rate base0 f.clock_pid (if nat_eq f.clock_pid packet.header.pid then e ∷ es else es) →
+    by : (w : Bool) → nat_eq f.clock_pid packet.header.pid ≡ w →
+        AreClocks rate base0 f.clock_pid (if nat_eq f.clock_pid packet.header.pid then e ∷ es else es) →
         One rate base0 f b bytes (Some packet) es
     by true own h =
         let told = rw own at h in
@@ -86,8 +91,10 @@ one_seen rate base0 f b bytes (Some packet) es at_rate few clocks = by (nat_eq f
         inl (rw (own, sample) refl)
     by false other h = inr (rw other refl, rw other at h)
 
-seen_or_none : (rate base0 : ℕ) (f : Followed) (b : Before) (chunks : List (List ℕ)) → f.options.arrival ≡ AtRate rate → b.index + length chunks ≤ most_packets →
-    AreClocks rate base0 f.clock_pid (entries_from f.clock_pid b.index chunks) → (is_some (known_after_all f b chunks).clock ≡ true) ⊎ (entries_from f.clock_pid b.index chunks ≡ [])
+seen_or_none : (rate base0 : ℕ) (f : Followed) (b : Before) (chunks : List (List ℕ)) → f.options.arrival ≡ AtRate rate →
+    b.index + length chunks ≤ most_packets →
+    AreClocks rate base0 f.clock_pid (entries_from f.clock_pid b.index chunks) →
+    (is_some (known_after_all f b chunks).clock ≡ true) ⊎ (entries_from f.clock_pid b.index chunks ≡ [])
 unfolding known_after_all entries_from
 seen_or_none rate base0 f b [] at_rate few clocks = inr refl
 seen_or_none rate base0 f b (bytes ∷ chunks) at_rate few clocks =
@@ -97,7 +104,8 @@ seen_or_none rate base0 f b (bytes ∷ chunks) at_rate few clocks =
     elim (one_seen rate base0 f b bytes o (entries_from f.clock_pid (b.index + 1) chunks) at_rate (omega (arith, few)) clocks) [
       | inl seen ↦ inl (stays_some f b' chunks seen)
       | inr other ↦
-          let later : AreClocks rate base0 f.clock_pid (entries_from f.clock_pid b'.index chunks) = subst (λ (i : ℕ). AreClocks rate base0 f.clock_pid (entries_from f.clock_pid i chunks)) (sym more) other.1 in
+          let later : AreClocks rate base0 f.clock_pid (entries_from f.clock_pid b'.index chunks) =
+          subst (λ (i : ℕ). AreClocks rate base0 f.clock_pid (entries_from f.clock_pid i chunks)) (sym more) other.1 in
           elim (seen_or_none rate base0 f b' chunks at_rate (omega (arith, few, more)) later) [
             | inl seen ↦ inl seen
             | inr none ↦ inr (other.0 ∙ ap (λ (i : ℕ). entries_from f.clock_pid i chunks) (sym more) ∙ none)
@@ -111,35 +119,43 @@ clocks_front rate base0 pid (e ∷ es) fs h = (h.0, clocks_front rate base0 pid 
 
 -- ---- within its limit
 
-none_within : (rate limit slots i : ℕ) (es : List Entry) → NoneBefore i es → i ≤ slots → limit ≤ 100 → 100000 ≤ rate → 1000 * rate ≤ i * 1504000 → Recur rate limit 0 (places es) (188 * slots) → ⊥
+none_within : (rate limit slots i : ℕ) (es : List Entry) → NoneBefore i es → i ≤ slots → limit ≤ 100 → 100000 ≤ rate → 1000 * rate ≤ i * 1504000 →
+    Recur rate limit 0 (places es) (188 * slots) → ⊥
 unfolding NoneBefore Recur
 none_within rate limit slots i [] none few near least late h = omega (arith, few, h, least, late, mul-le-mul_right rate near)
 none_within rate limit slots i (e ∷ es) none few near least late h = omega (arith, none, h.0, least, late, mul-le-mul_right rate near)
 
-entry_first : (pid index : ℕ) (packet : PacketView) (first : List ℕ) (later : List (List ℕ)) → sound_packet (packet_at first) ≡ Some packet → nat_eq pid packet.header.pid ≡ true →
+entry_first : (pid index : ℕ) (packet : PacketView) (first : List ℕ) (later : List (List ℕ)) → sound_packet (packet_at first) ≡ Some packet →
+    nat_eq pid packet.header.pid ≡ true →
     slice_get (entries_from pid index (first ∷ later)) 0 ≡ Some (record { index = index; bytes = first; packet = packet })
 unfolding entries_from listed
 entry_first pid index packet first later sound own = rw (sound, own) refl
 
-after_second : (d : Scheduled) (units : ℕ → List AccessUnit) (slots : ℕ) (request : RequestView) (e : EntryState) (k : ℕ) → IsInRange d.description → Promised d.description d.schedule →
+after_second : (d : Scheduled) (units : ℕ → List AccessUnit) (slots : ℕ) (request : RequestView) (e : EntryState) (k : ℕ) → IsInRange d.description →
+    Promised d.description d.schedule →
     UnitsKept d units → slots ≤ most_packets → (viewed : IsViewedAs d request k e) →
-    (whole : IsWhole request d.description.rate (cut_packets (run_bytes (content_at d units) 0 slots)) e) → FromTheFirst e.pid whole.begun.before → DueLate (units k) →
+    (whole : IsWhole request d.description.rate (cut_packets (run_bytes (content_at d units) 0 slots)) e) → FromTheFirst e.pid whole.begun.before →
+    DueLate (units k) →
     1000 * d.description.rate ≤ length whole.begun.before * 1504000
 after_second d units slots request e k ranges promised kept few viewed whole first late =
     let bytes : List ℕ = run_bytes (content_at d units) 0 slots in
     let s : DescribedStream = viewed.stream in
     let rest : List (List ℕ) = whole.begun.first ∷ whole.begun.later in
     let v = run_viewed d units slots request e k ranges promised kept few viewed whole in
-    let all : entries_from s.pid 0 (cut_packets bytes) ≡ entries_from s.pid (length whole.begun.before) rest = none_entries s.pid e.pid whole.begun.before rest (cut_packets bytes) viewed.pid first v.entries in
+    let all : entries_from s.pid 0 (cut_packets bytes) ≡ entries_from s.pid (length whole.begun.before) rest =
+    none_entries s.pid e.pid whole.begun.before rest (cut_packets bytes) viewed.pid first v.entries in
     let own : nat_eq s.pid whole.begun.packet.header.pid ≡ true = ap (λ (q : ℕ). nat_eq s.pid q) (sym whole.begun.pid ∙ viewed.pid) ∙ itself s.pid in
     let one : Entry = record { index = length whole.begun.before; bytes = whole.begun.first; packet = whole.begun.packet } in
-    let here : slice_get (entries_from s.pid (length whole.begun.before) rest) 0 ≡ Some one = entry_first s.pid (length whole.begun.before) whole.begun.packet whole.begun.first whole.begun.later whole.begun.sound own in
+    let here : slice_get (entries_from s.pid (length whole.begun.before) rest) 0 ≡ Some one =
+    entry_first s.pid (length whole.begun.before) whole.begun.packet whole.begun.first whole.begun.later whole.begun.sound own in
     let there : slice_get (pid_list s.pid bytes) 0 ≡ Some one = ap (λ (es : List Entry). slice_get es 0) (pid_entries s.pid bytes ∙ all) ∙ here in
     late_slot d k s (units k) slots 0 bytes one ranges viewed.there ((headline d units slots ranges promised kept).streams k s viewed.there) late there
 
-pub has_clock : (d : Scheduled) (units : ℕ → List AccessUnit) (slots : ℕ) (request : RequestView) (e : EntryState) (k : ℕ) → IsInRange d.description → Promised d.description d.schedule →
+pub has_clock : (d : Scheduled) (units : ℕ → List AccessUnit) (slots : ℕ) (request : RequestView) (e : EntryState) (k : ℕ) → IsInRange d.description →
+    Promised d.description d.schedule →
     UnitsKept d units → slots ≤ most_packets → (viewed : IsViewedAs d request k e) → IsClockOf d e →
-    (whole : IsWhole request d.description.rate (cut_packets (run_bytes (content_at d units) 0 slots)) e) → FromTheFirst e.pid whole.begun.before → DueLate (units k) → HasClock request e whole.begun.before
+    (whole : IsWhole request d.description.rate (cut_packets (run_bytes (content_at d units) 0 slots)) e) → FromTheFirst e.pid whole.begun.before →
+    DueLate (units k) → HasClock request e whole.begun.before
 has_clock d units slots request e k ranges promised kept few viewed clock whole first late =
     let rate : ℕ = d.description.rate in
     let base0 : ℕ = d.description.base0 in
@@ -152,12 +168,15 @@ has_clock d units slots request e k ranges promised kept few viewed clock whole 
     let v = run_viewed d units slots request e k ranges promised kept few viewed whole in
     let both = clocks_kept d p slots bytes (h.programs clock.0 p clock.2) in
     let place : 0 + length whole.begun.before ≡ length whole.begun.before = omega arith in
-    let split : entries_from f.clock_pid 0 (cut_packets bytes) ≡ entries_from f.clock_pid 0 whole.begun.before ++ entries_from f.clock_pid (length whole.begun.before) rest =
+    let split : entries_from f.clock_pid 0 (cut_packets bytes) ≡ entries_from f.clock_pid 0 whole.begun.before
+    ++ entries_from f.clock_pid (length whole.begun.before) rest =
     ap (λ (l : List (List ℕ)). entries_from f.clock_pid 0 l) whole.begun.split ∙ entries_two f.clock_pid 0 whole.begun.before rest
     ∙ ap (λ (j : ℕ). entries_from f.clock_pid 0 whole.begun.before ++ entries_from f.clock_pid j rest) place in
     let clocks : AreClocks rate base0 f.clock_pid (entries_from f.clock_pid 0 whole.begun.before ++ entries_from f.clock_pid (length whole.begun.before) rest) =
-    subst (λ (es : List Entry). AreClocks rate base0 f.clock_pid es) split (subst (λ (q : ℕ). AreClocks rate base0 q (entries_from q 0 (cut_packets bytes))) (sym same) both.0) in
-    let recur : Recur rate p.pcr_limit 0 (places (entries_from f.clock_pid 0 whole.begun.before ++ entries_from f.clock_pid (length whole.begun.before) rest)) (188 * slots) =
+    subst (λ (es : List Entry). AreClocks rate base0 f.clock_pid es) split
+    (subst (λ (q : ℕ). AreClocks rate base0 q (entries_from q 0 (cut_packets bytes))) (sym same) both.0) in
+    let recur : Recur rate p.pcr_limit 0 (places (entries_from f.clock_pid 0 whole.begun.before ++ entries_from f.clock_pid (length whole.begun.before) rest))
+    (188 * slots) =
     subst (λ (es : List Entry). Recur rate p.pcr_limit 0 (places es) (188 * slots)) split
     (subst (λ (q : ℕ). Recur rate p.pcr_limit 0 (places (entries_from q 0 (cut_packets bytes))) (188 * slots)) (sym same) both.1) in
     elim (seen_or_none rate base0 f nothing_known whole.begun.before viewed.arrival (omega (arith, v.lengths, few))
@@ -165,9 +184,12 @@ has_clock d units slots request e k ranges promised kept few viewed clock whole 
       | inl seen ↦ seen
       | inr none ↦
           let later : Recur rate p.pcr_limit 0 (places (entries_from f.clock_pid (length whole.begun.before) rest)) (188 * slots) =
-          subst (λ (es : List Entry). Recur rate p.pcr_limit 0 (places (es ++ entries_from f.clock_pid (length whole.begun.before) rest)) (188 * slots)) none recur in
-          absurd (none_within rate p.pcr_limit slots (length whole.begun.before) (entries_from f.clock_pid (length whole.begun.before) rest) (none_before f.clock_pid (length whole.begun.before) rest) (omega (arith, v.lengths))
-          (program_range d.description clock.0 p ranges clock.2).most_limit ranges.least_rate (after_second d units slots request e k ranges promised kept few viewed whole first late) later)
+          subst (λ (es : List Entry). Recur rate p.pcr_limit 0 (places (es ++ entries_from f.clock_pid (length whole.begun.before) rest)) (188 * slots)) none
+          recur in
+          absurd (none_within rate p.pcr_limit slots (length whole.begun.before) (entries_from f.clock_pid (length whole.begun.before) rest)
+          (none_before f.clock_pid (length whole.begun.before) rest) (omega (arith, v.lengths))
+          (program_range d.description clock.0 p ranges clock.2).most_limit ranges.least_rate
+          (after_second d units slots request e k ranges promised kept few viewed whole first late) later)
     ]
 
 pub run_late_as_measured_law : RunLateAsMeasuredLaw
@@ -176,7 +198,8 @@ run_late_as_measured_law d units slots request e k ranges promised kept few view
     let before = has_clock d units slots request e k ranges promised kept few viewed clock whole first late in
     let f : Followed = followed request e in
     let with_first : HasClock request e (whole.begun.before ++ whole.begun.first ∷ []) =
-    ap (λ (b : Before). is_some b.clock) (known_two f nothing_known whole.begun.before (whole.begun.first ∷ [])) ∙ stays_some f (known_after_all f nothing_known whole.begun.before) (whole.begun.first ∷ []) before in
+    ap (λ (b : Before). is_some b.clock) (known_two f nothing_known whole.begun.before (whole.begun.first ∷ []))
+    ∙ stays_some f (known_after_all f nothing_known whole.begun.before) (whole.begun.first ∷ []) before in
     run_as_measured_law d units slots request e k ranges promised kept few viewed whole first with_first
 
 pub job_late_as_measured_law : JobLateAsMeasuredLaw

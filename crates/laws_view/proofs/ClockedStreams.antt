@@ -42,7 +42,8 @@ pub record Like (s s' : ViewState) : Type 0 where
   pub named : s'.seen.named ≡ s.seen.named
   pub table : s'.table ≡ s.table
 
-like_sound : (s s' : ViewState) (o : Option PacketView) (bytes : List ℕ) → Like s s' → Like (finished (after_sound s o) bytes) (finished (after_sound s' o) bytes)
+like_sound : (s s' : ViewState) (o : Option PacketView) (bytes : List ℕ) → Like s s' →
+    Like (finished (after_sound s o) bytes) (finished (after_sound s' o) bytes)
 unfolding after_sound
 like_sound s s' None bytes l = record {
   options = l.options;
@@ -75,7 +76,8 @@ all_options s (bytes ∷ packets) = all_options (views.after_packet s bytes) pac
 -- ---- packets that arrive so, all at once and one by one
 
 -- what is said twice of an arrival is said
-pub again : (o : ViewOptions) (arrival : Arrival) → (arrival ≡ Unknown → o.arrival ≡ Unknown) → with_arrival (with_arrival o arrival) arrival ≡ with_arrival o arrival
+pub again : (o : ViewOptions) (arrival : Arrival) → (arrival ≡ Unknown → o.arrival ≡ Unknown) →
+    with_arrival (with_arrival o arrival) arrival ≡ with_arrival o arrival
 unfolding origin_after origin_on
 again o Unknown unknown = rw (unknown refl) refl
 again o (AtRate rate) unknown = refl
@@ -94,9 +96,11 @@ each_more s s' arrival (bytes ∷ packets) l set =
       table = l.table;
     } in
     let stays = ap (λ (o : ViewOptions). with_arrival o arrival) (packet_options s bytes) ∙ set ∙ sym (packet_options s bytes) in
-    each_more (views.after_packet s bytes) (views.after_packet (views.arriving s' arrival 1) bytes) arrival packets (like_packet s (views.arriving s' arrival 1) bytes ready) stays
+    each_more (views.after_packet s bytes) (views.after_packet (views.arriving s' arrival 1) bytes) arrival packets
+    (like_packet s (views.arriving s' arrival 1) bytes ready) stays
 
-pub each_so : (v v' : ViewState) (arrival : Arrival) (n : ℕ) (held : List (List ℕ)) → (held ≡ [] → ⊥) → Like v v' → (arrival ≡ Unknown → v.seen.options.arrival ≡ Unknown) →
+pub each_so : (v v' : ViewState) (arrival : Arrival) (n : ℕ) (held : List (List ℕ)) → (held ≡ [] → ⊥) → Like v v' →
+    (arrival ≡ Unknown → v.seen.options.arrival ≡ Unknown) →
     Like (views.after_all (views.arriving v arrival n) held) (view_by v' (timed.arriving_so arrival held))
 unfolding views.after_all view_by
 each_so v v' arrival n [] some l unknown = absurd (some refl)
@@ -110,7 +114,8 @@ each_so v v' arrival n (bytes ∷ packets) some l unknown =
       named = l.named;
       table = l.table;
     } in
-    let stays = ap (λ (o : ViewOptions). with_arrival o arrival) (packet_options s bytes) ∙ again v.seen.options arrival unknown ∙ sym (packet_options s bytes) in
+    let stays = ap (λ (o : ViewOptions). with_arrival o arrival) (packet_options s bytes) ∙ again v.seen.options arrival unknown
+    ∙ sym (packet_options s bytes) in
     each_more (views.after_packet s bytes) (views.after_packet s' bytes) arrival packets (like_packet s s' bytes ready) stays
 
 pub view_two : (s : ViewState) (ps qs : List Timed) → view_by s (ps ++ qs) ≡ view_by (view_by s ps) qs
@@ -149,11 +154,13 @@ Untold q v = q.before ≡ None → v.seen.options.arrival ≡ Unknown
 -- what is so at the end
 abbrev Ends : QueueState → List (List ℕ) → Type 0
 Ends q packets = (v v' : ViewState) (first here : ℕ) → Waits q first here → Untold q v → (q.held ≡ [] → ⊥) → Like v v' →
-    Like (last_view (clocked.after_all (record { view = v; queue = Some q }) packets).view (clocked.after_all (record { view = v; queue = Some q }) packets).queue)
+    Like (last_view (clocked.after_all (record { view = v; queue = Some q }) packets).view
+    (clocked.after_all (record { view = v; queue = Some q }) packets).queue)
     (view_by v' (timed_from q packets))
 
 -- a packet more: those that wait go on waiting, or arrive
-one_view : (q : QueueState) (bytes : List ℕ) (packets : List (List ℕ)) → Ends (with_one q bytes) packets → (v v' : ViewState) (first here : ℕ) → Waits q first here → Untold q v →
+one_view : (q : QueueState) (bytes : List ℕ) (packets : List (List ℕ)) → Ends (with_one q bytes) packets → (v v' : ViewState) (first here : ℕ) →
+    Waits q first here → Untold q v →
     (q.held ≡ [] → ⊥) → Like v v' → (b : Bool) → still_wait q (reference_in q bytes) ≡ b →
     Like
     (last_view (clocked.after_all (record { view = view_after v (stepped q bytes) (released q bytes); queue = Some (with_one q bytes) }) packets).view
@@ -168,7 +175,8 @@ one_view q bytes packets later v v' first here w untold some l true h =
     (last_view (clocked.after_all (record { view = view_after v (stepped q bytes) o; queue = Some (with_one q bytes) }) packets).view
     (clocked.after_all (record { view = view_after v (stepped q bytes) o; queue = Some (with_one q bytes) }) packets).queue)
     (view_by v' (arrived o q.held ++ timed_from (with_one q bytes) packets))) (sym none)
-    (later v v' first (here + 1) (one_waits q bytes first here w c h) (λ e. untold (sym then_before ∙ e)) (not_empty (waiting (released q bytes) q.held) bytes) l)
+    (later v v' first (here + 1) (one_waits q bytes first here w c h) (λ e. untold (sym then_before ∙ e)) (not_empty (waiting (released q bytes) q.held) bytes)
+    l)
 one_view q bytes packets later v v' first here w untold some l false h =
     let c : Comes q (reference_in q bytes) first here = comes_with q bytes first here w in
     let line : Option Line = (clock_by q (reference_in q bytes)).line in
@@ -220,7 +228,8 @@ first_view pid v bytes packets unknown =
     let none : released q bytes ≡ None = rw h refl in
     let c : Comes q (reference_in q bytes) 0 0 = comes_with q bytes 0 0 (waits_first pid) in
     let itself : Like v v = record { options = refl; packets = refl; clocks = refl; named = refl; table = refl } in
-    let rest = end_of packets (with_one q bytes) v v 0 (0 + 1) (one_waits q bytes 0 0 (waits_first pid) c h) (λ e. unknown) (not_empty (waiting (released q bytes) q.held) bytes) itself in
+    let rest = end_of packets (with_one q bytes) v v 0 (0 + 1) (one_waits q bytes 0 0 (waits_first pid) c h) (λ e. unknown)
+    (not_empty (waiting (released q bytes) q.held) bytes) itself in
     subst (λ (x : QueueState). Like
     (last_view (clocked.after_all (record { view = view_after v (stepped q bytes) (released q bytes); queue = Some x }) packets).view
     (clocked.after_all (record { view = view_after v (stepped q bytes) (released q bytes); queue = Some x }) packets).queue)
@@ -243,7 +252,8 @@ StepsTick p = step_of p.arrival ≡ byte_ticks_at_1bps
 
 so_step : (arrival : Arrival) (packets : List (List ℕ)) → step_of arrival ≡ byte_ticks_at_1bps → All StepsTick (timed.arriving_so arrival packets)
 so_step arrival [] e = All-nil StepsTick
-so_step arrival (bytes ∷ packets) e = All-cons StepsTick (record { arrival = arrival; bytes = bytes }) (timed.arriving_so arrival packets) e (so_step arrival packets e)
+so_step arrival (bytes ∷ packets) e =
+    All-cons StepsTick (record { arrival = arrival; bytes = bytes }) (timed.arriving_so arrival packets) e (so_step arrival packets e)
 
 arrived_step : (q : QueueState) (bytes : List ℕ) (b : Bool) → still_wait q (reference_in q bytes) ≡ b → All StepsTick (arrived (released q bytes) q.held)
 unfolding arrived
@@ -256,7 +266,8 @@ pub all_step : (q : QueueState) (packets : List (List ℕ)) → All StepsTick (t
 unfolding timed_from
 all_step q [] = so_step (last_arrival q) q.held (line_step q.before q.clock.line)
 all_step q (bytes ∷ packets) =
-    All-append StepsTick (arrived (released q bytes) q.held) (timed_from (with_one q bytes) packets) (arrived_step q bytes (still_wait q (reference_in q bytes)) refl)
+    All-append StepsTick (arrived (released q bytes) q.held) (timed_from (with_one q bytes) packets)
+    (arrived_step q bytes (still_wait q (reference_in q bytes)) refl)
     (all_step (with_one q bytes) packets)
 
 -- ---- each stream of the report
@@ -264,7 +275,8 @@ all_step q (bytes ∷ packets) =
 pub once : (pid : ClockPid) (packets : List (List ℕ)) → length (timed_packets pid packets) ≡ length packets
 once pid packets = sym (length-map (timed_packets pid packets) (λ p. p.bytes)) ∙ ap (λ (l : List (List ℕ)). length l) (each_once pid packets)
 
-pub clocked_order : (pid : ClockPid) (packets : List (List ℕ)) → All (λ bytes. length bytes ≡ 188) packets → InOrder byte_ticks_at_1bps (timed_packets pid packets)
+pub clocked_order : (pid : ClockPid) (packets : List (List ℕ)) → All (λ bytes. length bytes ≡ 188) packets →
+    InOrder byte_ticks_at_1bps (timed_packets pid packets)
 clocked_order pid packets whole = record {
   rises = λ chosen drain. rises_law pid packets chosen drain;
   leads = lead_law pid packets whole;
@@ -276,8 +288,11 @@ unfolding queue_of clocked.after_all last_view views.after_all timed_from view_b
 clocked_stream_law request packets place e unknown whole few there =
     let pid : ClockPid = clock_for request.choice.programs in
     let start_is : clocked.start request ≡ record { view = views.start request; queue = Some (no_packet pid) } = rw unknown refl in
-    let at_end = subst (λ (s : ClockedState). slice_get (last_view (clocked.after_all s packets).view (clocked.after_all s packets).queue).table.entries place ≡ Some e) start_is there in
-    timed_stream_law request byte_ticks_at_1bps (timed_packets pid packets) place e (omega arith) (clocked_order pid packets whole) (omega (arith, few, once pid packets)) (in_view pid packets at_end)
+    let at_end = subst
+    (λ (s : ClockedState). slice_get (last_view (clocked.after_all s packets).view (clocked.after_all s packets).queue).table.entries place ≡ Some e)
+    start_is there in
+    timed_stream_law request byte_ticks_at_1bps (timed_packets pid packets) place e (omega arith) (clocked_order pid packets whole)
+    (omega (arith, few, once pid packets)) (in_view pid packets at_end)
   where
     in_view : (pid : ClockPid) (packets : List (List ℕ)) →
         slice_get (last_view (clocked.after_all (record { view = views.start request; queue = Some (no_packet pid) }) packets).view

@@ -17,7 +17,8 @@ use Rattle.ts_report.specs.Views.{ViewState}
 use Rattle.ts_report.specs.Views as views
 use Rattle.laws_view.specs.ClockedWindows.{ClockedTablesLaw, last_tables, tables_after, tables_all, tables_in, tables_released}
 use Rattle.laws_view.specs.TimedStreams.{view_by}
-use Rattle.laws_view.proofs.ClockedStreams.{Like, Untold, again, all_options, each_so, first_waits, like_packet, no_line, not_empty, packet_options, queue_is, unknown_line}
+use Rattle.laws_view.proofs.ClockedStreams.{Like, Untold, again, all_options, each_so, first_waits, like_packet, no_line, not_empty, packet_options, queue_is}
+use Rattle.laws_view.proofs.ClockedStreams.{unknown_line}
 
 -- ---- packets one by one
 
@@ -56,7 +57,8 @@ more_tables s s' arrival (bytes ∷ packets) l set =
     let now : Like (views.after_packet s bytes) (views.after_packet r bytes) = like_packet s r bytes ready in
     let stays = ap (λ (o : ViewOptions). with_arrival o arrival) (packet_options s bytes) ∙ set ∙ sym (packet_options s bytes) in
     ap (λ (t : TableState). t ∷ tables_after (views.after_packet s bytes) packets) (sym now.table)
-    ∙ ap (λ (l : List TableState). (views.after_packet r bytes).table ∷ l) (more_tables (views.after_packet s bytes) (views.after_packet r bytes) arrival packets now stays)
+    ∙ ap (λ (l : List TableState). (views.after_packet r bytes).table ∷ l)
+    (more_tables (views.after_packet s bytes) (views.after_packet r bytes) arrival packets now stays)
 
 so_tables : (v v' : ViewState) (arrival : Arrival) (n : ℕ) (held : List (List ℕ)) → Like v v' → (arrival ≡ Unknown → v.seen.options.arrival ≡ Unknown) →
     tables_after (views.arriving v arrival n) held ≡ tables_by v' (arriving_so arrival held)
@@ -73,9 +75,11 @@ so_tables v v' arrival n (bytes ∷ packets) l unknown =
       table = l.table;
     } in
     let now : Like (views.after_packet s bytes) (views.after_packet s' bytes) = like_packet s s' bytes ready in
-    let stays = ap (λ (o : ViewOptions). with_arrival o arrival) (packet_options s bytes) ∙ again v.seen.options arrival unknown ∙ sym (packet_options s bytes) in
+    let stays = ap (λ (o : ViewOptions). with_arrival o arrival) (packet_options s bytes) ∙ again v.seen.options arrival unknown
+    ∙ sym (packet_options s bytes) in
     ap (λ (t : TableState). t ∷ tables_after (views.after_packet s bytes) packets) (sym now.table)
-    ∙ ap (λ (l : List TableState). (views.after_packet s' bytes).table ∷ l) (more_tables (views.after_packet s bytes) (views.after_packet s' bytes) arrival packets now stays)
+    ∙ ap (λ (l : List TableState). (views.after_packet s' bytes).table ∷ l)
+    (more_tables (views.after_packet s bytes) (views.after_packet s' bytes) arrival packets now stays)
 
 -- ---- packet by packet
 
@@ -84,7 +88,8 @@ Tells q packets = (v v' : ViewState) (first here : ℕ) → Waits q first here �
     tables_all (record { view = v; queue = Some q }) packets ≡ tables_by v' (timed_from q packets)
 
 -- a packet more: those that wait go on waiting, or arrive
-one_tables : (q : QueueState) (bytes : List ℕ) (packets : List (List ℕ)) → Tells (with_one q bytes) packets → (v v' : ViewState) (first here : ℕ) → Waits q first here → Untold q v →
+one_tables : (q : QueueState) (bytes : List ℕ) (packets : List (List ℕ)) → Tells (with_one q bytes) packets → (v v' : ViewState) (first here : ℕ) →
+    Waits q first here → Untold q v →
     (q.held ≡ [] → ⊥) → Like v v' → (b : Bool) → still_wait q (reference_in q bytes) ≡ b →
     tables_released v (stepped q bytes) (released q bytes)
     ++ tables_all (record { view = view_after v (stepped q bytes) (released q bytes); queue = Some (with_one q bytes) }) packets
@@ -97,7 +102,8 @@ one_tables q bytes packets later v v' first here w untold some l true h =
     subst (λ (o : Option Arrival).
     tables_released v (stepped q bytes) o ++ tables_all (record { view = view_after v (stepped q bytes) o; queue = Some (with_one q bytes) }) packets
     ≡ tables_by v' (arrived o q.held ++ timed_from (with_one q bytes) packets)) (sym none)
-    (later v v' first (here + 1) (one_waits q bytes first here w c h) (λ e. untold (sym then_before ∙ e)) (not_empty (waiting (released q bytes) q.held) bytes) l)
+    (later v v' first (here + 1) (one_waits q bytes first here w c h) (λ e. untold (sym then_before ∙ e)) (not_empty (waiting (released q bytes) q.held) bytes)
+    l)
 one_tables q bytes packets later v v' first here w untold some l false h =
     let c : Comes q (reference_in q bytes) first here = comes_with q bytes first here w in
     let line : Option Line = (clock_by q (reference_in q bytes)).line in
@@ -142,7 +148,8 @@ first_tables pid v (bytes ∷ packets) unknown =
     let none : released q bytes ≡ None = rw h refl in
     let c : Comes q (reference_in q bytes) 0 0 = comes_with q bytes 0 0 (waits_first pid) in
     let itself : Like v v = record { options = refl; packets = refl; clocks = refl; named = refl; table = refl } in
-    let rest = tell packets (with_one q bytes) v v 0 (0 + 1) (one_waits q bytes 0 0 (waits_first pid) c h) (λ e. unknown) (not_empty (waiting (released q bytes) q.held) bytes) itself in
+    let rest = tell packets (with_one q bytes) v v 0 (0 + 1) (one_waits q bytes 0 0 (waits_first pid) c h) (λ e. unknown)
+    (not_empty (waiting (released q bytes) q.held) bytes) itself in
     subst (λ (x : QueueState).
     tables_released v (stepped q bytes) (released q bytes)
     ++ tables_all (record { view = view_after v (stepped q bytes) (released q bytes); queue = Some x }) packets

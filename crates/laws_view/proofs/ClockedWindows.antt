@@ -34,7 +34,8 @@ record InView (request : RequestView) (packets : List (List ℕ)) (before now la
 
 table_is : (request : RequestView) (packets : List (List ℕ)) (before later : List Timed) (t : TableState) → request.options.arrival ≡ Unknown →
     timed_in request packets ≡ before ++ later → slice_get (report_tables request packets) (length before) ≡ Some t → (view_by (start request) before).table ≡ t
-table_is request packets before later t unknown is at = some_is (view_by (start request) before).table t (sym (clocked_tables_law request packets before later unknown is) ∙ at)
+table_is request packets before later t unknown is at =
+    some_is (view_by (start request) before).table t (sym (clocked_tables_law request packets before later unknown is) ∙ at)
 
 in_view : (request : RequestView) (packets : List (List ℕ)) (before now later : List Timed) (place : ℕ) (t t' : TableState) (o o' : Option EntryState) →
     request.options.arrival ≡ Unknown → timed_in request packets ≡ before ++ (now ++ later) →
@@ -55,7 +56,8 @@ of_window : (request : RequestView) (packets : List (List ℕ)) (before now late
     OfClockedWindow request packets before now later window place e e' → OfWindow request before now window place e e' × (0 < e.held.rate)
 of_window request packets before now later window place e e' w =
     let v = in_view request packets before now later place w.t w.t' (Some e) (Some e') w.unknown w.split w.before_it w.begun w.after_it w.come in
-    let step : e.held.rate ≡ byte_ticks_at_1bps = step_is request byte_ticks_at_1bps before place e (first_all StepsTick before now v.steps) (omega (arith, v.many, w.few)) v.there in (
+    let step : e.held.rate ≡ byte_ticks_at_1bps =
+    step_is request byte_ticks_at_1bps before place e (first_all StepsTick before now v.steps) (omega (arith, v.many, w.few)) v.there in (
       record { few = omega (arith, v.many, w.few); begun = v.there; come = v.then_there; other = w.other; all = w.all },
       omega (arith, step),
     )
@@ -73,7 +75,8 @@ clocked_high_law request packets before now later window place e e' w has =
 pub clocked_first_law : ClockedFirstLaw
 clocked_first_law request packets before now later window place t t' e unknown few is at_t there at_t' later_there all =
     let v = in_view request packets before now later place t t' None (Some e) unknown is at_t there at_t' later_there in
-    let step : e.held.rate ≡ byte_ticks_at_1bps = step_is request byte_ticks_at_1bps (before ++ now) place e v.steps (omega (arith, v.many, few, length-append before now)) v.then_there in
+    let step : e.held.rate ≡ byte_ticks_at_1bps =
+    step_is request byte_ticks_at_1bps (before ++ now) place e v.steps (omega (arith, v.many, few, length-append before now)) v.then_there in
     first_high_law request before now window place e (omega (arith, v.many, few)) v.there v.then_there all (omega (arith, step))
 
 pub clocked_transport_law : ClockedTransportLaw
@@ -81,5 +84,6 @@ clocked_transport_law request packets before now later window place e e' w told 
     let split : timed_in request packets ≡ (before ++ now) ++ later = w.split ∙ sym (append_assoc before now later) in
     let order : InOrder byte_ticks_at_1bps ((before ++ now) ++ later) =
     subst (λ (l : List Timed). InOrder byte_ticks_at_1bps l) split (clocked_order (clock_for request.choice.programs) packets whole) in
-    ordered_transport request byte_ticks_at_1bps before now window place e e' (of_window request packets before now later window place e e' w).0 told (omega arith)
+    ordered_transport request byte_ticks_at_1bps before now window place e e' (of_window request packets before now later window place e e' w).0 told
+    (omega arith)
     (first_in_order byte_ticks_at_1bps (before ++ now) later order) few some

@@ -45,7 +45,8 @@ tick_is rate base0 clock u goes =
 units_same : (y : ℕ) → ((300 * y + 215999999) / 216000000 ≡ (y + 719999) / 720000) × (300 * y / 216000000 ≡ y / 720000)
 units_same y = (omega arith, omega arith)
 
-pub due_by_clock : (rate rx base0 : ℕ) (clock : PcrSample) (u : AccessUnit) → GoesBy rate base0 clock u → due_at rate rx clock (on_wire (u.dts + base0)) ≡ due_time rate rx u.dts
+pub due_by_clock : (rate rx base0 : ℕ) (clock : PcrSample) (u : AccessUnit) → GoesBy rate base0 clock u →
+    due_at rate rx clock (on_wire (u.dts + base0)) ≡ due_time rate rx u.dts
 due_by_clock rate rx base0 clock u goes =
     let due : due_tick rate clock (on_wire (u.dts + base0)) ≡ 300 * u.dts = tick_is rate base0 clock u goes in
     let parts : 300 * u.dts * (rate * rx) ≡ 300 * (u.dts * rate * rx) = omega arith in

@@ -1,5 +1,6 @@
 -- Packets that enter buffers at a constant rate: when their bytes arrive.
-use Rattle.std.proofs.Common.{◌≡◌, ◌∙◌, sym, ℕ, suc, ◌+◌, ◌-◌, ◌*◌, ◌^◌, ◌≤◌, ◌<◌, ◌&&◌, nat_le, nat_lt, Bool, true, false, List, [], ◌∷◌, ◌++◌, length, Option, Some, None, if◌then◌else◌, refl, ap, subst, inl, inr, arith}
+use Rattle.std.proofs.Common.{◌≡◌, ◌∙◌, sym, ℕ, suc, ◌+◌, ◌-◌, ◌*◌, ◌^◌, ◌≤◌, ◌<◌, ◌&&◌, nat_le, nat_lt, Bool, true, false, List, [], ◌∷◌, ◌++◌, length, Option}
+use Rattle.std.proofs.Common.{Some, None, if◌then◌else◌, refl, ap, subst, inl, inr, arith}
 use Rattle.std.proofs.lemmas.Bool.Decides.{eqb_tells, nat_tests}
 use Rattle.std.proofs.lemmas.List.{append_assoc, append-nil}
 use Rattle.clock27.specs.Arrival.{bytes_from}
@@ -11,7 +12,8 @@ use Rattle.tstd_rows.specs.History.{arrivals_of}
 use Rattle.tstd_rows.specs.declared.unit_seen.DueTime.{DueTime}
 use Rattle.tstd_rows.specs.declared.arriving.Arriving.{Arriving}
 use Rattle.tstd_rows.specs.Held.{Held, carried, passed}
-use Rattle.tstd_rows.specs.Entering.{after, after_begin, after_bytes, after_header, after_lead, after_payload, after_unit, lead_in, size_of, takes_in, with_packet}
+use Rattle.tstd_rows.specs.Entering.{after, after_begin, after_bytes, after_header, after_lead, after_payload, after_unit, lead_in, size_of, takes_in}
+use Rattle.tstd_rows.specs.Entering.{with_packet}
 use Rattle.laws_view.specs.StreamPackets.{most_packets}
 
 -- what does not change
@@ -37,7 +39,8 @@ enters_arrives h false times = record { alike = record { rate = refl; rx = refl;
 pub payload_arrives : (h : Held) (enters : Bool) (n : ℕ) (times : List ℕ) → length times ≡ n → Arrives h (after_payload h enters n times) times
 unfolding after_payload
 payload_arrives h enters n times e = elim (eqb_tells n 0) [
-  | inl none ↦ rw (none.0, no_times times (e ∙ none.1)) (record { alike = record { rate = refl; rx = refl; size = refl }; arrivals = sym (append-nil (arrivals_of h.parts)) })
+  | inl none ↦ rw (none.0, no_times times (e ∙ none.1))
+      (record { alike = record { rate = refl; rx = refl; size = refl }; arrivals = sym (append-nil (arrivals_of h.parts)) })
   | inr some ↦ rw some.0 (enters_arrives h enters times)
 ]
 
@@ -70,7 +73,8 @@ three_rows r i lead size le =
 pub bytes_arrive : (h : Held) (rate rx : ℕ) (enters : Bool) (i n : ℕ) → h.rx ≡ rx → Arrives h (after_bytes h (AtRate rate) enters i n) (bytes_from rx i n)
 unfolding times_at
 bytes_arrive h rate rx enters i n e =
-    subst (λ (r : ℕ). Arrives h (after_bytes h (AtRate rate) enters i n) (bytes_from r i n)) e (payload_arrives h enters n (bytes_from h.rx i n) (length-row h.rx i n))
+    subst (λ (r : ℕ). Arrives h (after_bytes h (AtRate rate) enters i n) (bytes_from r i n)) e
+    (payload_arrives h enters n (bytes_from h.rx i n) (length-row h.rx i n))
 
 with_parts : (h : Held) (rate : ℕ) (p : Arriving) (size lead : ℕ) → lead + size ≤ 188 →
     Arrives h (with_packet h (AtRate rate) p size lead) (bytes_from h.rx (188 * p.index) 188)
@@ -88,7 +92,8 @@ with_parts h rate p size lead le =
     let all = arrives_trans h a d _ _ first (arrives_trans a b d _ _ second (arrives_trans b c d _ _ third fourth)) in
     rw (three_rows h.rx (188 * p.index) lead size le) at all
 
-pub packet_arrives : (h : Held) (rate : ℕ) (p : Arriving) → takes_in h (AtRate rate) p ≡ true → Arrives h (after h (AtRate rate) p) (bytes_from h.rx (188 * p.index) 188)
+pub packet_arrives : (h : Held) (rate : ℕ) (p : Arriving) → takes_in h (AtRate rate) p ≡ true →
+    Arrives h (after h (AtRate rate) p) (bytes_from h.rx (188 * p.index) 188)
 unfolding after
 packet_arrives h rate p e =
     rw e (with_parts h rate p (size_of p) (lead_in (AtRate rate) p) (omega arith))
@@ -97,7 +102,8 @@ packet_arrives h rate p e =
 pub taken_in : (h : Held) (rate : ℕ) (p : Arriving) → p.index < most_packets → length (arrivals_of h.parts) ≤ 188 * p.index → takes_in h (AtRate rate) p ≡ true
 unfolding has_times
 taken_in h rate p early few =
-    by_tests p.index most_packets (0 + length (arrivals_of h.parts)) (2 ^ 40 - 188) (188 * p.index + 188) (2 ^ 40) early (omega (arith, early, few)) (omega (arith, early))
+    by_tests p.index most_packets (0 + length (arrivals_of h.parts)) (2 ^ 40 - 188) (188 * p.index + 188) (2 ^ 40) early (omega (arith, early, few))
+    (omega (arith, early))
   where
     by_tests : (a b c d e f : ℕ) → a < b → c ≤ d → e ≤ f → (nat_lt a b && nat_le c d && nat_le e f) ≡ true
     by_tests a b c d e f lt le le' = grind (arith, nat_tests)

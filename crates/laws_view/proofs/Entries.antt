@@ -1,5 +1,6 @@
 -- The streams whose buffers have begun, packet by packet: each has one entry, and each packet of its PID enters it.
-use Rattle.std.proofs.Common.{◌≡◌, ◌∙◌, sym, ℕ, ◌⊎◌, ◌&&◌, not, is_some, Bool, true, false, [], ◌∷◌, ◌++◌, length, Option, Some, None, if◌then◌else◌, refl, ap, inl, inr, nat_eq}
+use Rattle.std.proofs.Common.{◌≡◌, ◌∙◌, sym, ℕ, ◌⊎◌, ◌&&◌, not, is_some, Bool, true, false, [], ◌∷◌, ◌++◌, length, Option, Some, None, if◌then◌else◌, refl, ap}
+use Rattle.std.proofs.Common.{inl, inr, nat_eq}
 use Rattle.std.specs.Prelude.{set, slice_get}
 use Rattle.std.specs.Map.{lookup}
 use Rattle.std.proofs.lemmas.Bool.Decides.{eqb_tells}
@@ -11,7 +12,8 @@ use Rattle.es_view.specs.declared.view_options.ViewOptions.{ViewOptions}
 use Rattle.ts_watch.specs.Choices.{chosen}
 use Rattle.es_view.specs.Clocks.{ClockEntries}
 use Rattle.es_view.specs.Entries.{EntryState}
-use Rattle.ts_report.specs.StreamTables.{TableState, beginning, begun, begun_if, entry_taken, new_entry, stream_buffers, stream_frames, stream_limit, stream_rates, taken, taken_at, taken_if, with_entry}
+use Rattle.ts_report.specs.StreamTables.{TableState, beginning, begun, begun_if, entry_taken, new_entry, stream_buffers, stream_frames, stream_limit}
+use Rattle.ts_report.specs.StreamTables.{stream_rates, taken, taken_at, taken_if, with_entry}
 use Rattle.laws_view.proofs.Lists.{get_either, get_first, get_last, lookup_other, lookup_same, set_other, set_same, some_is}
 
 -- the place of a PID is that of its entry, and the entry of a place is of the PID that has it
@@ -28,10 +30,12 @@ with_entry_agrees t pid e agree is new = record { at = there; of = placed }
     many : ℕ
     many = length t.entries
 
-    there : (q j : ℕ) → lookup (nat_eq q) (insert_entry nat_eq t.places pid many) ≡ Some j → (d : EntryState) × ((slice_get (t.entries ++ e ∷ []) j ≡ Some d) × (d.pid ≡ q))
+    there : (q j : ℕ) → lookup (nat_eq q) (insert_entry nat_eq t.places pid many) ≡ Some j →
+        (d : EntryState) × ((slice_get (t.entries ++ e ∷ []) j ≡ Some d) × (d.pid ≡ q))
     there q j h = elim (eqb_tells pid q) [
       | inl same ↦
-          let found : Some many ≡ Some j = sym (lookup_same t.places pid many) ∙ ap (λ (p : ℕ). lookup (nat_eq p) (insert_entry nat_eq t.places pid many)) same.1 ∙ h in
+          let found : Some many ≡ Some j =
+          sym (lookup_same t.places pid many) ∙ ap (λ (p : ℕ). lookup (nat_eq p) (insert_entry nat_eq t.places pid many)) same.1 ∙ h in
           (e, (ap (λ (i : ℕ). slice_get (t.entries ++ e ∷ []) i) (sym (some_is many j found)) ∙ get_last t.entries e, is ∙ same.1))
       | inr other ↦
           let old = agree.at q j (sym (lookup_other t.places pid q many other.1) ∙ h) in
@@ -53,7 +57,8 @@ with_entry_agrees t pid e agree is new = record { at = there; of = placed }
 pub new_place : (named : NamedView) (t : TableState) (packet : PacketView) (stream : FoundStreamView) → beginning named t packet ≡ Some stream →
     lookup (nat_eq packet.header.pid) t.places ≡ None
 new_place named t packet stream h =
-    none_if packet.header.payload_unit_start_indicator (lookup (nat_eq packet.header.pid) t.places) (chosen t.choice (stream_of named packet.header.pid)) stream h
+    none_if packet.header.payload_unit_start_indicator (lookup (nat_eq packet.header.pid) t.places) (chosen t.choice (stream_of named packet.header.pid)) stream
+    h
   where
     none_if : (a : Bool) (o : Option ℕ) (c : Option FoundStreamView) (s : FoundStreamView) → (if a && not (is_some o) then c else None) ≡ Some s → o ≡ None
     none_if a None c s h = refl
@@ -62,7 +67,8 @@ new_place named t packet stream h =
 
 -- the entry of a stream that begins
 abbrev pub entry_begun : ViewOptions → NamedView → TableState → PacketView → FoundStreamView → EntryState
-entry_begun options named t packet stream = new_entry options packet.header.pid (program_clock named stream.program) (stream_buffers t stream packet) (stream_rates t stream packet)
+entry_begun options named t packet stream =
+    new_entry options packet.header.pid (program_clock named stream.program) (stream_buffers t stream packet) (stream_rates t stream packet)
     (stream_frames t stream packet) (stream_limit stream)
 
 pub begun_agrees : (options : ViewOptions) (named : NamedView) (t : TableState) (packet : PacketView) → Agree t → Agree (begun options named t packet)
@@ -112,8 +118,14 @@ set_agrees t place e e' agree here same = record { at = there; of = placed }
     there q j h = elim (eqb_tells place j) [
       | inl is ↦
           let old = agree.at q j h in
-          let e_is : e ≡ old.0 = some_is e old.0 (sym here ∙ ap (λ (i : ℕ). slice_get t.entries i) is.1 ∙ old.1.0) in
-          (e', (ap (λ (i : ℕ). slice_get (set t.entries place e') i) (sym is.1) ∙ set_same t.entries place e e' here, same ∙ ap (λ (x : EntryState). x.pid) e_is ∙ old.1.1))
+          let e_is : e ≡ old.0 = some_is e old.0 (sym here ∙ ap (λ (i : ℕ). slice_get t.entries i) is.1 ∙ old.1.0) in (
+            e',
+            (
+              ap (λ (i : ℕ). slice_get (set t.entries place e') i) (sym is.1) ∙ set_same t.entries place e e' here,
+              same ∙ ap (λ (x : EntryState). x.pid) e_is
+                  ∙ old.1.1,
+            ),
+          )
       | inr other ↦
           let old = agree.at q j h in
           (old.0, (set_other t.entries place j e' other.1 ∙ old.1.0, old.1.1))
@@ -163,7 +175,8 @@ taken_entry options index window clocks t packet j e agree there = elim (eqb_tel
   | inr other ↦ rw other.0 (by other.1 (lookup (nat_eq packet.header.pid) t.places) refl)
 ]
   where
-    by : (e.pid ≡ packet.header.pid → ⊥) → (o : Option ℕ) → lookup (nat_eq packet.header.pid) t.places ≡ o → slice_get (taken options index window clocks t packet).entries j ≡ Some e
+    by : (e.pid ≡ packet.header.pid → ⊥) → (o : Option ℕ) → lookup (nat_eq packet.header.pid) t.places ≡ o →
+        slice_get (taken options index window clocks t packet).entries j ≡ Some e
     by f None h = rw (none_taken options index window clocks t packet h) there
     by f (Some place) h =
         let found = agree.at packet.header.pid place h in
@@ -173,12 +186,14 @@ taken_entry options index window clocks t packet j e agree there = elim (eqb_tel
         (set_other t.entries place j (entry_taken options index window clocks packet found.0) apart ∙ there)
 
 -- it begins no other
-pub taken_before : (options : ViewOptions) (index window : ℕ) (clocks : ClockEntries) (t : TableState) (packet : PacketView) (j : ℕ) (e' : EntryState) → Agree t →
+pub taken_before : (options : ViewOptions) (index window : ℕ) (clocks : ClockEntries) (t : TableState) (packet : PacketView) (j : ℕ) (e' : EntryState) →
+    Agree t →
     slice_get (taken options index window clocks t packet).entries j ≡ Some e' →
     (e : EntryState) × ((slice_get t.entries j ≡ Some e) × (e' ≡ entry_with options index window clocks e packet))
 taken_before options index window clocks t packet j e' agree there = by (slice_get t.entries j) refl
   where
-    none_there : slice_get t.entries j ≡ None → (o : Option ℕ) → lookup (nat_eq packet.header.pid) t.places ≡ o → slice_get (taken options index window clocks t packet).entries j ≡ None
+    none_there : slice_get t.entries j ≡ None → (o : Option ℕ) → lookup (nat_eq packet.header.pid) t.places ≡ o →
+        slice_get (taken options index window clocks t packet).entries j ≡ None
     none_there none None h = rw (none_taken options index window clocks t packet h) none
     none_there none (Some place) h =
         let found = agree.at packet.header.pid place h in
@@ -186,6 +201,8 @@ taken_before options index window clocks t packet j e' agree there = by (slice_g
         rw (one_taken options index window clocks t packet place found.0 h found.1.0)
         (set_other t.entries place j (entry_taken options index window clocks packet found.0) apart ∙ none)
 
-    by : (o : Option EntryState) → slice_get t.entries j ≡ o → (e : EntryState) × ((slice_get t.entries j ≡ Some e) × (e' ≡ entry_with options index window clocks e packet))
+    by : (o : Option EntryState) → slice_get t.entries j ≡ o →
+        (e : EntryState) × ((slice_get t.entries j ≡ Some e) × (e' ≡ entry_with options index window clocks e packet))
     by None h = none_some e' (sym (none_there h (lookup (nat_eq packet.header.pid) t.places) refl) ∙ there)
-    by (Some e) h = (e, (h, some_is e' (entry_with options index window clocks e packet) (sym there ∙ taken_entry options index window clocks t packet j e agree h)))
+    by (Some e) h =
+        (e, (h, some_is e' (entry_with options index window clocks e packet) (sym there ∙ taken_entry options index window clocks t packet j e agree h)))

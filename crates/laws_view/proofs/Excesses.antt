@@ -1,5 +1,6 @@
 -- The excesses of a transport buffer that end with bytes in two parts, and how many there are.
-use Rattle.std.proofs.Common.{◌≡◌, ◌∙◌, sym, ℕ, ◌+◌, ◌≤◌, max, Bool, true, false, List, [], ◌∷◌, ◌++◌, length, Option, Some, None, if◌then◌else◌, refl, inl, inr, arith}
+use Rattle.std.proofs.Common.{◌≡◌, ◌∙◌, sym, ℕ, ◌+◌, ◌≤◌, max, Bool, true, false, List, [], ◌∷◌, ◌++◌, length, Option, Some, None, if◌then◌else◌, refl, inl}
+use Rattle.std.proofs.Common.{inr, arith}
 use Rattle.std.proofs.lemmas.Bool.Decides.{eqb_tells}
 use Rattle.std.specs.Option.{option_to_list}
 use Rattle.std.proofs.lemmas.List.{length-append}
@@ -39,7 +40,13 @@ unfolding excesses_ended
 few_ended step size prev under_way [] = omega arith
 few_ended step size prev under_way (t ∷ ts) =
     let rest = few_ended step size (max t prev + step) (after_byte step size prev under_way t) ts in
-    omega (arith, rest, one (is_over step size prev t) under_way, length-append (if is_over step size prev t then [] else option_to_list under_way) (excesses_ended step size (max t prev + step) (after_byte step size prev under_way t) ts))
+    omega (
+      arith,
+      rest,
+      one (is_over step size prev t) under_way,
+      length-append (if is_over step size prev t then [] else option_to_list under_way)
+          (excesses_ended step size (max t prev + step) (after_byte step size prev under_way t) ts),
+    )
   where
     one : (b : Bool) (o : Option Excess) → length (if b then [] else option_to_list o) ≤ 1
     one true o = omega arith

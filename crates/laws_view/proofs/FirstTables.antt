@@ -1,5 +1,6 @@
 -- The streams that the first slots of a run name: once each section of PAT and of the PMTs has begun twice, they are known.
-use Rattle.std.proofs.Common.{◌≡◌, ◌∙◌, ◌⊎◌, sym, ℕ, suc, ◌+◌, ◌*◌, ◌/◌, ◌-◌, ◌^◌, ◌≤◌, ◌<◌, ◌==◌, ◌||◌, is_some, Bool, true, false, List, [], ◌∷◌, ◌++◌, length, map, take, drop, Option, Some, None, Result, Ok, Err, if◌then◌else◌, refl, ap, subst, inl, inr, arith, All, append-nil}
+use Rattle.std.proofs.Common.{◌≡◌, ◌∙◌, ◌⊎◌, sym, ℕ, suc, ◌+◌, ◌*◌, ◌/◌, ◌-◌, ◌^◌, ◌≤◌, ◌<◌, ◌==◌, ◌||◌, is_some, Bool, true, false, List, [], ◌∷◌, ◌++◌}
+use Rattle.std.proofs.Common.{length, map, take, drop, Option, Some, None, Result, Ok, Err, if◌then◌else◌, refl, ap, subst, inl, inr, arith, All, append-nil}
 use Rattle.std.specs.Prelude.{reverse, slice_get}
 use Rattle.std.specs.List.{list_all}
 use Rattle.std.specs.Option.{option_or, option_to_list}
@@ -57,7 +58,8 @@ use Rattle.laws_run.proofs.MapsNamed.{pat_fits}
 use Rattle.laws_run.proofs.MapsRecur.{map_table}
 use Rattle.laws_run.proofs.RunFindings.{has_places, has_room, is_run, one_table}
 use Rattle.laws_run.proofs.TwoStarts.{FirstSent, TwoStarts, table_sent}
-use Rattle.stream_programs.specs.Association.{AssociationView, association, entries, entries_of, first_pat, is_named, pat_found, pat_in, pat_of_section, in_force as pat_in_force, with_program, with_programs}
+use Rattle.stream_programs.specs.Association.{AssociationView, association, entries, entries_of, first_pat, is_named, pat_found, pat_in, pat_of_section}
+use Rattle.stream_programs.specs.Association.{in_force as pat_in_force, with_program, with_programs}
 use Rattle.stream_programs.specs.ProgramMaps.{pmt_found, pmt_in, pmt_of_section, program_map, in_force as pmt_in_force}
 use Rattle.stream_programs.specs.Programs.{FoundProgramsView, programs_of}
 use Rattle.stream_programs.specs.Sections.{section_bytes, section_on}
@@ -99,7 +101,8 @@ without_end pid bytes p n =
     record {
       ends = map (with_pid_at pid) last;
       none = end_adds pid (length bytes / 188) o;
-      split = alone.1 ∙ map-append (with_pid_at pid) (findings (pid_list pid bytes)) last ∙ ap (λ (fs : List FindingView). fs ++ map (with_pid_at pid) last) (sym alone.0);
+      split = alone.1 ∙ map-append (with_pid_at pid) (findings (pid_list pid bytes)) last
+          ∙ ap (λ (fs : List FindingView). fs ++ map (with_pid_at pid) last) (sym alone.0);
     }
 
 all_front : {X : Type 0} (P : X → Type 0) (xs ys : List X) → All P (xs ++ ys) → All P xs
@@ -111,7 +114,8 @@ unfolding section_bytes
 is_section f text e = rw e refl
 
 -- a section that is found first is found before the end
-first_before : (xs ends more : List FindingView) (f : FindingView) (text : List ℕ) → All IsNoSection ends → section_bytes f.what ≡ Some text → xs ++ ends ≡ f ∷ more →
+first_before : (xs ends more : List FindingView) (f : FindingView) (text : List ℕ) → All IsNoSection ends → section_bytes f.what ≡ Some text →
+    xs ++ ends ≡ f ∷ more →
     (rest : List FindingView) × (xs ≡ f ∷ rest)
 first_before [] [] more f text none is e = absurd (let no : ⊥ = cc in no)
 first_before [] (y ∷ ends) more f text none is e =
@@ -159,7 +163,8 @@ record TableFound (P : List ℕ → Type 0) (n pid : ℕ) (bytes : List ℕ) : T
   packets : List ℕ
   back : found_on pid bytes ≡ map (with_pid_at pid) (each_found section_found n (sendings section_packets texts packets))
 
-found_by : (P : List ℕ → Type 0) (n pid : ℕ) (bytes : List ℕ) (sections : List (List ℕ)) (packets : List ℕ) → (pid == 8191) ≡ false → length bytes / 188 < 2 ^ 64 - 1 →
+found_by : (P : List ℕ → Type 0) (n pid : ℕ) (bytes : List ℕ) (sections : List (List ℕ)) (packets : List ℕ) → (pid == 8191) ≡ false →
+    length bytes / 188 < 2 ^ 64 - 1 →
     FirstSent sections (length packets) → All P sections →
     found_on pid bytes ≡ map (with_pid_at pid) (each_found section_found n (sendings section_packets sections packets)) → TableFound P n pid bytes
 found_by P n pid bytes [] packets other few sent each back = absurd (let none : None ≡ Some sent.section = sent.first in (let no : ⊥ = cc in no))
@@ -186,7 +191,8 @@ found_by P n pid bytes (x ∷ xs) packets other few sent each back =
     }
 
 table_found : (P : List ℕ → Type 0) (d : Scheduled) (units : ℕ → List AccessUnit) (n t : ℕ) → IsInRange d.description → UnitsKept d units → n < 2 ^ 64 - 1 →
-    Headline d units n (run_bytes (content_at d units) 0 n) → t < table_count d.description → IsDistinguishable d.description t → TwoStarts (section_starts d.description d.schedule t 0) n →
+    Headline d units n (run_bytes (content_at d units) 0 n) → t < table_count d.description → IsDistinguishable d.description t →
+    TwoStarts (section_starts d.description d.schedule t 0) n →
     (table_pid d.description t == 8191) ≡ false → ((j moment : ℕ) → j < length (section_lengths d.description t) → P (table_bytes d.description t j moment)) →
     TableFound P n (table_pid d.description t) (run_bytes (content_at d units) 0 n)
 table_found P d units n t r kept few h lt told two other each =
@@ -194,8 +200,10 @@ table_found P d units n t r kept few h lt told two other each =
     let pid : ℕ = table_pid d.description t in
     let table : Table = table_of d t in
     let slots : List ℕ = own_slots (starts table.own (round_places table.lengths) 0) 0 n in
-    let given : All IsRecognized (sections_of_rounds table n) = rounds_all IsRecognized table slots (λ j moment within. section_distinguishable d.description t j moment r lt told within) in
-    let back = tables_come_back table n (content_at d units) (is_run d units n r kept few) (one_table d units t r kept lt) (has_places d t r lt) (has_room d t r) given in
+    let given : All IsRecognized (sections_of_rounds table n) =
+    rounds_all IsRecognized table slots (λ j moment within. section_distinguishable d.description t j moment r lt told within) in
+    let back = tables_come_back table n (content_at d units) (is_run d units n r kept few) (one_table d units t r kept lt) (has_places d t r lt)
+    (has_room d t r) given in
     let sent = table_sent d t n bytes r lt (sections_law d.description t r lt).0 (h.tables t lt) two in
     let many : length (pieces_on pid bytes) ≡ length (packets_on pid bytes) = length-map (pid_list pid bytes) _ ∙ sym (length-map (pid_list pid bytes) _) in
     found_by P n pid bytes (sections_of_rounds table n) (packets_on pid bytes) other (omega (arith, few, h.size))
@@ -229,7 +237,8 @@ network_is : (d : Described) (o : Option DescribedNetwork) → All (IsEntry d) (
 network_is d None = All-nil (IsEntry d)
 network_is d (Some n) = All-cons (IsEntry d) (record { program_number = 0; pid = 0x10 }) [] (inl refl) (All-nil (IsEntry d))
 
-programs_are : (d : Described) (ps : List DescribedProgram) → ((i : ℕ) (p : DescribedProgram) → slice_get ps i ≡ Some p → OfProgram d (pat_entry p)) → All (IsEntry d) (map pat_entry ps)
+programs_are : (d : Described) (ps : List DescribedProgram) → ((i : ℕ) (p : DescribedProgram) → slice_get ps i ≡ Some p → OfProgram d (pat_entry p)) →
+    All (IsEntry d) (map pat_entry ps)
 programs_are d [] h = All-nil (IsEntry d)
 programs_are d (p ∷ ps) h = All-cons (IsEntry d) (pat_entry p) (map pat_entry ps) (inr (h 0 p refl)) (programs_are d ps (λ i q e. h (suc i) q e))
 
@@ -248,11 +257,13 @@ section_has d e text i is says = elim (leb_tells (1 + length text) (184 * length
   | inr less ↦ rw less.0 (inl refl)
 ]
 
-one_has : (d : Described) (e : Ending) (text : List ℕ) (sent : List ℕ) (rest : List PidFinding) → SaysPrograms d text → All (HasIts d) (map (with_pid_at 0) rest) →
+one_has : (d : Described) (e : Ending) (text : List ℕ) (sent : List ℕ) (rest : List PidFinding) → SaysPrograms d text →
+    All (HasIts d) (map (with_pid_at 0) rest) →
     All (HasIts d) (map (with_pid_at 0) (if_sent (section_found e text) sent ++ rest))
 unfolding if_sent
 one_has d e text [] rest says all = all
-one_has d e text (i ∷ is) rest says all = All-cons (HasIts d) (with_pid_at 0 (section_found e text i is)) (map (with_pid_at 0) rest) (section_has d e text i is says) all
+one_has d e text (i ∷ is) rest says all =
+    All-cons (HasIts d) (with_pid_at 0 (section_found e text i is)) (map (with_pid_at 0) rest) (section_has d e text i is says) all
 
 sent_has : (d : Described) (n : ℕ) (texts : List (List ℕ)) (packets : List ℕ) → All (SaysPrograms d) texts →
     All (HasIts d) (map (with_pid_at 0) (each_found section_found n (sendings section_packets texts packets)))
@@ -260,7 +271,8 @@ unfolding each_found sendings
 sent_has d n [] packets h = All-nil (HasIts d)
 sent_has d n (text ∷ texts) packets h =
     let more : List ℕ = drop (section_packets text) packets in
-    one_has d (next_of n (sendings section_packets texts more)) text (take (section_packets text) packets) (each_found section_found n (sendings section_packets texts more))
+    one_has d (next_of n (sendings section_packets texts more)) text (take (section_packets text) packets)
+    (each_found section_found n (sendings section_packets texts more))
     (All-head (SaysPrograms d) text texts h) (sent_has d n texts more (All-tail (SaysPrograms d) text texts h))
 
 entries_are : (d : Described) (version : ℕ) (fs : List FindingView) → All (HasIts d) fs → All (IsEntry d) (entries version fs)
@@ -312,7 +324,8 @@ some_of : {X : Type 0} (o : Option X) (x : X) → is_some (option_or o (Some x))
 some_of None x = refl
 some_of (Some y) x = refl
 
-has_map : (d : Described) (n : ℕ) (p : DescribedProgram) (bytes : List ℕ) → TableFound (SaysStreams d p) n p.pmt_pid bytes → is_some (program_map (pat_entry p) (pushed start bytes).found) ≡ true
+has_map : (d : Described) (n : ℕ) (p : DescribedProgram) (bytes : List ℕ) → TableFound (SaysStreams d p) n p.pmt_pid bytes →
+    is_some (program_map (pat_entry p) (pushed start bytes).found) ≡ true
 unfolding program_map pmt_found section_on section_bytes
 has_map d n p bytes t =
     let here : pmt_found (pat_entry p) t.finding ≡ Some (pmt_says d p) = rw (t.on, itself p.pmt_pid, t.what) t.is in
@@ -354,13 +367,15 @@ either_known true maps found e = refl
 either_known false maps found e = rw e refl
 
 pub streams_known : (d : Scheduled) (units : ℕ → List AccessUnit) (n : ℕ) (last : Bool) → IsInRange d.description → UnitsKept d units → n < 2 ^ 64 - 1 →
-    Headline d units n (run_bytes (content_at d units) 0 n) → RunTables d n → is_some (streams_at last (pushed start (run_bytes (content_at d units) 0 n)).found) ≡ true
+    Headline d units n (run_bytes (content_at d units) 0 n) → RunTables d n →
+    is_some (streams_at last (pushed start (run_bytes (content_at d units) 0 n)).found) ≡ true
 unfolding association first_pat streams_by
 streams_known d units n last r kept few h tables =
     let bytes : List ℕ = run_bytes (content_at d units) 0 n in
     let found : List FindingView = (pushed start bytes).found in
     let there : 0 < table_count d.description = omega arith in
-    let t = table_found (SaysPrograms d.description) d units n 0 r kept few h there (All-nil (λ (text : List ℕ). is_mistaken text ≡ false)) (tables.twice 0 there refl) refl
+    let t = table_found (SaysPrograms d.description) d units n 0 r kept few h there (All-nil (λ (text : List ℕ). is_mistaken text ≡ false))
+    (tables.twice 0 there refl) refl
     (λ j moment within. pat_read d.description r) in
     let here = pat_there d.description t.finding t.text t.on t.what t.is in
     let w = without_end 0 bytes refl (omega (arith, few, h.size)) in
@@ -373,9 +388,12 @@ streams_known d units n last r kept few h tables =
       programs = with_programs [] (entries 0 (found_of 0 found));
     } in
     let is : association found ≡ Some a = sym (pid_zero found) ∙ ap (λ (fs : List FindingView). association fs) t.first
-    ∙ rw here refl ∙ ap (λ (fs : List FindingView). Some (record { transport_stream_id = d.description.transport_stream_id; version_number = 0; programs = with_programs [] (entries 0 fs) })) (sym t.first) in
+    ∙ rw here refl
+    ∙ ap (λ (fs : List FindingView). Some
+    (record { transport_stream_id = d.description.transport_stream_id; version_number = 0; programs = with_programs [] (entries 0 fs) })) (sym t.first) in
     let of : All (OfProgram d.description) a.programs =
     programs_with d.description [] (entries 0 (found_of 0 found)) (All-nil (OfProgram d.description)) (entries_are d.description 0 (found_of 0 found) its) in
     let maps : have_maps found a.programs ≡ true = list_all_of (OfProgram d.description) (λ p. is_some (program_map p found)) a.programs of
     (λ p o. ap (λ (q : Program). is_some (program_map q found)) o.3 ∙ map_known d units n r kept few h tables o.0 o.1 o.2) in
-    ap (λ (x : Option AssociationView). is_some (streams_by last found x)) is ∙ either_known last (have_maps found a.programs) (programs_of a.programs found) maps
+    ap (λ (x : Option AssociationView). is_some (streams_by last found x)) is
+    ∙ either_known last (have_maps found a.programs) (programs_of a.programs found) maps

@@ -1,5 +1,6 @@
 -- In the window in which a stream's buffers begin the least that its line `held` says is 0, and the greatest that of all its packets so far.
-use Rattle.std.proofs.Common.{◌≡◌, ◌∙◌, sym, ℕ, ◌+◌, ◌-◌, ◌*◌, ◌^◌, ◌<◌, ◌⊎◌, min, Bool, true, false, List, [], ◌∷◌, ◌++◌, length, Option, Some, None, if◌then◌else◌, refl, ap, ap₂, subst, inl, inr, nat_eq, arith}
+use Rattle.std.proofs.Common.{◌≡◌, ◌∙◌, sym, ℕ, ◌+◌, ◌-◌, ◌*◌, ◌^◌, ◌<◌, ◌⊎◌, min, Bool, true, false, List, [], ◌∷◌, ◌++◌, length, Option, Some, None}
+use Rattle.std.proofs.Common.{if◌then◌else◌, refl, ap, ap₂, subst, inl, inr, nat_eq, arith}
 use Rattle.std.specs.Prelude.{◌==◌, slice_get, unwrap_or}
 use Rattle.std.proofs.lemmas.List.{append-nil}
 use Rattle.ts_packet.specs.Views.{PacketView}
@@ -82,7 +83,8 @@ carries_start step ts ps (inr none) =
     elim (row_zero (main_fullness step ps) (until_of ps) (left_after step ps ts) none.1) [
       | inl no_byte ↦ inr (
         row ∙ ap (λ (ds : List ℕ). least_found (main_fullness step ps) (until_of ps) 0 None ds) no_byte,
-        λ x. ap (λ (n : ℕ). n + row_entered (until_of ps) x (left_after step ps ts)) (none.1 x) ∙ ap (λ (ds : List ℕ). 0 + row_entered (until_of ps) x ds) no_byte,
+        λ x. ap (λ (n : ℕ). n + row_entered (until_of ps) x (left_after step ps ts)) (none.1 x)
+            ∙ ap (λ (ds : List ℕ). 0 + row_entered (until_of ps) x ds) no_byte,
       )
       | inr zero ↦ inl (row ∙ zero)
     ]
@@ -120,11 +122,13 @@ none_before : (window : ℕ) → CountsNone (in_window none_counted window)
 none_before window = by (0 == window)
   where
     by : (b : Bool) →
-        CountsNone (if b then none_counted else record none_counted { window = window; window_transport = 0; window_main = 0; window_least = None; window_units = 0; window_late = 0; slack = 2 ^ 128 - 1 })
+        CountsNone (if b then none_counted else record none_counted
+        { window = window; window_transport = 0; window_main = 0; window_least = None; window_units = 0; window_late = 0; slack = 2 ^ 128 - 1 })
     by true = record { least = refl; main = refl; transport = refl }
     by false = record { least = refl; main = refl; transport = refl }
 
-begun_counts : (options : ViewOptions) (index window : ℕ) (clocks : ClockEntries) (named : NamedView) (t : TableState) (packet : PacketView) (stream : FoundStreamView) →
+begun_counts : (options : ViewOptions) (index window : ℕ) (clocks : ClockEntries) (named : NamedView) (t : TableState) (packet : PacketView)
+    (stream : FoundStreamView) →
     Counts window (entry_with options index window clocks (entry_begun options named t packet stream) packet)
 unfolding least_of_both
 begun_counts options index window clocks named t packet stream =
@@ -151,7 +155,8 @@ begun_counts options index window clocks named t packet stream =
       in_it = one.1;
     })
 
-first_counts : (r : ViewState) (o : Option PacketView) (window j : ℕ) (e : EntryState) → Agree r.table → ((d : EntryState) → slice_get r.table.entries j ≡ Some d → ⊥) →
+first_counts : (r : ViewState) (o : Option PacketView) (window j : ℕ) (e : EntryState) → Agree r.table →
+    ((d : EntryState) → slice_get r.table.entries j ≡ Some d → ⊥) →
     next_window r.seen ≡ window → slice_get (after_sound r o).table.entries j ≡ Some e → Counts window e
 unfolding after_sound
 first_counts r None window j e agree none in_it there = absurd (none e there)
@@ -176,7 +181,8 @@ record FirstSays (e : EntryState) : Type 0 where
   transport : e.tally.window_transport ≡ transport_most e.held
   main : 0 < e.held.rate → e.tally.window_main ≡ main_most e.held
 
-window_zero : (s : ViewState) (packets : List Timed) (window j : ℕ) (e e' : EntryState) → Counts window e → Agree s.table → s.seen.packets + length packets < 2 ^ 64 →
+window_zero : (s : ViewState) (packets : List Timed) (window j : ℕ) (e e' : EntryState) → Counts window e → Agree s.table →
+    s.seen.packets + length packets < 2 ^ 64 →
     slice_get s.table.entries j ≡ Some e → BeginIn s.seen.options window s.seen.packets packets → slice_get (view_by s packets).table.entries j ≡ Some e' →
     FirstSays e'
 window_zero s packets window j e e' k agree few there all later =
@@ -210,7 +216,8 @@ is_or_not None = inl (λ d e. cc)
 is_or_not (Some d) = inr (d, refl)
 
 first_window : (s : ViewState) (packets : List Timed) (window j : ℕ) (e : EntryState) → Agree s.table → s.seen.packets + length packets < 2 ^ 64 →
-    ((d : EntryState) → slice_get s.table.entries j ≡ Some d → ⊥) → BeginIn s.seen.options window s.seen.packets packets → slice_get (view_by s packets).table.entries j ≡ Some e → FirstSays e
+    ((d : EntryState) → slice_get s.table.entries j ≡ Some d → ⊥) → BeginIn s.seen.options window s.seen.packets packets →
+    slice_get (view_by s packets).table.entries j ≡ Some e → FirstSays e
 unfolding view_by BeginIn
 first_window s [] window j e agree few none all later = absurd (none e later)
 first_window s (p ∷ packets) window j e agree few none all later =
@@ -225,7 +232,8 @@ first_window s (p ∷ packets) window j e agree few none all later =
     elim (is_or_not (slice_get s'.table.entries j)) [
       | inl none' ↦ first_window s' packets window j e (sound_agrees r o agree) (omega (arith, few, count)) none' others later'
       | inr now ↦
-          window_zero s' packets window j now.0 e (first_counts r o window j now.0 agree none all.0 now.1) (sound_agrees r o agree) (omega (arith, few, count)) now.1 others later'
+          window_zero s' packets window j now.0 e (first_counts r o window j now.0 agree none all.0 now.1) (sound_agrees r o agree) (omega (arith, few, count))
+          now.1 others later'
     ]
 
 in_first_window : (request : RequestView) (before packets : List Timed) (window place : ℕ) (e : EntryState) → length before + length packets < 2 ^ 64 →
@@ -236,7 +244,8 @@ in_first_window request before packets window place e few none there all =
     let s : ViewState = view_by (start request) before in
     let v = viewed_then request before e (omega (arith, few)) in
     let later = subst (λ (x : ViewState). slice_get x.table.entries place ≡ Some e) (view_two (start request) before packets) there in
-    first_window s packets window place e (agree_by (start request) before (none_agree request)) (omega (arith, v.count, few)) (λ d is. not_both d (sym none ∙ is))
+    first_window s packets window place e (agree_by (start request) before (none_agree request)) (omega (arith, v.count, few))
+    (λ d is. not_both d (sym none ∙ is))
     (begin_then request before window packets e v all) later
   where
     not_both : (d : EntryState) → None ≡ Some d → ⊥

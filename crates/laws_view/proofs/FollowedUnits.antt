@@ -1,6 +1,7 @@
 -- Each packet of a PID that carries units goes with its unit in a view: the view reads its stamp, and finds it due by the clock then, once a
 -- clock reference has come.
-use Rattle.std.proofs.Common.{◌≡◌, ◌∙◌, ◌⊎◌, sym, ℕ, zero, suc, ◌+◌, ◌%◌, Bool, true, false, List, [], ◌∷◌, ◌++◌, Option, Some, None, if◌then◌else◌, refl, ap, subst, inl, inr, nat_eq, arith}
+use Rattle.std.proofs.Common.{◌≡◌, ◌∙◌, ◌⊎◌, sym, ℕ, zero, suc, ◌+◌, ◌%◌, Bool, true, false, List, [], ◌∷◌, ◌++◌, Option, Some, None, if◌then◌else◌, refl, ap}
+use Rattle.std.proofs.Common.{subst, inl, inr, nat_eq, arith}
 use Rattle.std.specs.Prelude.{is_some, slice_get}
 use Rattle.std.specs.Option.{option_or}
 use Rattle.std.proofs.lemmas.Bool.{cases_Bool}
@@ -45,7 +46,8 @@ abbrev pub ClockedAt : ℕ → ℕ → List Entry → List AccessUnit → List (
 ClockedAt rate base0 es us clocks = (j : ℕ) (e : Entry) (u : AccessUnit) (k : PcrSample) → slice_get es j ≡ Some e → slice_get us j ≡ Some u →
     e.packet.header.payload_unit_start_indicator ≡ true → slice_get clocks j ≡ Some (Some k) → GoesBy rate base0 k u
 
-pub clocked_by_number : (rate base0 : ℕ) (es : List Entry) (us : List AccessUnit) (clocks : List (Option PcrSample)) → ClockedAt rate base0 es us clocks → Clocked rate base0 es us clocks
+pub clocked_by_number : (rate base0 : ℕ) (es : List Entry) (us : List AccessUnit) (clocks : List (Option PcrSample)) → ClockedAt rate base0 es us clocks →
+    Clocked rate base0 es us clocks
 unfolding Clocked
 clocked_by_number rate base0 [] us clocks h = tt
 clocked_by_number rate base0 (e ∷ es) [] clocks h = tt
@@ -55,7 +57,8 @@ clocked_by_number rate base0 (e ∷ es) (u ∷ us) (clock ∷ clocks) h = (
   clocked_by_number rate base0 es us clocks (λ j f v k found sender starts is. h (suc j) f v k found sender starts is),
 )
 
-pub number_clocked : (rate base0 : ℕ) (es : List Entry) (us : List AccessUnit) (clocks : List (Option PcrSample)) → Clocked rate base0 es us clocks → ClockedAt rate base0 es us clocks
+pub number_clocked : (rate base0 : ℕ) (es : List Entry) (us : List AccessUnit) (clocks : List (Option PcrSample)) → Clocked rate base0 es us clocks →
+    ClockedAt rate base0 es us clocks
 unfolding Clocked
 number_clocked rate base0 [] us clocks h j e u k found sender starts is = absurd (let no : ⊥ = cc in no)
 number_clocked rate base0 (f ∷ es) [] clocks h j e u k found sender starts is = absurd (let no : ⊥ = cc in no)
@@ -89,7 +92,8 @@ not_repeated n o packet counter known = elim (cases_Bool (is_some packet.payload
   | inr none ↦ rw none refl
 ]
 
-next_counter : (n : ℕ) (o : Option ℕ) (index : ℕ) (bytes : List ℕ) (packet : PacketView) → (is_some packet.payload ≡ true → packet.header.continuity_counter ≡ n % 16) →
+next_counter : (n : ℕ) (o : Option ℕ) (index : ℕ) (bytes : List ℕ) (packet : PacketView) →
+    (is_some packet.payload ≡ true → packet.header.continuity_counter ≡ n % 16) →
     (o ≡ None) ⊎ (o ≡ Some ((n + 15) % 16)) →
     (counter_after o packet ≡ None) ⊎ (counter_after o packet ≡ Some ((number_after n (record { index = index; bytes = bytes; packet = packet }) + 15) % 16))
 next_counter n o index bytes packet counter known = elim (cases_Bool (is_some packet.payload)) [
@@ -98,7 +102,8 @@ next_counter n o index bytes packet counter known = elim (cases_Bool (is_some pa
 ]
 
 -- when the unit is due that begins with it
-due_told : (rate base0 : ℕ) (f : Followed) (clock : Option PcrSample) (u : AccessUnit) → f.options.arrival ≡ AtRate rate → ((k : PcrSample) → clock ≡ Some k → GoesBy rate base0 k u) →
+due_told : (rate base0 : ℕ) (f : Followed) (clock : Option PcrSample) (u : AccessUnit) → f.options.arrival ≡ AtRate rate →
+    ((k : PcrSample) → clock ≡ Some k → GoesBy rate base0 k u) →
     (clock ≡ None) ⊎ (due_by f.options f.rx clock (Stamped (wire_dts base0 u)) ≡ Some (due_time rate f.rx u.dts))
 unfolding due_by step_of
 due_told rate base0 f None u at_rate goes = inl refl
@@ -120,16 +125,19 @@ earlier true (Some s) c e = absurd (let no : ⊥ = cc in no)
 earlier false o c e = e
 
 -- so the packet goes with its unit, or none has begun
-goes_with : (rate base0 : ℕ) (f : Followed) (n : ℕ) (b : Before) (before : Option AccessUnit) (due : Option DueTime) (e : Entry) (u : AccessUnit) (now : Option PcrSample) →
+goes_with : (rate base0 : ℕ) (f : Followed) (n : ℕ) (b : Before) (before : Option AccessUnit) (due : Option DueTime) (e : Entry) (u : AccessUnit)
+    (now : Option PcrSample) →
     f.options.arrival ≡ AtRate rate → Known rate f n b before due → (now ≡ None → due ≡ None) → IsSent base0 n before e u → BeginsBy rate base0 e u now →
-    (due_with (due_by f.options f.rx now (beginning_of e.packet)) due ≡ None) ⊎ (due_with (due_by f.options f.rx now (beginning_of e.packet)) due ≡ Some (due_time rate f.rx u.dts))
+    (due_with (due_by f.options f.rx now (beginning_of e.packet)) due ≡ None) ⊎
+    (due_with (due_by f.options f.rx now (beginning_of e.packet)) due ≡ Some (due_time rate f.rx u.dts))
 goes_with rate base0 f n b before due e u now at_rate known nothing_yet sent clock = elim sent.begins [
   | inl stamped ↦ elim (due_told rate base0 f now u at_rate (λ k is. clock k stamped.0 is)) [
     | inl nothing ↦ inl (rw (none_due f.options f.rx now (beginning_of e.packet) nothing, nothing_yet nothing) refl)
     | inr some ↦ inr (rw (stamped.1, some) refl)
   ]
   | inr goes ↦
-      let nothing : due_by f.options f.rx now (beginning_of e.packet) ≡ None = ap (λ (x : Beginning). due_by f.options f.rx now x) goes.0 ∙ no_due f.options f.rx now in
+      let nothing : due_by f.options f.rx now (beginning_of e.packet) ≡ None = ap (λ (x : Beginning). due_by f.options f.rx now x) goes.0
+      ∙ no_due f.options f.rx now in
       elim known.goes [
         | inl nought ↦ inl (rw (nothing, nought) refl)
         | inr of ↦
@@ -144,7 +152,8 @@ pub record Goes (rate : ℕ) (f : Followed) (n : ℕ) (b : Before) (packet : Pac
   pub unit : (due_with p.begins due ≡ None) ⊎ (due_with p.begins due ≡ Some (due_time rate f.rx u.dts))
   pub known : Known rate f n (known_after f b (Some packet)) (Some u) (due_with p.begins due)
 
-packet_goes : (rate base0 : ℕ) (f : Followed) (n : ℕ) (b : Before) (before : Option AccessUnit) (due : Option DueTime) (bytes : List ℕ) (packet : PacketView) (u : AccessUnit) →
+packet_goes : (rate base0 : ℕ) (f : Followed) (n : ℕ) (b : Before) (before : Option AccessUnit) (due : Option DueTime) (bytes : List ℕ) (packet : PacketView)
+    (u : AccessUnit) →
     f.options.arrival ≡ AtRate rate → nat_eq f.pid packet.header.pid ≡ true → Known rate f n b before due →
     IsSent base0 n before (record { index = b.index; bytes = bytes; packet = packet }) u →
     BeginsBy rate base0 (record { index = b.index; bytes = bytes; packet = packet }) u (clock_with f.options f.clock_pid b.index packet b.clock) →
@@ -159,7 +168,8 @@ packet_goes rate base0 f n b before due bytes packet u at_rate own known sent cl
     let new : is_repeated b.counter packet ≡ false = not_repeated n b.counter packet sent.counter known.counter in
     let begins : due_by f.options f.rx now (beginning_in b.counter packet) ≡ due_by f.options f.rx now (beginning_of packet) = rw new refl in
     let with_unit = goes_with rate base0 f n b before due e u now at_rate known nothing_yet sent clock in
-    let is : (due_with (due_by f.options f.rx now (beginning_in b.counter packet)) due ≡ None) ⊎ (due_with (due_by f.options f.rx now (beginning_in b.counter packet)) due ≡ Some (due_time rate f.rx u.dts)) =
+    let is : (due_with (due_by f.options f.rx now (beginning_in b.counter packet)) due ≡ None) ⊎
+    (due_with (due_by f.options f.rx now (beginning_in b.counter packet)) due ≡ Some (due_time rate f.rx u.dts)) =
     rw begins with_unit in
     record {
       enters = rw new refl;
@@ -172,7 +182,8 @@ packet_goes rate base0 f n b before due bytes packet u at_rate own known sent cl
     }
 
 -- a packet of another PID changes nothing of it
-other_known : (rate : ℕ) (f : Followed) (n : ℕ) (b : Before) (before : Option AccessUnit) (due : Option DueTime) (packet : PacketView) → nat_eq f.pid packet.header.pid ≡ false →
+other_known : (rate : ℕ) (f : Followed) (n : ℕ) (b : Before) (before : Option AccessUnit) (due : Option DueTime) (packet : PacketView) →
+    nat_eq f.pid packet.header.pid ≡ false →
     Known rate f n b before due → Known rate f n (known_after f b (Some packet)) before due
 unfolding known_after
 other_known rate f n b before due packet other known = record {
@@ -184,19 +195,26 @@ other_known rate f n b before due packet other known = record {
 -- ---- all of them
 
 abbrev Rest : ℕ → ℕ → Followed → Before → List (List ℕ) → Type 0
-Rest rate base0 f b chunks = (n : ℕ) (before : Option AccessUnit) (due : Option DueTime) (us : List AccessUnit) → AllSent base0 n before (entries_from f.pid b.index chunks) us →
-    Clocked rate base0 (entries_from f.pid b.index chunks) us (clocks_seen f b chunks) → Known rate f n b before due → Follows rate f.rx due (seen_among f b chunks) us
+Rest rate base0 f b chunks = (n : ℕ) (before : Option AccessUnit) (due : Option DueTime) (us : List AccessUnit) →
+    AllSent base0 n before (entries_from f.pid b.index chunks) us →
+    Clocked rate base0 (entries_from f.pid b.index chunks) us (clocks_seen f b chunks) → Known rate f n b before due →
+    Follows rate f.rx due (seen_among f b chunks) us
 
-none_known : (rate : ℕ) (f : Followed) (n : ℕ) (b : Before) (before : Option AccessUnit) (due : Option DueTime) → Known rate f n b before due → Known rate f n (known_after f b None) before due
+none_known : (rate : ℕ) (f : Followed) (n : ℕ) (b : Before) (before : Option AccessUnit) (due : Option DueTime) → Known rate f n b before due →
+    Known rate f n (known_after f b None) before due
 unfolding known_after
 none_known rate f n b before due k = record { counter = k.counter; goes = k.goes; none = k.none }
 
-own_follows : (rate base0 : ℕ) (f : Followed) (n : ℕ) (b : Before) (before : Option AccessUnit) (due : Option DueTime) (bytes : List ℕ) (packet : PacketView) (chunks : List (List ℕ)) (us : List AccessUnit) →
+own_follows : (rate base0 : ℕ) (f : Followed) (n : ℕ) (b : Before) (before : Option AccessUnit) (due : Option DueTime) (bytes : List ℕ) (packet : PacketView)
+    (chunks : List (List ℕ)) (us : List AccessUnit) →
     f.options.arrival ≡ AtRate rate → nat_eq f.pid packet.header.pid ≡ true → Known rate f n b before due →
     AllSent base0 n before (record { index = b.index; bytes = bytes; packet = packet } ∷ entries_from f.pid (known_after f b (Some packet)).index chunks) us →
     Clocked rate base0 (record { index = b.index; bytes = bytes; packet = packet } ∷ entries_from f.pid (known_after f b (Some packet)).index chunks) us
-    (clock_with f.options f.clock_pid b.index packet b.clock ∷ clocks_seen f (known_after f b (Some packet)) chunks) → Rest rate base0 f (known_after f b (Some packet)) chunks →
-    Follows rate f.rx due (arriving f.options b.index f.rx b.counter (clock_with f.options f.clock_pid b.index packet b.clock) packet ∷ seen_among f (known_after f b (Some packet)) chunks) us
+    (clock_with f.options f.clock_pid b.index packet b.clock ∷ clocks_seen f (known_after f b (Some packet)) chunks) →
+    Rest rate base0 f (known_after f b (Some packet)) chunks →
+    Follows rate f.rx due
+    (arriving f.options b.index f.rx b.counter (clock_with f.options f.clock_pid b.index packet b.clock) packet ∷ seen_among f
+    (known_after f b (Some packet)) chunks) us
 unfolding AllSent Clocked Follows
 own_follows rate base0 f n b before due bytes packet chunks [] at_rate own known all clock rest = absurd all
 own_follows rate base0 f n b before due bytes packet chunks (u ∷ us) at_rate own known all clock rest =
@@ -205,12 +223,16 @@ own_follows rate base0 f n b before due bytes packet chunks (u ∷ us) at_rate o
     let goes = packet_goes rate base0 f n b before due bytes packet u at_rate own known all.0 clock.0 in
     (goes.enters, goes.unit, rest (number_after n e) (Some u) (due_with p.begins due) us all.1 clock.1 goes.known)
 
-one_follows : (rate base0 : ℕ) (f : Followed) (n : ℕ) (b : Before) (before : Option AccessUnit) (due : Option DueTime) (bytes : List ℕ) (o : Option PacketView) (chunks : List (List ℕ)) (us : List AccessUnit) →
-    f.options.arrival ≡ AtRate rate → Known rate f n b before due → AllSent base0 n before (listed f.pid b.index bytes o (entries_from f.pid (known_after f b o).index chunks)) us →
-    Clocked rate base0 (listed f.pid b.index bytes o (entries_from f.pid (known_after f b o).index chunks)) us (clock_in f b o ++ clocks_seen f (known_after f b o) chunks) →
+one_follows : (rate base0 : ℕ) (f : Followed) (n : ℕ) (b : Before) (before : Option AccessUnit) (due : Option DueTime) (bytes : List ℕ) (o : Option PacketView)
+    (chunks : List (List ℕ)) (us : List AccessUnit) →
+    f.options.arrival ≡ AtRate rate → Known rate f n b before due →
+    AllSent base0 n before (listed f.pid b.index bytes o (entries_from f.pid (known_after f b o).index chunks)) us →
+    Clocked rate base0 (listed f.pid b.index bytes o (entries_from f.pid (known_after f b o).index chunks)) us
+    (clock_in f b o ++ clocks_seen f (known_after f b o) chunks) →
     Rest rate base0 f (known_after f b o) chunks → Follows rate f.rx due (seen_in f b o ++ seen_among f (known_after f b o) chunks) us
 unfolding seen_in clock_in listed
-one_follows rate base0 f n b before due bytes None chunks us at_rate known sent clock rest = rest n before due us sent clock (none_known rate f n b before due known)
+one_follows rate base0 f n b before due bytes None chunks us at_rate known sent clock rest =
+    rest n before due us sent clock (none_known rate f n b before due known)
 one_follows rate base0 f n b before due bytes (Some packet) chunks us at_rate known sent clock rest = by (nat_eq f.pid packet.header.pid) refl sent clock
   where
     e : Entry
@@ -232,8 +254,10 @@ one_follows rate base0 f n b before due bytes (Some packet) chunks us at_rate kn
     by true own all clocked = rw own (own_follows rate base0 f n b before due bytes packet chunks us at_rate own known (rw own at all) (rw own at clocked) rest)
     by false other all clocked = rw other (rest n before due us (rw other at all) (rw other at clocked) (other_known rate f n b before due packet other known))
 
-pub all_follow : (rate base0 : ℕ) (f : Followed) (n : ℕ) (b : Before) (before : Option AccessUnit) (due : Option DueTime) (chunks : List (List ℕ)) (us : List AccessUnit) → f.options.arrival ≡ AtRate rate →
-    Known rate f n b before due → AllSent base0 n before (entries_from f.pid b.index chunks) us → Clocked rate base0 (entries_from f.pid b.index chunks) us (clocks_seen f b chunks) →
+pub all_follow : (rate base0 : ℕ) (f : Followed) (n : ℕ) (b : Before) (before : Option AccessUnit) (due : Option DueTime) (chunks : List (List ℕ))
+    (us : List AccessUnit) → f.options.arrival ≡ AtRate rate →
+    Known rate f n b before due → AllSent base0 n before (entries_from f.pid b.index chunks) us →
+    Clocked rate base0 (entries_from f.pid b.index chunks) us (clocks_seen f b chunks) →
     Follows rate f.rx due (seen_among f b chunks) us
 unfolding seen_among clocks_seen entries_from
 all_follow rate base0 f n b before due [] us at_rate known sent clock = unfold Follows in tt
@@ -244,5 +268,7 @@ all_follow rate base0 f n b before due (bytes ∷ chunks) us at_rate known sent 
     let sent_is : AllSent base0 n before (listed f.pid b.index bytes o (entries_from f.pid b'.index chunks)) us =
     subst (λ (i : ℕ). AllSent base0 n before (listed f.pid b.index bytes o (entries_from f.pid i chunks)) us) (sym more) sent in
     let clock_is : Clocked rate base0 (listed f.pid b.index bytes o (entries_from f.pid b'.index chunks)) us (clock_in f b o ++ clocks_seen f b' chunks) =
-    subst (λ (i : ℕ). Clocked rate base0 (listed f.pid b.index bytes o (entries_from f.pid i chunks)) us (clock_in f b o ++ clocks_seen f b' chunks)) (sym more) clock in
-    one_follows rate base0 f n b before due bytes o chunks us at_rate known sent_is clock_is (λ m v d vs all told k. all_follow rate base0 f m b' v d chunks vs at_rate k all told)
+    subst (λ (i : ℕ). Clocked rate base0 (listed f.pid b.index bytes o (entries_from f.pid i chunks)) us (clock_in f b o ++ clocks_seen f b' chunks)) (sym more)
+    clock in
+    one_follows rate base0 f n b before due bytes o chunks us at_rate known sent_is clock_is
+    (λ m v d vs all told k. all_follow rate base0 f m b' v d chunks vs at_rate k all told)

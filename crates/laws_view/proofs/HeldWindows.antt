@@ -1,5 +1,6 @@
 -- What a report counts of a stream while the packets of one window come.
-use Rattle.std.proofs.Common.{◌≡◌, ◌∙◌, sym, ℕ, ◌+◌, ◌^◌, ◌<◌, false, Bool, true, List, [], ◌∷◌, ◌++◌, length, map, Option, Some, None, if◌then◌else◌, refl, ap, subst, nat_eq, arith}
+use Rattle.std.proofs.Common.{◌≡◌, ◌∙◌, sym, ℕ, ◌+◌, ◌^◌, ◌<◌, false, Bool, true, List, [], ◌∷◌, ◌++◌, length, map, Option, Some, None, if◌then◌else◌, refl, ap}
+use Rattle.std.proofs.Common.{subst, nat_eq, arith}
 use Rattle.std.specs.Prelude.{◌==◌, slice_get, unwrap_or}
 use Rattle.std.proofs.lemmas.List.{map-append}
 use Rattle.ts_packet.specs.Views.{PacketView}
@@ -44,11 +45,13 @@ views_of s e (Some packet) =
     then (
       is_unread (beginning_in e.counter packet),
       entered e.held s.seen.options.arrival
-          (arriving s.seen.options s.seen.packets e.held.rx e.counter (clock_with s.seen.options e.clock_pid s.seen.packets packet (clock_of s.seen.clocks e.clock_pid)) packet),
+          (arriving s.seen.options s.seen.packets e.held.rx e.counter
+          (clock_with s.seen.options e.clock_pid s.seen.packets packet (clock_of s.seen.clocks e.clock_pid)) packet),
     ) ∷ []
     else []
 
-views_same : (s : ViewState) (e : EntryState) (o : Option PacketView) → map (λ w. w.1) (views_of s e o) ≡ entered_each e.held s.seen.options.arrival (seen_in (followed s e) (known s e) o)
+views_same : (s : ViewState) (e : EntryState) (o : Option PacketView) →
+    map (λ w. w.1) (views_of s e o) ≡ entered_each e.held s.seen.options.arrival (seen_in (followed s e) (known s e) o)
 unfolding views_of seen_in entered_each
 views_same s e None = refl
 views_same s e (Some packet) = by (nat_eq e.pid packet.header.pid) refl
@@ -58,11 +61,13 @@ views_same s e (Some packet) = by (nat_eq e.pid packet.header.pid) refl
     by true own = rw own refl
     by false other = rw other refl
 
-tally_more : (s : ViewState) (o : Option PacketView) (window j : ℕ) (e e1 : EntryState) → Agree s.table → slice_get s.table.entries j ≡ Some e → next_window s.seen ≡ window →
+tally_more : (s : ViewState) (o : Option PacketView) (window j : ℕ) (e e1 : EntryState) → Agree s.table → slice_get s.table.entries j ≡ Some e →
+    next_window s.seen ≡ window →
     slice_get (after_sound s o).table.entries j ≡ Some e1 → e1.tally ≡ counted_each e.tally window (views_of s e o)
 unfolding after_sound views_of counted_each
 tally_more s None window j e e1 agree there in_it later = ap (λ (x : EntryState). x.tally) (some_is e1 e (sym later ∙ there))
-tally_more s (Some packet) window j e e1 agree there in_it later = ap (λ (x : EntryState). x.tally) (some_is e1 now (sym later ∙ is)) ∙ by (nat_eq e.pid packet.header.pid) refl
+tally_more s (Some packet) window j e e1 agree there in_it later = ap (λ (x : EntryState). x.tally) (some_is e1 now (sym later ∙ is))
+    ∙ by (nat_eq e.pid packet.header.pid) refl
   where
     c : ViewState
     c = clocked s packet
@@ -71,7 +76,8 @@ tally_more s (Some packet) window j e e1 agree there in_it later = ap (λ (x : E
     now = entry_with c.seen.options c.seen.packets (next_window c.seen) c.seen.clocks e packet
 
     is : slice_get (after_sound s (Some packet)).table.entries j ≡ Some now
-    is = taken_entry c.seen.options c.seen.packets (next_window c.seen) c.seen.clocks (with_begun c packet) packet j e (begun_agrees c.seen.options c.seen.named c.table packet agree)
+    is = taken_entry c.seen.options c.seen.packets (next_window c.seen) c.seen.clocks (with_begun c packet) packet j e
+        (begun_agrees c.seen.options c.seen.named c.table packet agree)
         (begun_keeps c.seen.options c.seen.named c.table packet j e there)
 
     clock : clock_of c.seen.clocks e.clock_pid ≡ clock_with s.seen.options e.clock_pid s.seen.packets packet (clock_of s.seen.clocks e.clock_pid)
@@ -83,7 +89,8 @@ tally_more s (Some packet) window j e e1 agree there in_it later = ap (λ (x : E
 
 -- ---- all of them
 
-counted_append : (t : Tally) (window : ℕ) (vs ws : List (Bool × EnteredView)) → counted_each t window (vs ++ ws) ≡ counted_each (counted_each t window vs) window ws
+counted_append : (t : Tally) (window : ℕ) (vs ws : List (Bool × EnteredView)) →
+    counted_each t window (vs ++ ws) ≡ counted_each (counted_each t window vs) window ws
 unfolding counted_each
 counted_append t window [] ws = refl
 counted_append t window (v ∷ vs) ws = counted_append (tally_after t window v.0 v.1) window vs ws
@@ -104,7 +111,8 @@ unfolding counted_each entering_among entered_by
 none_in s window e e' same = record { vs = []; tally = ap (λ (x : EntryState). x.tally) (sym same); same = refl }
 
 pub counted_in : (s : ViewState) (packets : List Timed) (window j : ℕ) (e e' : EntryState) → Agree s.table → s.seen.packets + length packets < 2 ^ 64 →
-    slice_get s.table.entries j ≡ Some e → BeginIn s.seen.options window s.seen.packets packets → slice_get (view_by s packets).table.entries j ≡ Some e' → CountedIn s window packets e e'
+    slice_get s.table.entries j ≡ Some e → BeginIn s.seen.options window s.seen.packets packets → slice_get (view_by s packets).table.entries j ≡ Some e' →
+    CountedIn s window packets e e'
 unfolding view_by entering_among BeginIn
 counted_in s [] window j e e' agree few there all later = none_in s window e e' (some_is e e' (sym there ∙ later))
 counted_in s (p ∷ packets) window j e e' agree few there all later =
@@ -164,7 +172,8 @@ viewed_then request before e few =
     record {
       count = sym knows.index ∙ index_by f0 nothing_known before ∙ zero_is;
       options = knows.options;
-      same = followed_is s.seen.options f.options e.pid f.pid e.clock_pid f.clock_pid e.held.rx f.rx knows.options (sym stay.pid) (sym stay.clock_pid) (sym stay.rx);
+      same = followed_is s.seen.options f.options e.pid f.pid e.clock_pid f.clock_pid e.held.rx f.rx knows.options (sym stay.pid) (sym stay.clock_pid)
+          (sym stay.rx);
     }
 
 pub begin_then : (request : RequestView) (before : List Timed) (window : ℕ) (packets : List Timed) (e : EntryState) → ViewedThen request before e →
@@ -182,7 +191,8 @@ grown_held s packets j e e' agree few there later =
     ap (λ (x : EntryState). x.held) (some_is e' g.0 (sym later ∙ g.1.0)) ∙ g.1.1.held
 
 -- what its buffers hold once the packets of a window have come
-pub window_held : (request : RequestView) (before packets : List Timed) (window place : ℕ) (e e' : EntryState) → OfWindow request before packets window place e e' →
+pub window_held : (request : RequestView) (before packets : List Timed) (window place : ℕ) (e e' : EntryState) →
+    OfWindow request before packets window place e e' →
     e'.held ≡ after_entering e.held (window_entering request before e packets)
 window_held request before packets window place e e' w =
     let s : ViewState = view_by (start request) before in
@@ -197,12 +207,14 @@ pub record CountedOver (t t' : Tally) (window : ℕ) (h : Held) (xs : List Enter
   pub tally : t' ≡ counted_each t window vs
   pub same : map (λ w. w.1) vs ≡ entered_by h xs
 
-pub window_counted : (request : RequestView) (before packets : List Timed) (window place : ℕ) (e e' : EntryState) → OfWindow request before packets window place e e' →
+pub window_counted : (request : RequestView) (before packets : List Timed) (window place : ℕ) (e e' : EntryState) →
+    OfWindow request before packets window place e e' →
     CountedOver e.tally e'.tally window e.held (window_entering request before e packets)
 window_counted request before packets window place e e' w =
     let s : ViewState = view_by (start request) before in
     let v = viewed_then request before e (omega (arith, w.few)) in
-    let c = counted_in s packets window place e e' (agree_by (start request) before (none_agree request)) (omega (arith, v.count, w.few)) w.begun (begin_then request before window packets e v w.all)
+    let c = counted_in s packets window place e e' (agree_by (start request) before (none_agree request)) (omega (arith, v.count, w.few)) w.begun
+    (begin_then request before window packets e v w.all)
     (subst (λ (x : ViewState). slice_get x.table.entries place ≡ Some e') (view_two (start request) before packets) w.come) in
     record { vs = c.vs; tally = c.tally; same = c.same ∙ ap (λ (g : Followed). entered_by e.held (entering_among g (known s e) packets)) v.same }
 
@@ -222,8 +234,10 @@ says_high t t' window h xs c other pos has =
 
 pub timed_window_law : TimedWindowLaw
 timed_window_law request before packets window place e e' w pos has =
-    says_low e.tally e'.tally window e.held (window_entering request before e packets) (window_counted request before packets window place e e' w) w.other pos has
+    says_low e.tally e'.tally window e.held (window_entering request before e packets) (window_counted request before packets window place e e' w) w.other pos
+    has
 
 pub timed_high_law : TimedHighLaw
 timed_high_law request before packets window place e e' w pos has =
-    says_high e.tally e'.tally window e.held (window_entering request before e packets) (window_counted request before packets window place e e' w) w.other pos has
+    says_high e.tally e'.tally window e.held (window_entering request before e packets) (window_counted request before packets window place e e' w) w.other pos
+    has

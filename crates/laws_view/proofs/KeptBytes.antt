@@ -1,5 +1,6 @@
 -- The bytes of a stream's packets in its main buffer, each of the unit of which its packet is.
-use Rattle.std.proofs.Common.{◌≡◌, ◌∙◌, ◌⊎◌, sym, ℕ, suc, ◌+◌, ◌-◌, ◌*◌, ◌≤◌, ◌<◌, cond, true, false, nat_lt, nat_le, List, [], ◌∷◌, length, map, take, drop, Option, Some, None, refl, ap, subst, inl, inr, arith, All}
+use Rattle.std.proofs.Common.{◌≡◌, ◌∙◌, ◌⊎◌, sym, ℕ, suc, ◌+◌, ◌-◌, ◌*◌, ◌≤◌, ◌<◌, cond, true, false, nat_lt, nat_le, List, [], ◌∷◌, length, map, take, drop}
+use Rattle.std.proofs.Common.{Option, Some, None, refl, ap, subst, inl, inr, arith, All}
 use Rattle.std.proofs.lemmas.Bool.{le-ltb, and_right}
 use Rattle.std.proofs.lemmas.List.{length-append, length-drop, take_at, drop_at}
 use Rattle.std.proofs.lemmas.List.Elements.{All-head, All-tail}
@@ -53,14 +54,19 @@ none_entered x (d ∷ ds) =
     let out : has_entered 0 x d ≡ false = and_right (nat_le d x) (nat_lt x 0) (le-ltb x 0 (omega arith)) in
     rw (sum_by-cons (λ s. cond (has_entered 0 x s) 1 0) d ds, out) (omega (arith, none_entered x ds))
 
-entered_kept : (rate r due x : ℕ) (ds : List ℕ) → entered (removal_time rate r due) x ds ≡ kept rate r x due ds
+pub entered_kept : (rate r due x : ℕ) (ds : List ℕ) → entered (removal_time rate r due) x ds ≡ kept rate r x due ds
 unfolding kept
 entered_kept rate r due x [] = refl
 entered_kept rate r due x (d ∷ ds) =
-    rw (sum_by-cons (λ s. cond (has_entered (removal_time rate r due) x s) 1 0) d ds, sum_by-cons (λ s. cond (is_in_main_buffer rate r x due s) 1 0) d ds, gone_test x (due * rate * r))
+    rw (
+      sum_by-cons (λ s. cond (has_entered (removal_time rate r due) x s) 1 0) d ds,
+      sum_by-cons (λ s. cond (is_in_main_buffer rate r x due s) 1 0) d ds,
+      gone_test x (due * rate * r),
+    )
     (omega (arith, entered_kept rate r due x ds))
 
-pub no_more : (rate r x due : ℕ) (o : Option DueTime) (ds : List ℕ) → (o ≡ None) ⊎ (o ≡ Some (due_time rate r due)) → entered (until_at o) x ds ≤ kept rate r x due ds
+pub no_more : (rate r x due : ℕ) (o : Option DueTime) (ds : List ℕ) → (o ≡ None) ⊎ (o ≡ Some (due_time rate r due)) →
+    entered (until_at o) x ds ≤ kept rate r x due ds
 unfolding until_at
 no_more rate r x due o ds (inl none) = rw none (omega (arith, none_entered x ds))
 no_more rate r x due o ds (inr some) = rw some (omega (arith, entered_kept rate r due x ds))
@@ -76,16 +82,19 @@ left_packet rate r prev p le =
       length-row r (188 * p.slot) 188,
     )
 
-pub first_left : (rate r prev : ℕ) (p : Packet) (ps : List Packet) → p.size ≤ 188 → take p.size (pes_left rate r prev (p ∷ ps)) ≡ payload_of_packet rate r prev p
+pub first_left : (rate r prev : ℕ) (p : Packet) (ps : List Packet) → p.size ≤ 188 →
+    take p.size (pes_left rate r prev (p ∷ ps)) ≡ payload_of_packet rate r prev p
 first_left rate r prev p ps le =
     ap (λ (l : List ℕ). take p.size l) (pes_left-cons rate r prev p ps)
-    ∙ take_at (payload_of_packet rate r prev p) (pes_left rate r (last_left rate prev (bytes_from r (188 * p.slot) 188)) ps) p.size (left_packet rate r prev p le)
+    ∙ take_at (payload_of_packet rate r prev p) (pes_left rate r (last_left rate prev (bytes_from r (188 * p.slot) 188)) ps) p.size
+    (left_packet rate r prev p le)
 
 pub later_left : (rate r prev : ℕ) (p : Packet) (ps : List Packet) → p.size ≤ 188 →
     drop p.size (pes_left rate r prev (p ∷ ps)) ≡ pes_left rate r (last_left rate prev (bytes_from r (188 * p.slot) 188)) ps
 later_left rate r prev p ps le =
     ap (λ (l : List ℕ). drop p.size l) (pes_left-cons rate r prev p ps)
-    ∙ drop_at (payload_of_packet rate r prev p) (pes_left rate r (last_left rate prev (bytes_from r (188 * p.slot) 188)) ps) p.size (left_packet rate r prev p le)
+    ∙ drop_at (payload_of_packet rate r prev p) (pes_left rate r (last_left rate prev (bytes_from r (188 * p.slot) 188)) ps) p.size
+    (left_packet rate r prev p le)
 
 -- a packet more: the bytes of it that are in the main buffer, and those of the packets after it
 pub record OneMore (rate : ℕ) (h h' : Held) (p : Arriving) (due : Option DueTime) (qs : List Packet) : Type 0 where
@@ -97,7 +106,8 @@ pub record OneMore (rate : ℕ) (h h' : Held) (p : Arriving) (due : Option DueTi
   pub later : (x : ℕ) (us : List AccessUnit) → kept_each rate h'.rx x us qs (pes_left rate h'.rx (last_of rate h'.parts) qs)
       ≡ kept_each rate h.rx x us qs (drop (timed_packet p).size (pes_left rate h.rx (last_of rate h.parts) (timed_packet p ∷ qs)))
 
-pub one_more : (rate low : ℕ) (h : Held) (p : Arriving) (qs : List Packet) (before : Option DueTime) → low ≤ p.index → p.index < most_packets → length (arrivals_of h.parts) ≤ 188 * low →
+pub one_more : (rate low : ℕ) (h : Held) (p : Arriving) (qs : List Packet) (before : Option DueTime) → low ≤ p.index → p.index < most_packets →
+    length (arrivals_of h.parts) ≤ 188 * low →
     p.enters ≡ true → until_of h.parts ≡ until_at before → OneMore rate h (after h (AtRate rate) p) p (due_with p.begins before) qs
 one_more rate low h p qs before first early few enters e =
     let takes = taken_in h rate p early (omega (arith, few, first)) in
@@ -109,17 +119,26 @@ one_more rate low h p qs before first early few enters e =
     let le : q.size ≤ 188 = omega arith in
     let due : Option DueTime = due_with p.begins before in
     let after_it : pes_left rate h'.rx (last_of rate h'.parts) qs ≡ drop q.size (pes_left rate h.rx prev (q ∷ qs)) =
-    ap (λ (r : ℕ). pes_left rate r (last_of rate h'.parts) qs) one.alike.rx ∙ ap (λ (n : ℕ). pes_left rate h.rx n qs) one.last ∙ sym (later_left rate h.rx prev q qs le) in
+    ap (λ (r : ℕ). pes_left rate r (last_of rate h'.parts) qs) one.alike.rx ∙ ap (λ (n : ℕ). pes_left rate h.rx n qs) one.last
+    ∙ sym (later_left rate h.rx prev q qs le) in
     record {
       rx = one.alike.rx;
       until = one.until;
-      few = omega (arith, few, first, ap (λ (l : List ℕ). length l) arrives.arrivals, length-append (arrivals_of h.parts) (bytes_from h.rx (188 * p.index) 188), length-row h.rx (188 * p.index) 188);
+      few = omega (
+        arith,
+        few,
+        first,
+        ap (λ (l : List ℕ). length l) arrives.arrivals,
+        length-append (arrivals_of h.parts) (bytes_from h.rx (188 * p.index) 188),
+        length-row h.rx (188 * p.index) 188,
+      );
       main = λ x. one.main x ∙ ap (λ (l : List ℕ). main_fullness rate h.parts x + entered (until_at due) x l) (sym (first_left rate h.rx prev q qs le));
       later = λ x us. rw (after_it, one.alike.rx) refl;
     }
 
 -- what they leave in the main buffer is no more than that
-pub main_each : (rate low x : ℕ) (h : Held) (ps : List Arriving) (us : List AccessUnit) (before : Option DueTime) → ComeFrom low ps → length (arrivals_of h.parts) ≤ 188 * low →
+pub main_each : (rate low x : ℕ) (h : Held) (ps : List Arriving) (us : List AccessUnit) (before : Option DueTime) → ComeFrom low ps →
+    length (arrivals_of h.parts) ≤ 188 * low →
     Follows rate h.rx before ps us → until_of h.parts ≡ until_at before →
     main_fullness rate (after_each h (AtRate rate) ps).parts x
     ≤ main_fullness rate h.parts x + kept_each rate h.rx x us (map timed_packet ps) (pes_left rate h.rx (last_of rate h.parts) (map timed_packet ps))
@@ -130,8 +149,15 @@ main_each rate low x h (p ∷ ps) (u ∷ us) before come few follows e =
     let qs : List Packet = map timed_packet ps in
     let m = one_more rate low h p qs before come.0 come.1 few follows.0 e in
     let due : Option DueTime = due_with p.begins before in
-    let rest = main_each rate (suc p.index) x (after h (AtRate rate) p) ps us due come.2 m.few (subst (λ (r : ℕ). Follows rate r due ps us) (sym m.rx) follows.2) m.until in
-    omega (arith, rest, m.later x us, m.main x, no_more rate h.rx x u.dts due (take (timed_packet p).size (pes_left rate h.rx (last_of rate h.parts) (timed_packet p ∷ qs))) follows.1)
+    let rest = main_each rate (suc p.index) x (after h (AtRate rate) p) ps us due come.2 m.few
+    (subst (λ (r : ℕ). Follows rate r due ps us) (sym m.rx) follows.2) m.until in
+    omega (
+      arith,
+      rest,
+      m.later x us,
+      m.main x,
+      no_more rate h.rx x u.dts due (take (timed_packet p).size (pes_left rate h.rx (last_of rate h.parts) (timed_packet p ∷ qs))) follows.1,
+    )
 
 -- and just that where a unit is under way from the first of them on
 unfoldable pub UnderWay : Option DueTime → List Arriving → Type 0
@@ -147,12 +173,14 @@ still_under_way due (p ∷ ps) some = λ none. some (of_both p.begins due none)
     of_both None b e = e
     of_both (Some t) b e = absurd (let no : ⊥ = cc in no)
 
-same_entered : (rate r x due : ℕ) (o : Option DueTime) (ds : List ℕ) → (o ≡ None → ⊥) → (o ≡ None) ⊎ (o ≡ Some (due_time rate r due)) → entered (until_at o) x ds ≡ kept rate r x due ds
+same_entered : (rate r x due : ℕ) (o : Option DueTime) (ds : List ℕ) → (o ≡ None → ⊥) → (o ≡ None) ⊎ (o ≡ Some (due_time rate r due)) →
+    entered (until_at o) x ds ≡ kept rate r x due ds
 unfolding until_at
 same_entered rate r x due o ds under_way (inl none) = absurd (under_way none)
 same_entered rate r x due o ds under_way (inr some) = rw some (entered_kept rate r due x ds)
 
-pub main_each_is : (rate low x : ℕ) (h : Held) (ps : List Arriving) (us : List AccessUnit) (before : Option DueTime) → ComeFrom low ps → length (arrivals_of h.parts) ≤ 188 * low →
+pub main_each_is : (rate low x : ℕ) (h : Held) (ps : List Arriving) (us : List AccessUnit) (before : Option DueTime) → ComeFrom low ps →
+    length (arrivals_of h.parts) ≤ 188 * low →
     Follows rate h.rx before ps us → UnderWay before ps → until_of h.parts ≡ until_at before →
     main_fullness rate (after_each h (AtRate rate) ps).parts x
     ≡ main_fullness rate h.parts x + kept_each rate h.rx x us (map timed_packet ps) (pes_left rate h.rx (last_of rate h.parts) (map timed_packet ps))
@@ -163,9 +191,16 @@ main_each_is rate low x h (p ∷ ps) (u ∷ us) before come few follows under_wa
     let qs : List Packet = map timed_packet ps in
     let m = one_more rate low h p qs before come.0 come.1 few follows.0 e in
     let due : Option DueTime = due_with p.begins before in
-    let rest = main_each_is rate (suc p.index) x (after h (AtRate rate) p) ps us due come.2 m.few (subst (λ (r : ℕ). Follows rate r due ps us) (sym m.rx) follows.2)
+    let rest = main_each_is rate (suc p.index) x (after h (AtRate rate) p) ps us due come.2 m.few
+    (subst (λ (r : ℕ). Follows rate r due ps us) (sym m.rx) follows.2)
     (still_under_way due ps under_way) m.until in
-    omega (arith, rest, m.later x us, m.main x, same_entered rate h.rx x u.dts due (take (timed_packet p).size (pes_left rate h.rx (last_of rate h.parts) (timed_packet p ∷ qs))) under_way follows.1)
+    omega (
+      arith,
+      rest,
+      m.later x us,
+      m.main x,
+      same_entered rate h.rx x u.dts due (take (timed_packet p).size (pes_left rate h.rx (last_of rate h.parts) (timed_packet p ∷ qs))) under_way follows.1,
+    )
 
 -- as many bytes leave as the packets have
 pub many_left : (rate r prev : ℕ) (ps : List Packet) → All (λ p. p.size ≤ 188) ps → length (pes_left rate r prev ps) ≡ total (map (λ (p : Packet). p.size) ps)

@@ -1,5 +1,6 @@
 -- The last packets of a PID leave no more in a transport buffer than all of them.
-use Rattle.std.proofs.Common.{◌≡◌, ◌∙◌, sym, ℕ, ◌+◌, ◌*◌, ◌≤◌, max, cond, ◌&&◌, nat_le, nat_lt, Bool, true, false, List, [], ◌∷◌, ◌++◌, length, Option, Some, None, refl, ap, subst, inl, inr, arith}
+use Rattle.std.proofs.Common.{◌≡◌, ◌∙◌, sym, ℕ, ◌+◌, ◌*◌, ◌≤◌, max, cond, ◌&&◌, nat_le, nat_lt, Bool, true, false, List, [], ◌∷◌, ◌++◌, length, Option, Some}
+use Rattle.std.proofs.Common.{None, refl, ap, subst, inl, inr, arith}
 use Rattle.std.proofs.lemmas.Bool.{cases_lt, lt-ltb, le-ltb}
 use Rattle.std.proofs.lemmas.List.{append_assoc, map-append}
 use Rattle.clock27.specs.Arrival.{arrivals, bytes_from}
@@ -41,7 +42,8 @@ after_later x step p q (t ∷ ts) le =
 arrivals_two : (r : ℕ) (ss ts : List ℕ) → arrivals r (ss ++ ts) ≡ arrivals r ss ++ arrivals r ts
 unfolding arrivals
 arrivals_two r [] ts = refl
-arrivals_two r (s ∷ ss) ts = ap (λ (l : List ℕ). bytes_from r (188 * s) 188 ++ l) (arrivals_two r ss ts) ∙ sym (append_assoc (bytes_from r (188 * s) 188) (arrivals r ss) (arrivals r ts))
+arrivals_two r (s ∷ ss) ts = ap (λ (l : List ℕ). bytes_from r (188 * s) 188 ++ l) (arrivals_two r ss ts)
+    ∙ sym (append_assoc (bytes_from r (188 * s) 188) (arrivals r ss) (arrivals r ts))
 
 pub last_slots : (rate rx x : ℕ) (ss ts : List ℕ) → tb_fullness rate rx x ts ≤ tb_fullness rate rx x (ss ++ ts)
 last_slots rate rx x ss ts =
@@ -49,7 +51,8 @@ last_slots rate rx x ss ts =
     let last : List ℕ = arrivals rx ts in
     let prev : ℕ = last_left rate 0 first in
     let later = after_later x rate 0 prev last (omega arith) in
-    let both : fullness x (first ++ last) (departures rate 0 first ++ departures rate prev last) ≡ fullness x first (departures rate 0 first) + fullness x last (departures rate prev last) =
+    let both : fullness x (first ++ last) (departures rate 0 first ++ departures rate prev last) ≡ fullness x first (departures rate 0 first)
+    + fullness x last (departures rate prev last) =
     fullness-append x first last (departures rate 0 first) (departures rate prev last) (sym (length-departures rate 0 first)) in
     let whole : tb_fullness rate rx x (ss ++ ts) ≡ fullness x first (departures rate 0 first) + fullness x last (departures rate prev last) =
     ap (λ (l : List ℕ). fullness x l (departures rate 0 l)) (arrivals_two rx ss ts)
@@ -61,13 +64,15 @@ listed_two : (index : ℕ) (size : Option ℕ) (ps qs : List Packet) → listed 
 listed_two index None ps qs = refl
 listed_two index (Some size) ps qs = refl
 
-pub packets_two : (pid index : ℕ) (xs ys : List (List ℕ)) → packets_from pid index (xs ++ ys) ≡ packets_from pid index xs ++ packets_from pid (index + length xs) ys
+pub packets_two : (pid index : ℕ) (xs ys : List (List ℕ)) → packets_from pid index (xs ++ ys) ≡ packets_from pid index xs
+    ++ packets_from pid (index + length xs) ys
 unfolding packets_from
 packets_two pid index [] ys = let e : index ≡ index + 0 = omega arith in ap (λ (i : ℕ). packets_from pid i ys) e
 packets_two pid index (x ∷ xs) ys =
     let o : Option ℕ = size_in pid (packet_at x) in
     let e : index + 1 + length xs ≡ index + length (x ∷ xs) = omega arith in
-    let rest = subst (λ (i : ℕ). packets_from pid (index + 1) (xs ++ ys) ≡ packets_from pid (index + 1) xs ++ packets_from pid i ys) e (packets_two pid (index + 1) xs ys) in
+    let rest = subst (λ (i : ℕ). packets_from pid (index + 1) (xs ++ ys) ≡ packets_from pid (index + 1) xs ++ packets_from pid i ys) e
+    (packets_two pid (index + 1) xs ys) in
     ap (λ (l : List Packet). listed index o l) rest ∙ listed_two index o (packets_from pid (index + 1) xs) (packets_from pid (index + length (x ∷ xs)) ys)
 
 pub slots_two : (ps qs : List Packet) → slots_of (ps ++ qs) ≡ slots_of ps ++ slots_of qs

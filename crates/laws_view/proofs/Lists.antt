@@ -56,7 +56,8 @@ pub get_last : {A : Type 0} (xs : List A) (y : A) → slice_get (xs ++ y ∷ [])
 get_last [] y = refl
 get_last (z ∷ xs) y = get_last xs y
 
-pub get_either : {A : Type 0} (xs : List A) (y : A) (i : ℕ) (x : A) → slice_get (xs ++ y ∷ []) i ≡ Some x → (slice_get xs i ≡ Some x) ⊎ ((i ≡ length xs) × (y ≡ x))
+pub get_either : {A : Type 0} (xs : List A) (y : A) (i : ℕ) (x : A) → slice_get (xs ++ y ∷ []) i ≡ Some x →
+    (slice_get xs i ≡ Some x) ⊎ ((i ≡ length xs) × (y ≡ x))
 get_either [] y zero x e = inr (refl, some_is y x e)
 get_either [] y (suc i) x e = absurd (let no : ⊥ = cc in no)
 get_either (z ∷ xs) y zero x e = inl e

@@ -1,5 +1,6 @@
 -- What the packets of a stream leave in its main buffer, and its units, as the bytes of each come.
-use Rattle.std.proofs.Common.{◌≡◌, ◌∙◌, sym, ℕ, ◌+◌, ◌-◌, ◌*◌, ◌≤◌, Bool, true, false, List, [], ◌++◌, length, drop, Option, Some, None, if◌then◌else◌, refl, ap, inl, inr, arith}
+use Rattle.std.proofs.Common.{◌≡◌, ◌∙◌, sym, ℕ, ◌+◌, ◌-◌, ◌*◌, ◌≤◌, Bool, true, false, List, [], ◌++◌, length, drop, Option, Some, None, if◌then◌else◌, refl}
+use Rattle.std.proofs.Common.{ap, inl, inr, arith}
 use Rattle.std.specs.Option.{option_or}
 use Rattle.std.proofs.lemmas.Bool.Decides.{eqb_tells}
 use Rattle.std.proofs.lemmas.List.{append-nil, drop_at}
@@ -85,7 +86,8 @@ unfolding after_begin main_fullness
 begin_main h None rate x = refl
 begin_main h (Some due) rate x = refl
 
-begin_until : (h : Held) (due before : Option DueTime) → until_of h.parts ≡ until_at before → until_of (after_begin h due).parts ≡ until_at (due_with due before)
+begin_until : (h : Held) (due before : Option DueTime) → until_of h.parts ≡ until_at before →
+    until_of (after_begin h due).parts ≡ until_at (due_with due before)
 unfolding after_begin until_of until_at
 begin_until h None before e = e
 begin_until h (Some due) before e = refl
@@ -96,7 +98,8 @@ carried_main : (h : Held) (n : ℕ) (times : List ℕ) (rate x : ℕ) → length
     main_fullness rate (after_payload h true n times).parts x ≡ main_fullness rate h.parts x + entered (until_of h.parts) x (left_after rate h.parts times)
 unfolding after_payload main_fullness departures
 carried_main h n times rate x e = elim (eqb_tells n 0) [
-  | inl none ↦ let empty : times ≡ [] = no_times times (e ∙ none.1) in rw (none.0, empty) (let nil : main_fullness rate h.parts x ≡ main_fullness rate h.parts x + 0 = omega arith in nil)
+  | inl none ↦ let empty : times ≡ [] = no_times times (e ∙ none.1) in
+      rw (none.0, empty) (let nil : main_fullness rate h.parts x ≡ main_fullness rate h.parts x + 0 = omega arith in nil)
   | inr some ↦ rw some.0 refl
 ]
 
@@ -118,7 +121,8 @@ pub record Headed (rate : ℕ) (h c : Held) (p : Arriving) (before : Option DueT
   pub alike : Alike h c
   pub main : (x : ℕ) → main_fullness rate c.parts x ≡ main_fullness rate h.parts x
   pub until : until_of c.parts ≡ until_at (due_with p.begins before)
-  pub left : left_after rate c.parts (bytes_from h.rx (188 * p.index + (188 - size)) size) ≡ payload_of_packet rate h.rx (last_of rate h.parts) (record { slot = p.index; size = size })
+  pub left : left_after rate c.parts (bytes_from h.rx (188 * p.index + (188 - size)) size) ≡ payload_of_packet rate h.rx (last_of rate h.parts)
+      (record { slot = p.index; size = size })
 
 pub headed : (rate : ℕ) (h : Held) (p : Arriving) (before : Option DueTime) (size : ℕ) → size ≤ 188 → until_of h.parts ≡ until_at before →
     Headed rate h (after_unit h (AtRate rate) p size 0) p before size
@@ -129,7 +133,8 @@ headed rate h p before size le e =
     let one : List ℕ = times_at (AtRate rate) h.rx (188 * p.index) 0 in
     let two : List ℕ = times_at (AtRate rate) a.rx (188 * p.index + 0) (188 - size - 0) in
     let first : Arrives h a (bytes_from h.rx (188 * p.index) 0) = bytes_arrive h rate h.rx false (188 * p.index) 0 refl in
-    let second : Arrives a b (bytes_from h.rx (188 * p.index + 0) (188 - size - 0)) = bytes_arrive a rate h.rx false (188 * p.index + 0) (188 - size - 0) first.alike.rx in
+    let second : Arrives a b (bytes_from h.rx (188 * p.index + 0) (188 - size - 0)) =
+    bytes_arrive a rate h.rx false (188 * p.index + 0) (188 - size - 0) first.alike.rx in
     let third : Arrives b c [] = begin_arrives b p.begins in
     let none : bytes_from h.rx (188 * p.index) 0 ≡ [] = no_times (bytes_from h.rx (188 * p.index) 0) (length-row h.rx (188 * p.index) 0) in
     let place : 188 * p.index + 0 ≡ 188 * p.index = omega arith in
@@ -160,9 +165,11 @@ pub no_lead : (rate : ℕ) (p : Arriving) → lead_in (AtRate rate) p ≡ 0
 unfolding lead_of
 no_lead rate p = omega arith
 
-packet_parts : (rate : ℕ) (h : Held) (p : Arriving) (before : Option DueTime) (size : ℕ) → size ≤ 188 → p.enters ≡ true → until_of h.parts ≡ until_at before → (x : ℕ) →
+packet_parts : (rate : ℕ) (h : Held) (p : Arriving) (before : Option DueTime) (size : ℕ) → size ≤ 188 → p.enters ≡ true → until_of h.parts ≡ until_at before →
+    (x : ℕ) →
     (main_fullness rate (with_packet h (AtRate rate) p size 0).parts x
-    ≡ main_fullness rate h.parts x + entered (until_at (due_with p.begins before)) x (payload_of_packet rate h.rx (last_of rate h.parts) (record { slot = p.index; size = size })))
+    ≡ main_fullness rate h.parts x
+    + entered (until_at (due_with p.begins before)) x (payload_of_packet rate h.rx (last_of rate h.parts) (record { slot = p.index; size = size })))
     × (until_of (with_packet h (AtRate rate) p size 0).parts ≡ until_at (due_with p.begins before))
 unfolding times_at
 packet_parts rate h p before size le enters e x =
@@ -177,7 +184,8 @@ packet_parts rate h p before size le enters e x =
       rw enters (until_payload c true size times ∙ k.until),
     )
 
-pub packet_enters : (rate : ℕ) (h : Held) (p : Arriving) (before : Option DueTime) → takes_in h (AtRate rate) p ≡ true → p.enters ≡ true → until_of h.parts ≡ until_at before →
+pub packet_enters : (rate : ℕ) (h : Held) (p : Arriving) (before : Option DueTime) → takes_in h (AtRate rate) p ≡ true → p.enters ≡ true →
+    until_of h.parts ≡ until_at before →
     Enters rate h (after h (AtRate rate) p) p before
 unfolding after
 packet_enters rate h p before takes enters e =

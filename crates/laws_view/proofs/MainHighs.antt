@@ -201,7 +201,8 @@ most_of-append step (Carries ts ∷ later) recent before =
 most_of-append step (Begins due ∷ later) recent before = most_of-append step later recent before
 
 -- bytes that enter later make no difference to it
-most_is : (step : ℕ) (recent before : List Part) → 0 < step → most_of step recent before ≡ greatest_at (main_fullness step (recent ++ before)) (entries_of step recent before)
+most_is : (step : ℕ) (recent before : List Part) → 0 < step →
+    most_of step recent before ≡ greatest_at (main_fullness step (recent ++ before)) (entries_of step recent before)
 unfolding most_of entries_of main_fullness greatest_at
 most_is step [] before pos = refl
 most_is step (Passes ts ∷ recent) before pos = most_is step recent before pos
@@ -213,7 +214,8 @@ most_is step (Carries ts ∷ recent) before pos =
     let f : ℕ → ℕ = main_fullness step p in
     let g : ℕ → ℕ = λ x. f x + entered (until_of p) x ds in
     let rises = climbs_rises (suc last) ds (departures_climb step last ts pos) in
-    let same : All (λ d. g d ≡ f d) es = All-weaker (λ d. d ≤ last) (λ d. g d ≡ f d) (λ d le. omega (arith, none_entered (until_of p) d ds (suc last) (omega (arith, le)) rises)) es
+    let same : All (λ d. g d ≡ f d) es =
+    All-weaker (λ d. d ≤ last) (λ d. g d ≡ f d) (λ d le. omega (arith, none_entered (until_of p) d ds (suc last) (omega (arith, le)) rises)) es
     (entries_by step recent before) in
     omega (arith, greatest_at-append g es ds, same_greatest g f es same, most_is step recent before pos)
 most_is step (Begins due ∷ recent) before pos = most_is step recent before pos
@@ -228,16 +230,20 @@ never_more step x recent before pos some = elim (latest x (entries_of step recen
       let f : ℕ → ℕ = main_fullness step (recent ++ before) in
       let last : ℕ = last_of step before in
       let left = payload_left step before in
-      let those : All (λ d. last < d) (l.first ++ l.y ∷ l.others) = subst (λ (ds : List ℕ). All (λ d. last < d) ds) l.is (entries_later step recent before pos) in
+      let those : All (λ d. last < d) (l.first ++ l.y ∷ l.others) =
+      subst (λ (ds : List ℕ). All (λ d. last < d) ds) l.is (entries_later step recent before pos) in
       let after : last < l.y = All-head (λ d. last < d) l.y l.others (all_others (λ d. last < d) l.first (l.y ∷ l.others) those) in
       let old : All (Apart l.y x) left = All-weaker (λ d. d ≤ last) (Apart l.y x) (λ d le. inl (omega (arith, le, after))) left (payload_by step before) in
-      let all : All (Apart l.y x) (payload_left step (recent ++ before)) = subst (λ (ds : List ℕ). All (Apart l.y x) ds) (sym (entries_follow step recent before))
+      let all : All (Apart l.y x) (payload_left step (recent ++ before)) =
+      subst (λ (ds : List ℕ). All (Apart l.y x) ds) (sym (entries_follow step recent before))
       (All-append (Apart l.y x) left (entries_of step recent before) old l.apart) in
-      let inside : f l.y ≤ greatest_at f (entries_of step recent before) = subst (λ (ds : List ℕ). f l.y ≤ greatest_at f ds) (sym l.is) (greatest_in f l.y l.first l.others) in
+      let inside : f l.y ≤ greatest_at f (entries_of step recent before) =
+      subst (λ (ds : List ℕ). f l.y ≤ greatest_at f ds) (sym l.is) (greatest_in f l.y l.first l.others) in
       le_trans (since step l.y x (recent ++ before) l.by all) inside
 ]
 
-pub is_high : (step d : ℕ) (ds : List ℕ) (recent before : List Part) → 0 < step → entries_of step recent before ≡ d ∷ ds → IsHigh step recent before (most_of step recent before)
+pub is_high : (step d : ℕ) (ds : List ℕ) (recent before : List Part) → 0 < step → entries_of step recent before ≡ d ∷ ds →
+    IsHigh step recent before (most_of step recent before)
 is_high step d ds recent before pos some =
     let es = entries_of step recent before in
     let f : ℕ → ℕ = main_fullness step (recent ++ before) in
@@ -246,7 +252,8 @@ is_high step d ds recent before pos some =
     record {
       entries = es;
       follow = entries_follow step recent before;
-      later = All-weaker (λ e. last_of step before < e) (λ e. All (λ d. d < e) (payload_left step before)) (λ e lt. all_sooner e lt) es (entries_later step recent before pos);
+      later = All-weaker (λ e. last_of step before < e) (λ e. All (λ d. d < e) (payload_left step before)) (λ e lt. all_sooner e lt) es
+          (entries_later step recent before pos);
       greatest = record {
         never_more = λ x late. omega (arith, most, never_more step x recent before pos late);
         first = r.first;

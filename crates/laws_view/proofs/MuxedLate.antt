@@ -1,5 +1,6 @@
 -- The units of a run that a multiplexer wrote, in a view.
-use Rattle.std.proofs.Common.{◌≡◌, ◌∙◌, sym, ℕ, zero, suc, ◌+◌, ◌*◌, ◌≤◌, max, false, cond, Bool, true, List, [], ◌∷◌, ◌++◌, length, map, take, drop, replicate, Option, Some, None, refl, ap, subst, arith, All}
+use Rattle.std.proofs.Common.{◌≡◌, ◌∙◌, sym, ℕ, zero, suc, ◌+◌, ◌*◌, ◌≤◌, max, false, cond, Bool, true, List, [], ◌∷◌, ◌++◌, length, map, take, drop, replicate}
+use Rattle.std.proofs.Common.{Option, Some, None, refl, ap, subst, arith, All}
 use Rattle.std.specs.Prelude.{count_by, slice_get}
 use Rattle.std.proofs.Math.Nat.{mul-le-mul_right}
 use Rattle.std.proofs.lemmas.List.{append_assoc, map-append}
@@ -109,11 +110,14 @@ senders_before l (u ∷ us) n all =
 
 due_all : (rate n m : ℕ) (us : List AccessUnit) → All (λ u. u.dts ≤ m) us → All (λ u. u.dts * rate ≤ (n + m * rate) * slot_units_at_1bps) us
 due_all rate n m us all =
-    All-weaker (λ u. u.dts ≤ m) (λ u. u.dts * rate ≤ (n + m * rate) * slot_units_at_1bps) (λ u le. let far : u.dts * rate ≤ m * rate = mul-le-mul_right rate le in omega (arith, far)) us all
+    All-weaker (λ u. u.dts ≤ m) (λ u. u.dts * rate ≤ (n + m * rate) * slot_units_at_1bps)
+    (λ u le. let far : u.dts * rate ≤ m * rate = mul-le-mul_right rate le in omega (arith, far)) us all
 
 -- the packets of a stream, each of which leaves by its unit's decoding time
-stream_in_time : (d : Scheduled) (units : ℕ → List AccessUnit) (slots k : ℕ) (s : DescribedStream) → IsInRange d.description → Promised d.description d.schedule → UnitsKept d units →
-    slice_get d.description.streams k ≡ Some s → (es : List Entry) → es ≡ entries_from s.pid 0 (cut_packets (run_bytes (content_at d units) 0 slots)) → All (λ p. p.size ≤ 188) (map entry_packet es) →
+stream_in_time : (d : Scheduled) (units : ℕ → List AccessUnit) (slots k : ℕ) (s : DescribedStream) → IsInRange d.description →
+    Promised d.description d.schedule → UnitsKept d units →
+    slice_get d.description.streams k ≡ Some s → (es : List Entry) → es ≡ entries_from s.pid 0 (cut_packets (run_bytes (content_at d units) 0 slots)) →
+    All (λ p. p.size ≤ 188) (map entry_packet es) →
     All (IsCut s.stream_id d.description.base0) (cuts_of (owned_stream d k s) (units k)) →
     packet_sizes (map entry_packet es) ≡ take (length (map entry_packet es)) (sizes_of (cut_pieces (cuts_of (owned_stream d k s) (units k)))) →
     LeaveInTime d.description.rate s.rx 0 (cut_senders (cuts_of (owned_stream d k s) (units k))) (map entry_packet es)
@@ -133,20 +137,24 @@ stream_in_time d units slots k s ranges promised kept is es same sized cut sizes
     let first : packets_in_slots own rate s.lead 0 pes (own_slots own 0 slots) ≡ qs =
     sym carried.packets ∙ ap (λ (xs : List Entry). map entry_packet xs) (pid_entries s.pid (run_bytes (content_at d units) 0 slots) ∙ sym same) in
     let later : List Packet = packets_by_slot own (payload_size_at own rate s.lead 0 pes) (own_slots own (0 + slots) more) in
-    let on : packets_in_slots own rate s.lead 0 pes (own_slots own 0 (slots + more)) ≡ qs ++ later = packets_go_on own rate s.lead slots more pes ∙ ap (λ (ps : List Packet). ps ++ later) first in
+    let on : packets_in_slots own rate s.lead 0 pes (own_slots own 0 (slots + more)) ≡ qs ++ later = packets_go_on own rate s.lead slots more pes
+    ∙ ap (λ (ps : List Packet). ps ++ later) first in
     let all : AllLeft rate s.rx (slots + more) pes (pes_left rate s.rx 0 (qs ++ later)) =
     subst (λ (ps : List Packet). AllLeft rate s.rx (slots + more) pes (pes_left rate s.rx 0 ps)) on (served.arrived (slots + more)) in
     let cuts : List CutUnit = cuts_of l us in
     let all_too : AllLeft rate s.rx (slots + more) (timed_pes_packets s.stream_id d.description.base0 (cut_units cuts)) (pes_left rate s.rx 0 (qs ++ later)) =
-    subst (λ (vs : List AccessUnit). AllLeft rate s.rx (slots + more) (timed_pes_packets s.stream_id d.description.base0 vs) (pes_left rate s.rx 0 (qs ++ later))) (sym (same_units l us)) all in
+    subst (λ (vs : List AccessUnit). AllLeft rate s.rx (slots + more) (timed_pes_packets s.stream_id d.description.base0 vs)
+    (pes_left rate s.rx 0 (qs ++ later))) (sym (same_units l us)) all in
     let timely = timely_units rate s.rx (slots + more) s.stream_id d.description.base0 cuts qs (pes_left rate s.rx 0 (qs ++ later)) cut sizes all_too in
     let before : All (λ u. u.dts ≤ latest us) (cut_senders cuts) =
-    subst (λ (vs : List AccessUnit). All (λ u. u.dts ≤ latest us) vs) (same_senders l us) (senders_before l us (latest us) (all_before us (latest us) (omega arith))) in
+    subst (λ (vs : List AccessUnit). All (λ u. u.dts ≤ latest us) vs) (same_senders l us)
+    (senders_before l us (latest us) (all_before us (latest us) (omega arith))) in
     leave_timely rate s.rx (slots + more) 0 (cut_senders cuts) qs later sized (due_all rate slots (latest us) (cut_senders cuts) before) timely
 
 -- ---- the view
 
-view_fine : (rate rx size low : ℕ) (ps : List Arriving) (us : List AccessUnit) → ComeFrom low ps → Follows rate rx None ps us → LeaveInTime rate rx 0 us (map timed_packet ps) →
+view_fine : (rate rx size low : ℕ) (ps : List Arriving) (us : List AccessUnit) → ComeFrom low ps → Follows rate rx None ps us →
+    LeaveInTime rate rx 0 us (map timed_packet ps) →
     count_by is_late (all_units rate (after_each (empty rate rx size) (AtRate rate) ps).parts) ≡ 0
 unfolding arrivals_of last_left until_of until_at UnitFine unit_of units_ended
 view_fine rate rx size low ps us come follows in_time = fine_each rate low (empty rate rx size) ps us None come (omega arith) refl follows refl in_time tt refl
@@ -162,15 +170,18 @@ run_late_law d units slots request e k ranges promised kept few viewed whole =
     let v = run_viewed d units slots request e k ranges promised kept few viewed whole in
     let es : List Entry = entries_from s.pid 0 whole.begun.before in
     let fs : List Entry = entries_from s.pid (length whole.begun.before) rest in
-    let all = stream_in_time d units slots k s ranges promised kept viewed.there (entries_from s.pid 0 chunks) refl (sizes_below base0 v.sent.first None (entries_from s.pid 0 chunks) us v.sent.sent) v.sent.cut v.sent.sizes in
-    let two : map entry_packet (entries_from s.pid 0 chunks) ≡ map entry_packet es ++ map entry_packet fs = ap (λ (xs : List Entry). map entry_packet xs) v.entries ∙ map-append entry_packet es fs in
+    let all = stream_in_time d units slots k s ranges promised kept viewed.there (entries_from s.pid 0 chunks) refl
+    (sizes_below base0 v.sent.first None (entries_from s.pid 0 chunks) us v.sent.sent) v.sent.cut v.sent.sizes in
+    let two : map entry_packet (entries_from s.pid 0 chunks) ≡ map entry_packet es ++ map entry_packet fs =
+    ap (λ (xs : List Entry). map entry_packet xs) v.entries ∙ map-append entry_packet es fs in
     let last : LeaveInTime rate s.rx 0 (drop (length es) us) (map entry_packet fs) =
     subst (λ (n : ℕ). LeaveInTime rate s.rx 0 (drop n us) (map entry_packet fs)) (many_packets es)
     (leave_last rate s.rx 0 us (map entry_packet es) (map entry_packet fs) (subst (λ (ps : List Packet). LeaveInTime rate s.rx 0 us ps) two all)) in
     let in_time : LeaveInTime rate e.held.rx 0 (drop (length es) us) (map timed_packet (stream_packets request e whole.begun.before rest)) =
     subst (λ (r : ℕ). LeaveInTime rate r 0 (drop (length es) us) (map timed_packet (stream_packets request e whole.begun.before rest))) (sym viewed.rx)
     (subst (λ (ps : List Packet). LeaveInTime rate s.rx 0 (drop (length es) us) ps) (sym v.begin.packets) last) in
-    let none = view_fine rate e.held.rx e.held.main.size (known_at_begin (followed request e) whole.begun.before).index (stream_packets request e whole.begun.before rest) (drop (length es) us)
+    let none = view_fine rate e.held.rx e.held.main.size (known_at_begin (followed request e) whole.begun.before).index
+    (stream_packets request e whole.begun.before rest) (drop (length es) us)
     v.begin.come v.begin.follows in_time in
     let no_late : count_by is_late (all_units rate e.held.parts) ≡ 0 = ap (λ (h : Held). count_by is_late (all_units rate h.parts)) whole.held ∙ none in
     record { none = no_late; number = λ window. whole.lines.late window ∙ no_late }

@@ -1,5 +1,6 @@
 -- The multiplexing buffers of a run that a multiplexer wrote, in a view, where a byte takes a whole number of units of time to leave them.
-use Rattle.std.proofs.Common.{◌≡◌, ◌∙◌, sym, ℕ, zero, suc, ◌+◌, ◌*◌, ◌/◌, ◌<◌, ◌≤◌, false, List, [], ◌∷◌, ◌++◌, length, map, drop, Option, Some, None, refl, ap, ap₂, subst, arith}
+use Rattle.std.proofs.Common.{◌≡◌, ◌∙◌, sym, ℕ, zero, suc, ◌+◌, ◌*◌, ◌/◌, ◌<◌, ◌≤◌, false, List, [], ◌∷◌, ◌++◌, length, map, drop, Option, Some, None, refl, ap}
+use Rattle.std.proofs.Common.{ap₂, subst, arith}
 use Rattle.std.specs.Prelude.{flat_map}
 use Rattle.std.proofs.Math.Nat.{mul-div_cancel_left, mul-pos}
 use Rattle.std.proofs.lemmas.List.{map-append}
@@ -77,7 +78,7 @@ same_fullness rate rx rbx leak x packets some exact =
     )
 
 -- from an empty buffer on
-payload_all : (rate rx size low : ℕ) (ps : List Arriving) (us : List AccessUnit) → ComeFrom low ps → Follows rate rx None ps us →
+pub payload_all : (rate rx size low : ℕ) (ps : List Arriving) (us : List AccessUnit) → ComeFrom low ps → Follows rate rx None ps us →
     payload_left rate (after_each (empty rate rx size) (AtRate rate) ps).parts ≡ pes_left rate rx 0 (map timed_packet ps)
 unfolding payload_left arrivals_of last_left until_of until_at
 payload_all rate rx size low ps us come follows = payload_each rate low (empty rate rx size) ps us None come (omega arith) follows refl
@@ -99,11 +100,13 @@ run_multiplexing_law d units slots request e k b sizes ranges promised kept few 
     let back : List Packet = map entry_packet fs in
     let none : front ≡ [] = packets_entries s.pid 0 whole.begun.before ∙ ap (λ (q : ℕ). packets_from q 0 whole.begun.before) (sym viewed.pid) ∙ first in
     let on : packets_on s.pid bytes ≡ back =
-    ap (λ (xs : List Entry). map entry_packet xs) (pid_entries s.pid bytes) ∙ ap (λ (xs : List Entry). map entry_packet xs) v.entries ∙ map-append entry_packet es fs
+    ap (λ (xs : List Entry). map entry_packet xs) (pid_entries s.pid bytes) ∙ ap (λ (xs : List Entry). map entry_packet xs) v.entries
+    ∙ map-append entry_packet es fs
     ∙ ap (λ (xs : List Packet). xs ++ back) none in
     let payload : payload_left rate e.held.parts ≡ pes_left rate s.rx 0 (packets_on s.pid bytes) =
     ap (λ (g : Held). payload_left rate g.parts) whole.held
-    ∙ payload_all rate e.held.rx e.held.main.size (known_at_begin (followed request e) whole.begun.before).index ps (drop (length es) (cut_senders (cuts_of (owned_stream d k s) (units k))))
+    ∙ payload_all rate e.held.rx e.held.main.size (known_at_begin (followed request e) whole.begun.before).index ps
+    (drop (length es) (cut_senders (cuts_of (owned_stream d k s) (units k))))
     v.begin.come v.begin.follows
     ∙ ap₂ (λ (r : ℕ) (qs : List Packet). pes_left rate r 0 qs) viewed.rx (v.begin.packets ∙ sym on) in
     let some_rate : 0 < rate = omega (arith, ranges.least_rate) in
@@ -131,6 +134,8 @@ pub job_multiplexing_law : JobMultiplexingLaw
 job_multiplexing_law d units slots request e k b sizes ranges promised none few viewed =
     let each : ℕ → List AccessUnit = λ j. units_of j units in
     let same : run_bytes (content_at d each) 0 slots ≡ output_of false d (job_history units slots) = sym (output_bytes (content_at d each) 0 slots) in
-    subst (λ (bytes : List ℕ). (whole : IsWhole request d.description.rate (cut_packets bytes) e) → FromTheFirst e.pid whole.begun.before → viewed.stream.multiplexing ≡ Some b →
-    e.video ≡ Some sizes → LeaksAs d.description.rate viewed.stream.rx b sizes → NoMultiplexingExcess request d.description.rate (cut_packets bytes) e sizes whole) same
+    subst (λ (bytes : List ℕ). (whole : IsWhole request d.description.rate (cut_packets bytes) e) → FromTheFirst e.pid whole.begun.before →
+    viewed.stream.multiplexing ≡ Some b →
+    e.video ≡ Some sizes → LeaksAs d.description.rate viewed.stream.rx b sizes →
+    NoMultiplexingExcess request d.description.rate (cut_packets bytes) e sizes whole) same
     (run_multiplexing_law d each slots request e k b sizes ranges promised (job_kept d units ranges none) few viewed)

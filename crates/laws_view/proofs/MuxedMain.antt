@@ -56,10 +56,14 @@ none_listed [] h = refl
 none_listed (e ∷ es) h = absurd (let no : ⊥ = cc in no)
 
 -- by which clock reference its units go in a view
-run_clocks : (d : Scheduled) (units : ℕ → List AccessUnit) (slots : ℕ) (request : RequestView) (e : EntryState) (pid : ℕ) → IsInRange d.description → Promised d.description d.schedule →
-    UnitsKept d units → slots ≤ most_packets → (before rest : List (List ℕ)) → request.options.arrival ≡ AtRate d.description.rate → e.pid ≡ pid → length before + length rest ≡ slots →
-    cut_packets (run_bytes (content_at d units) 0 slots) ≡ before ++ rest → (us : List AccessUnit) → Timed d.description.rate (entries_from pid (length before) rest) us →
-    Clocked d.description.rate d.description.base0 (entries_from pid (length before) rest) us (clocks_seen (followed request e) (known_at_begin (followed request e) before) rest)
+run_clocks : (d : Scheduled) (units : ℕ → List AccessUnit) (slots : ℕ) (request : RequestView) (e : EntryState) (pid : ℕ) → IsInRange d.description →
+    Promised d.description d.schedule →
+    UnitsKept d units → slots ≤ most_packets → (before rest : List (List ℕ)) → request.options.arrival ≡ AtRate d.description.rate → e.pid ≡ pid →
+    length before + length rest ≡ slots →
+    cut_packets (run_bytes (content_at d units) 0 slots) ≡ before ++ rest → (us : List AccessUnit) →
+    Timed d.description.rate (entries_from pid (length before) rest) us →
+    Clocked d.description.rate d.description.base0 (entries_from pid (length before) rest) us
+    (clocks_seen (followed request e) (known_at_begin (followed request e) before) rest)
 run_clocks d units slots request e pid ranges promised kept few before rest at_rate same lengths split us timed =
     let rate : ℕ = d.description.rate in
     let base0 : ℕ = d.description.base0 in
@@ -78,17 +82,22 @@ run_clocks d units slots request e pid ranges promised kept few before rest at_r
     (clocked r f b rest us run (omega (arith, index, lengths)) (subst (λ (es : List Entry). Timed rate es us) all timed) clock_now)
 
 -- a stream of a run and its view
-pub record RunViewed (d : Scheduled) (units : List AccessUnit) (slots : ℕ) (bytes : List ℕ) (k : ℕ) (s : DescribedStream) (request : RequestView) (e : EntryState) (before rest : List (List ℕ)) : Type 0 where
+pub record RunViewed (d : Scheduled) (units : List AccessUnit) (slots : ℕ) (bytes : List ℕ) (k : ℕ) (s : DescribedStream) (request : RequestView)
+    (e : EntryState) (before rest : List (List ℕ)) : Type 0 where
   pub sent : StreamSent d s k units (cut_packets bytes)
   pub lengths : length before + length rest ≡ slots
   pub entries : entries_from s.pid 0 (cut_packets bytes) ≡ entries_from s.pid 0 before ++ entries_from s.pid (length before) rest
   pub clocks : (us : List AccessUnit) → Timed d.description.rate (entries_from s.pid (length before) rest) us →
-      Clocked d.description.rate d.description.base0 (entries_from s.pid (length before) rest) us (clocks_seen (followed request e) (known_at_begin (followed request e) before) rest)
+      Clocked d.description.rate d.description.base0 (entries_from s.pid (length before) rest) us
+      (clocks_seen (followed request e) (known_at_begin (followed request e) before) rest)
   -- from the packet on with which the buffers begin
-  pub begin : FromBegin d.description.rate (drop (length (entries_from s.pid 0 before)) (cut_senders (cuts_of (owned_stream d k s) units))) request e s.pid before rest
+  pub begin : FromBegin d.description.rate (drop (length (entries_from s.pid 0 before)) (cut_senders (cuts_of (owned_stream d k s) units))) request e s.pid
+      before rest
 
-pub run_viewed : (d : Scheduled) (units : ℕ → List AccessUnit) (slots : ℕ) (request : RequestView) (e : EntryState) (k : ℕ) → IsInRange d.description → Promised d.description d.schedule →
-    UnitsKept d units → slots ≤ most_packets → (viewed : IsViewedAs d request k e) → (whole : IsWhole request d.description.rate (cut_packets (run_bytes (content_at d units) 0 slots)) e) →
+pub run_viewed : (d : Scheduled) (units : ℕ → List AccessUnit) (slots : ℕ) (request : RequestView) (e : EntryState) (k : ℕ) → IsInRange d.description →
+    Promised d.description d.schedule →
+    UnitsKept d units → slots ≤ most_packets → (viewed : IsViewedAs d request k e) →
+    (whole : IsWhole request d.description.rate (cut_packets (run_bytes (content_at d units) 0 slots)) e) →
     RunViewed d (units k) slots (run_bytes (content_at d units) 0 slots) k viewed.stream request e whole.begun.before (whole.begun.first ∷ whole.begun.later)
 run_viewed d units slots request e k ranges promised kept few viewed whole =
     let rate : ℕ = d.description.rate in
@@ -102,13 +111,16 @@ run_viewed d units slots request e k ranges promised kept few viewed whole =
     let before : List (List ℕ) = whole.begun.before in
     let rest : List (List ℕ) = whole.begun.first ∷ whole.begun.later in
     let split : chunks ≡ whole.begun.before ++ rest = whole.begun.split in
-    let lengths : length whole.begun.before + length rest ≡ slots = sym (length-append whole.begun.before rest) ∙ ap (λ (xs : List (List ℕ)). length xs) (sym split) ∙ many in
-    let sent = stream_sent d s k (units k) slots bytes viewed.there ranges (kept.parameters k s viewed.there) (kept.kept k s viewed.there) (h.streams k s viewed.there) (omega (arith, many)) in
+    let lengths : length whole.begun.before + length rest ≡ slots = sym (length-append whole.begun.before rest)
+    ∙ ap (λ (xs : List (List ℕ)). length xs) (sym split) ∙ many in
+    let sent = stream_sent d s k (units k) slots bytes viewed.there ranges (kept.parameters k s viewed.there) (kept.kept k s viewed.there)
+    (h.streams k s viewed.there) (omega (arith, many)) in
     let es : List Entry = entries_from s.pid 0 whole.begun.before in
     let fs : List Entry = entries_from s.pid (length whole.begun.before) rest in
     let entries : entries_from s.pid 0 chunks ≡ es ++ fs =
     ap (λ (xs : List (List ℕ)). entries_from s.pid 0 xs) split ∙ entries_two s.pid 0 whole.begun.before rest
-    ∙ (let place : 0 + length whole.begun.before ≡ length whole.begun.before = omega arith in ap (λ (i : ℕ). entries_from s.pid 0 whole.begun.before ++ entries_from s.pid i rest) place) in
+    ∙ (let place : 0 + length whole.begun.before ≡ length whole.begun.before =
+    omega arith in ap (λ (i : ℕ). entries_from s.pid 0 whole.begun.before ++ entries_from s.pid i rest) place) in
     let later = later_sent base0 sent.first None es fs us (subst (λ (xs : List Entry). AllSent base0 sent.first None xs us) entries sent.sent) in
     let timed = later_timed rate es fs us (subst (λ (xs : List Entry). Timed rate xs us) entries sent.timed) in
     let clocks = run_clocks d units slots request e s.pid ranges promised kept few whole.begun.before rest viewed.arrival viewed.pid lengths split in
@@ -117,13 +129,15 @@ run_viewed d units slots request e k ranges promised kept few viewed whole =
       lengths = lengths;
       entries = entries;
       clocks = clocks;
-      begin = from_begin rate base0 (drop (length es) us) request e s.pid later.number later.last whole.begun.before rest viewed.arrival (omega (arith, lengths, few)) viewed.pid later.sent
+      begin = from_begin rate base0 (drop (length es) us) request e s.pid later.number later.last whole.begun.before rest viewed.arrival
+          (omega (arith, lengths, few)) viewed.pid later.sent
           (clocks (drop (length es) us) timed);
     }
 
 -- where none of a PID's packets is before them, these are all
 pub none_entries : (pid viewed : ℕ) (before rest chunks : List (List ℕ)) → viewed ≡ pid → FromTheFirst viewed before →
-    entries_from pid 0 chunks ≡ entries_from pid 0 before ++ entries_from pid (length before) rest → entries_from pid 0 chunks ≡ entries_from pid (length before) rest
+    entries_from pid 0 chunks ≡ entries_from pid 0 before ++ entries_from pid (length before) rest →
+    entries_from pid 0 chunks ≡ entries_from pid (length before) rest
 none_entries pid viewed before rest chunks same first all =
     let none : entries_from pid 0 before ≡ [] =
     none_listed (entries_from pid 0 before) (packets_entries pid 0 before ∙ ap (λ (q : ℕ). packets_from q 0 before) (sym same) ∙ first) in
@@ -136,10 +150,13 @@ record RunLater (d : Scheduled) (s : DescribedStream) (k : ℕ) (us : List Acces
   on : packets_on s.pid bytes ≡ front ++ back
   late : NoneLeavesEarly s.rx (packets_on s.pid bytes) (pes_left d.description.rate s.rx 0 front ++ pes_left d.description.rate s.rx 0 back)
   fuller : (x : ℕ) → main_fullness d.description.rate e.held.parts x
-      ≤ mb_fullness d.description.rate s.rx x (timed_pes_packets s.stream_id d.description.base0 us) (pes_left d.description.rate s.rx 0 front ++ pes_left d.description.rate s.rx 0 back)
+      ≤ mb_fullness d.description.rate s.rx x (timed_pes_packets s.stream_id d.description.base0 us)
+      (pes_left d.description.rate s.rx 0 front ++ pes_left d.description.rate s.rx 0 back)
 
-run_later : (d : Scheduled) (units : ℕ → List AccessUnit) (slots : ℕ) (request : RequestView) (e : EntryState) (k : ℕ) → IsInRange d.description → Promised d.description d.schedule →
-    UnitsKept d units → slots ≤ most_packets → (viewed : IsViewedAs d request k e) → (whole : IsWhole request d.description.rate (cut_packets (run_bytes (content_at d units) 0 slots)) e) →
+run_later : (d : Scheduled) (units : ℕ → List AccessUnit) (slots : ℕ) (request : RequestView) (e : EntryState) (k : ℕ) → IsInRange d.description →
+    Promised d.description d.schedule →
+    UnitsKept d units → slots ≤ most_packets → (viewed : IsViewedAs d request k e) →
+    (whole : IsWhole request d.description.rate (cut_packets (run_bytes (content_at d units) 0 slots)) e) →
     RunLater d viewed.stream k (units k) (run_bytes (content_at d units) 0 slots) e (map entry_packet (entries_from viewed.stream.pid 0 whole.begun.before))
 run_later d units slots request e k ranges promised kept few viewed whole =
     let rate : ℕ = d.description.rate in
@@ -155,29 +172,37 @@ run_later d units slots request e k ranges promised kept few viewed whole =
     let fs : List Entry = entries_from s.pid (length whole.begun.before) rest in
     let front : List Packet = map entry_packet es in
     let back : List Packet = map entry_packet fs in
-    let two : map entry_packet (entries_from s.pid 0 (cut_packets bytes)) ≡ front ++ back = ap (λ (xs : List Entry). map entry_packet xs) v.entries ∙ map-append entry_packet es fs in
+    let two : map entry_packet (entries_from s.pid 0 (cut_packets bytes)) ≡ front ++ back = ap (λ (xs : List Entry). map entry_packet xs) v.entries
+    ∙ map-append entry_packet es fs in
     let on : packets_on s.pid bytes ≡ front ++ back = ap (λ (xs : List Entry). map entry_packet xs) (pid_entries s.pid bytes) ∙ two in
     let sizes : packet_sizes (front ++ back) ≡ take (length (front ++ back)) (sizes_of (cut_pieces cuts)) =
     subst (λ (ps : List Packet). packet_sizes ps ≡ take (length ps) (sizes_of (cut_pieces cuts))) two v.sent.sizes in
     let whole_small = sizes_below base0 v.sent.first None (entries_from s.pid 0 (cut_packets bytes)) (cut_senders cuts) v.sent.sent in
     let both = small_parts front back (subst (λ (ps : List Packet). All (λ p. p.size ≤ 188) ps) two whole_small) in
     let follows : Follows rate e.held.rx None (stream_packets request e whole.begun.before rest) (drop (length front) (cut_senders cuts)) =
-    subst (λ (n : ℕ). Follows rate e.held.rx None (stream_packets request e whole.begun.before rest) (drop n (cut_senders cuts))) (sym (many_packets es)) v.begin.follows in
+    subst (λ (n : ℕ). Follows rate e.held.rx None (stream_packets request e whole.begun.before rest) (drop n (cut_senders cuts))) (sym (many_packets es))
+    v.begin.follows in
     record {
       back = back;
       on = on;
       late = subst (λ (ps : List Packet). NoneLeavesEarly s.rx ps (pes_left rate s.rx 0 front ++ pes_left rate s.rx 0 back)) (sym on)
-          (none_leaves_early_law.joined s.rx front back (pes_left rate s.rx 0 front) (pes_left rate s.rx 0 back) (none_leaves_early_law.model rate s.rx 0 front both.0)
+          (none_leaves_early_law.joined s.rx front back (pes_left rate s.rx 0 front) (pes_left rate s.rx 0 back)
+          (none_leaves_early_law.model rate s.rx 0 front both.0)
           (none_leaves_early_law.model rate s.rx 0 back both.1));
       fuller = λ x.
-          let in_view : main_fullness rate e.held.parts x ≡ main_fullness rate (after_each (empty rate e.held.rx e.held.main.size) (AtRate rate) (stream_packets request e whole.begun.before rest)).parts x =
+          let in_view : main_fullness rate e.held.parts x ≡ main_fullness rate
+          (after_each (empty rate e.held.rx e.held.main.size) (AtRate rate) (stream_packets request e whole.begun.before rest)).parts x =
           ap (λ (h : Held). main_fullness rate h.parts x) whole.held in
-          let within = later_within rate e.held.rx e.held.main.size (known_at_begin (followed request e) whole.begun.before).index x s.stream_id base0 cuts (stream_packets request e whole.begun.before rest)
+          let within = later_within rate e.held.rx e.held.main.size (known_at_begin (followed request e) whole.begun.before).index x s.stream_id base0 cuts
+          (stream_packets request e whole.begun.before rest)
           front back v.begin.come follows v.begin.packets both.0 both.1 v.sent.cut sizes in
-          let same : mb_fullness rate e.held.rx x (timed_pes_packets s.stream_id base0 (cut_units cuts)) (pes_left rate e.held.rx 0 front ++ pes_left rate e.held.rx 0 back)
+          let same : mb_fullness rate e.held.rx x (timed_pes_packets s.stream_id base0 (cut_units cuts))
+          (pes_left rate e.held.rx 0 front ++ pes_left rate e.held.rx 0 back)
           ≡ mb_fullness rate s.rx x (timed_pes_packets s.stream_id base0 us) (pes_left rate s.rx 0 front ++ pes_left rate s.rx 0 back) =
-          ap (λ (r : ℕ). mb_fullness rate r x (timed_pes_packets s.stream_id base0 (cut_units cuts)) (pes_left rate r 0 front ++ pes_left rate r 0 back)) viewed.rx
-          ∙ ap (λ (vs : List AccessUnit). mb_fullness rate s.rx x (timed_pes_packets s.stream_id base0 vs) (pes_left rate s.rx 0 front ++ pes_left rate s.rx 0 back)) (same_units l us) in
+          ap (λ (r : ℕ). mb_fullness rate r x (timed_pes_packets s.stream_id base0 (cut_units cuts)) (pes_left rate r 0 front ++ pes_left rate r 0 back))
+          viewed.rx
+          ∙ ap (λ (vs : List AccessUnit). mb_fullness rate s.rx x (timed_pes_packets s.stream_id base0 vs)
+          (pes_left rate s.rx 0 front ++ pes_left rate s.rx 0 back)) (same_units l us) in
           omega (arith, in_view, within, same);
     }
   where
@@ -201,30 +226,38 @@ run_main_law d units slots request e k ranges promised kept few viewed whole =
     let es : List Entry = entries_from s.pid 0 whole.begun.before in
     let v = run_later d units slots request e k ranges promised kept few viewed whole in
     let x : ℕ = whole.lines.main.moment in
-    let fits : mb_fullness rate s.rx x (timed_pes_packets s.stream_id d.description.base0 us) (pes_left rate s.rx 0 (map entry_packet es) ++ pes_left rate s.rx 0 v.back) ≤ s.main =
-    main_kept d k s us (content_at d units) slots viewed.there (stream_alone d units k s ranges (contents_fit d units ranges kept) viewed.there) (kept.kept k s viewed.there) promised x
+    let fits : mb_fullness rate s.rx x (timed_pes_packets s.stream_id d.description.base0 us)
+    (pes_left rate s.rx 0 (map entry_packet es) ++ pes_left rate s.rx 0 v.back) ≤ s.main =
+    main_kept d k s us (content_at d units) slots viewed.there (stream_alone d units k s ranges (contents_fit d units ranges kept) viewed.there)
+    (kept.kept k s viewed.there) promised x
     (pes_left rate s.rx 0 (map entry_packet es) ++ pes_left rate s.rx 0 v.back) v.late in
     let within : main_most e.held ≤ e.held.main.size = omega (arith, v.fuller x, fits, whole.lines.main.reached, viewed.size) in
     let quiet = no_main_excess_law request rate (cut_packets bytes) e whole within in
     let model : FromTheFirst e.pid whole.begun.before → (y : ℕ) →
-    mb_fullness rate s.rx y (timed_pes_packets s.stream_id d.description.base0 us) (pes_left rate s.rx 0 (map entry_packet es) ++ pes_left rate s.rx 0 v.back) ≡ model_of rate d.description.base0 s us bytes y =
+    mb_fullness rate s.rx y (timed_pes_packets s.stream_id d.description.base0 us) (pes_left rate s.rx 0 (map entry_packet es) ++ pes_left rate s.rx 0 v.back) ≡
+    model_of rate d.description.base0 s us bytes y =
     λ first y.
-    let none : map entry_packet es ≡ [] = packets_entries s.pid 0 whole.begun.before ∙ ap (λ (q : ℕ). packets_from q 0 whole.begun.before) (sym viewed.pid) ∙ first in
+    let none : map entry_packet es ≡ [] = packets_entries s.pid 0 whole.begun.before ∙ ap (λ (q : ℕ). packets_from q 0 whole.begun.before) (sym viewed.pid)
+    ∙ first in
     let back : packets_on s.pid bytes ≡ v.back = v.on ∙ ap (λ (ps : List Packet). ps ++ v.back) none in
-    ap (λ (ps : List Packet). mb_fullness rate s.rx y (timed_pes_packets s.stream_id d.description.base0 us) (pes_left rate s.rx 0 ps ++ pes_left rate s.rx 0 v.back)) none
-    ∙ ap (λ (ds : List ℕ). mb_fullness rate s.rx y (timed_pes_packets s.stream_id d.description.base0 us) (ds ++ pes_left rate s.rx 0 v.back)) (nothing_left rate s.rx)
+    ap (λ (ps : List Packet). mb_fullness rate s.rx y (timed_pes_packets s.stream_id d.description.base0 us)
+    (pes_left rate s.rx 0 ps ++ pes_left rate s.rx 0 v.back)) none
+    ∙ ap (λ (ds : List ℕ). mb_fullness rate s.rx y (timed_pes_packets s.stream_id d.description.base0 us) (ds ++ pes_left rate s.rx 0 v.back))
+    (nothing_left rate s.rx)
     ∙ ap (λ (ps : List Packet). mb_fullness rate s.rx y (timed_pes_packets s.stream_id d.description.base0 us) (pes_left rate s.rx 0 ps)) (sym back) in
     record {
       most = within;
       none_ended = quiet.0;
       none_under_way = quiet.1;
       measured = λ first f full.
-          peak_le (main_fullness rate e.held.parts) (model_of rate d.description.base0 s us bytes) (main_most e.held) f.main (λ y. omega (arith, v.fuller y, model first y)) whole.lines.main full.main;
+          peak_le (main_fullness rate e.held.parts) (model_of rate d.description.base0 s us bytes) (main_most e.held) f.main
+          (λ y. omega (arith, v.fuller y, model first y)) whole.lines.main full.main;
     }
 
 pub job_main_law : JobMainLaw
 job_main_law d units slots request e k ranges promised none few viewed =
     let each : ℕ → List AccessUnit = λ j. units_of j units in
     let same : run_bytes (content_at d each) 0 slots ≡ output_of false d (job_history units slots) = sym (output_bytes (content_at d each) 0 slots) in
-    subst (λ (bytes : List ℕ). (whole : IsWhole request d.description.rate (cut_packets bytes) e) → NoMainExcess d request (units_of k units) bytes viewed.stream e whole) same
+    subst (λ (bytes : List ℕ). (whole : IsWhole request d.description.rate (cut_packets bytes) e) →
+    NoMainExcess d request (units_of k units) bytes viewed.stream e whole) same
     (run_main_law d each slots request e k ranges promised (job_kept d units ranges none) few viewed)

@@ -91,12 +91,14 @@ muxed_stream_law d units slots bytes request place e k s ranges h few at_rate th
     let w = whole_stream_law request rate (cut_packets bytes) place e at_rate some fewer there out in
     let kept = h.streams k s is in
     let x : ℕ = w.lines.transport.moment in
-    let most : transport_most e.held ≤ 512 = omega (arith, w.lines.transport.reached, no_fuller request rate x bytes e s.pid s.rx w same drained, kept.transport x) in
+    let most : transport_most e.held ≤ 512 =
+    omega (arith, w.lines.transport.reached, no_fuller request rate x bytes e s.pid s.rx w same drained, kept.transport x) in
     fits request rate (cut_packets bytes) e some out w most
 
 pub job_no_excess_law : JobNoExcessLaw
 job_no_excess_law d units n request place e k s ranges promised none few at_rate there is same drained =
     let each : ℕ → List AccessUnit = λ k. units_of k units in
     let kept : Headline d each n (output_of false d (job_history units n)) =
-    subst (λ (bytes : List ℕ). Headline d each n bytes) (sym (output_bytes (content_at d each) 0 n)) (headline d each n ranges promised (job_kept d units ranges none)) in
+    subst (λ (bytes : List ℕ). Headline d each n bytes) (sym (output_bytes (content_at d each) 0 n))
+    (headline d each n ranges promised (job_kept d units ranges none)) in
     muxed_stream_law d each n (output_of false d (job_history units n)) request place e k s ranges kept few at_rate there is same drained

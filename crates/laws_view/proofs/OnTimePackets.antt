@@ -20,7 +20,8 @@ OnTime rate us [] = Unit {0}
 OnTime rate [] (p ∷ ps) = Unit {0}
 OnTime rate (u ∷ us) (p ∷ ps) = (p.slot * slot_units_at_1bps ≤ u.dts * rate) × OnTime rate us ps
 
-by_first : (rate r s due : ℕ) (ds : List ℕ) → 0 < r → 1 ≤ length ds → All (λ d. 188 * s * r + rate ≤ d) ds → All (λ d. d * 720000 ≤ due * rate * r) ds → s * 135360000 ≤ due * rate
+by_first : (rate r s due : ℕ) (ds : List ℕ) → 0 < r → 1 ≤ length ds → All (λ d. 188 * s * r + rate ≤ d) ds → All (λ d. d * 720000 ≤ due * rate * r) ds →
+    s * 135360000 ≤ due * rate
 by_first rate r s due [] some many low high = absurd (omega (arith, many))
 by_first rate r s due (d ∷ ds) some many low high =
     let least : 188 * s * r + rate ≤ d = All-head (λ d. 188 * s * r + rate ≤ d) d ds low in
@@ -36,7 +37,8 @@ pub record IsSized (n : ℕ) (p : Packet) : Type 0 where
   pub most : p.size ≤ 184
   pub slot : p.slot ≤ n
 
-pub on_time : (rate r n prev : ℕ) (us : List AccessUnit) (ps : List Packet) → 0 < r → All (IsSized n) ps → TimelyEach rate r n us ps (pes_left rate r prev ps) → OnTime rate us ps
+pub on_time : (rate r n prev : ℕ) (us : List AccessUnit) (ps : List Packet) → 0 < r → All (IsSized n) ps → TimelyEach rate r n us ps (pes_left rate r prev ps) →
+    OnTime rate us ps
 unfolding OnTime TimelyEach
 on_time rate r n prev us [] some sized timely = tt
 on_time rate r n prev [] (p ∷ ps) some sized timely = tt

@@ -54,7 +54,8 @@ first_in_order step ps qs order = record {
 -- ---- a stream of theirs
 
 -- each byte takes the same step in its buffers
-pub step_is : (request : RequestView) (step : ℕ) (packets : List Timed) (place : ℕ) (e : EntryState) → All (λ p. step_of p.arrival ≡ step) packets → length packets < 2 ^ 64 →
+pub step_is : (request : RequestView) (step : ℕ) (packets : List Timed) (place : ℕ) (e : EntryState) → All (λ p. step_of p.arrival ≡ step) packets →
+    length packets < 2 ^ 64 →
     slice_get (view_by (start request) packets).table.entries place ≡ Some e → e.held.rate ≡ step
 step_is request step packets place e all few there =
     elim (came_by (start request) packets place e (none_agree request) (omega (arith, few)) there) [
@@ -70,7 +71,8 @@ step_is request step packets place e all few there =
         let first : step_of b.p.arrival ≡ step =
         that_one (λ p. step_of p.arrival ≡ step) b.before b.p b.later (subst (λ (l : List Timed). All (λ p. step_of p.arrival ≡ step) l) b.split all) in
         ap (λ (h : Held). h.rate) b.grown.held
-        ∙ rate_by b.first.held (entering_among (followed (view_by (start request) b.before) b.first) (known (view_by (start request) b.before) b.first) (b.p ∷ b.later))
+        ∙ rate_by b.first.held
+        (entering_among (followed (view_by (start request) b.before) b.first) (known (view_by (start request) b.before) b.first) (b.p ∷ b.later))
         ∙ ap (λ (x : EntryState). x.held.rate) b.begins.is ∙ first
 
 -- the bytes that have entered its transport buffer
@@ -87,4 +89,5 @@ pub ordered_transport : (request : RequestView) (step : ℕ) (before packets : L
     IsFullWith e.held (window_entering request before e packets) e'.tally.window_transport
 ordered_transport request step before packets window place e e' w told pos order few some =
     let same = step_is request step before place e (first_in_order step before packets order).same (omega (arith, few)) w.begun in
-    timed_transport_law request before packets window place e e' w told (omega (arith, pos, same)) (window_rises request step before packets window place e e' w pos order few) some
+    timed_transport_law request before packets window place e e' w told (omega (arith, pos, same))
+    (window_rises request step before packets window place e e' w pos order few) some

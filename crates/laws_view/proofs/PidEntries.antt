@@ -1,5 +1,6 @@
 -- The packets of a PID in finished bytes, one by one, and as a stream's buffers see them.
-use Rattle.std.proofs.Common.{◌≡◌, ◌∙◌, sym, ℕ, ◌+◌, ◌≤◌, ◌<◌, ◌&&◌, ◌==◌, not, min, cond, Bool, true, false, List, [], ◌∷◌, ◌++◌, length, map, filter, Option, Some, None, Result, Ok, Err, if◌then◌else◌, refl, ap, subst, inl, inr, nat_eq, arith}
+use Rattle.std.proofs.Common.{◌≡◌, ◌∙◌, sym, ℕ, ◌+◌, ◌≤◌, ◌<◌, ◌&&◌, ◌==◌, not, min, cond, Bool, true, false, List, [], ◌∷◌, ◌++◌, length, map, filter, Option}
+use Rattle.std.proofs.Common.{Some, None, Result, Ok, Err, if◌then◌else◌, refl, ap, subst, inl, inr, nat_eq, arith}
 use Rattle.std.specs.List.{enumerate_from, filter_map}
 use Rattle.std.proofs.lemmas.Bool.Decides.{eqb_tells}
 use Rattle.ts_packet.specs.declared.packet.PacketError.{PacketError}
@@ -26,14 +27,16 @@ all_entries index chunks = filter_map (λ p. entry_of p.0 p.1 (packet_at p.1)) (
 
 -- one of the PID that is not marked as wrong
 one_listed : (pid index : ℕ) (bytes : List ℕ) (packet : PacketView) (xs ys : List Entry) (wrong : Bool) → xs ≡ ys →
-    cond (packet.header.pid == pid && not wrong) (record { index = index; bytes = bytes; packet = packet } ∷ xs) xs ≡ listed pid index bytes (if wrong then None else Some packet) ys
+    cond (packet.header.pid == pid && not wrong) (record { index = index; bytes = bytes; packet = packet } ∷ xs) xs ≡ listed pid index bytes
+    (if wrong then None else Some packet) ys
 unfolding listed
 one_listed pid index bytes packet xs ys true rest = elim (eqb_tells packet.header.pid pid) [
   | inl same ↦ rw same.0 rest
   | inr other ↦ rw other.0 rest
 ]
 one_listed pid index bytes packet xs ys false rest = elim (eqb_tells packet.header.pid pid) [
-  | inl same ↦ let own : nat_eq pid packet.header.pid ≡ true = rw same.1 (itself pid) in rw (same.0, own) (ap (λ (l : List Entry). record { index = index; bytes = bytes; packet = packet } ∷ l) rest)
+  | inl same ↦ let own : nat_eq pid packet.header.pid ≡ true = rw same.1 (itself pid) in
+      rw (same.0, own) (ap (λ (l : List Entry). record { index = index; bytes = bytes; packet = packet } ∷ l) rest)
   | inr other ↦ let no : nat_eq pid packet.header.pid ≡ false = apart pid packet.header.pid (λ p. other.1 (sym p)) in rw (other.0, no) rest
 ]
 
@@ -43,10 +46,12 @@ one_entry : (pid index : ℕ) (bytes : List ℕ) (chunks : List (List ℕ)) (rea
 unfolding all_entries entries_from entry_of sound_packet
 one_entry pid index bytes chunks (Err error) is rest = unfold listed in (rw is rest)
 one_entry pid index bytes chunks (Ok packet) is rest =
-    rw is (one_listed pid index bytes packet (filter (λ entry. is_of_pid pid entry.packet) (all_entries (index + 1) chunks)) (entries_from pid (index + 1) chunks)
+    rw is (one_listed pid index bytes packet (filter (λ entry. is_of_pid pid entry.packet) (all_entries (index + 1) chunks))
+    (entries_from pid (index + 1) chunks)
     packet.header.transport_error_indicator rest)
 
-same_entries : (pid index : ℕ) (chunks : List (List ℕ)) → filter (λ entry. is_of_pid pid entry.packet) (all_entries index chunks) ≡ entries_from pid index chunks
+same_entries : (pid index : ℕ) (chunks : List (List ℕ)) →
+    filter (λ entry. is_of_pid pid entry.packet) (all_entries index chunks) ≡ entries_from pid index chunks
 unfolding all_entries entries_from
 same_entries pid index [] = refl
 same_entries pid index (bytes ∷ chunks) = one_entry pid index bytes chunks (packet_at bytes) refl (same_entries pid (index + 1) chunks)
@@ -61,7 +66,8 @@ unfolding all_entries
 packets_entries pid index chunks = ap (λ (es : List Entry). map entry_packet es) (sym (same_entries pid index chunks)) ∙ packets_same pid index chunks
 
 -- in two parts
-listed_two : (pid index : ℕ) (bytes : List ℕ) (o : Option PacketView) (es fs : List Entry) → listed pid index bytes o (es ++ fs) ≡ listed pid index bytes o es ++ fs
+listed_two : (pid index : ℕ) (bytes : List ℕ) (o : Option PacketView) (es fs : List Entry) → listed pid index bytes o (es ++ fs) ≡ listed pid index bytes o es
+    ++ fs
 unfolding listed
 listed_two pid index bytes None es fs = refl
 listed_two pid index bytes (Some packet) es fs = by (nat_eq pid packet.header.pid)
@@ -73,27 +79,32 @@ listed_two pid index bytes (Some packet) es fs = by (nat_eq pid packet.header.pi
     by true = refl
     by false = refl
 
-pub entries_two : (pid index : ℕ) (xs ys : List (List ℕ)) → entries_from pid index (xs ++ ys) ≡ entries_from pid index xs ++ entries_from pid (index + length xs) ys
+pub entries_two : (pid index : ℕ) (xs ys : List (List ℕ)) → entries_from pid index (xs ++ ys) ≡ entries_from pid index xs
+    ++ entries_from pid (index + length xs) ys
 unfolding entries_from
 entries_two pid index [] ys = let e : index ≡ index + 0 = omega arith in ap (λ (i : ℕ). entries_from pid i ys) e
 entries_two pid index (x ∷ xs) ys =
     let o : Option PacketView = sound_packet (packet_at x) in
     let e : index + 1 + length xs ≡ index + length (x ∷ xs) = omega arith in
-    let rest = subst (λ (i : ℕ). entries_from pid (index + 1) (xs ++ ys) ≡ entries_from pid (index + 1) xs ++ entries_from pid i ys) e (entries_two pid (index + 1) xs ys) in
-    ap (λ (l : List Entry). listed pid index x o l) rest ∙ listed_two pid index x o (entries_from pid (index + 1) xs) (entries_from pid (index + length (x ∷ xs)) ys)
+    let rest = subst (λ (i : ℕ). entries_from pid (index + 1) (xs ++ ys) ≡ entries_from pid (index + 1) xs ++ entries_from pid i ys) e
+    (entries_two pid (index + 1) xs ys) in
+    ap (λ (l : List Entry). listed pid index x o l) rest
+    ∙ listed_two pid index x o (entries_from pid (index + 1) xs) (entries_from pid (index + length (x ∷ xs)) ys)
 
 -- ---- as the buffers see them: a payload of 184 bytes at most
 
 cut_packet : Entry → Packet
 cut_packet e = record { slot = e.index; size = min (length (payload_of e.packet)) 184 }
 
-one_seen : (f : Followed) (b : Before) (bytes : List ℕ) (o : Option PacketView) (ps : List Arriving) (es : List Entry) → map timed_packet ps ≡ map cut_packet es →
+one_seen : (f : Followed) (b : Before) (bytes : List ℕ) (o : Option PacketView) (ps : List Arriving) (es : List Entry) →
+    map timed_packet ps ≡ map cut_packet es →
     map timed_packet (seen_in f b o ++ ps) ≡ map cut_packet (listed f.pid b.index bytes o es)
 unfolding seen_in listed cut_packet
 one_seen f b bytes None ps es rest = rest
 one_seen f b bytes (Some packet) ps es rest = by (nat_eq f.pid packet.header.pid) refl
   where
-    by : (w : Bool) → nat_eq f.pid packet.header.pid ≡ w → map timed_packet (seen_in f b (Some packet) ++ ps) ≡ map cut_packet (listed f.pid b.index bytes (Some packet) es)
+    by : (w : Bool) → nat_eq f.pid packet.header.pid ≡ w →
+        map timed_packet (seen_in f b (Some packet) ++ ps) ≡ map cut_packet (listed f.pid b.index bytes (Some packet) es)
     by true own = rw own (ap (λ (l : List Packet). record { slot = b.index; size = min (length (payload_of packet)) 184 } ∷ l) rest)
     by false other = rw other rest
 
@@ -107,16 +118,19 @@ seen_cut f b (bytes ∷ chunks) =
     subst (λ (i : ℕ). map timed_packet (seen_among f b' chunks) ≡ map cut_packet (entries_from f.pid i chunks)) (index_more f b o) (seen_cut f b' chunks) in
     one_seen f b bytes o (seen_among f b' chunks) (entries_from f.pid (b.index + 1) chunks) rest
 
-sent_cut : (base0 n : ℕ) (before : Option AccessUnit) (es : List Entry) (us : List AccessUnit) → AllSent base0 n before es us → map cut_packet es ≡ map entry_packet es
+sent_cut : (base0 n : ℕ) (before : Option AccessUnit) (es : List Entry) (us : List AccessUnit) → AllSent base0 n before es us →
+    map cut_packet es ≡ map entry_packet es
 unfolding AllSent cut_packet
 sent_cut base0 n before [] us sent = refl
 sent_cut base0 n before (e ∷ es) [] sent = absurd sent
 sent_cut base0 n before (e ∷ es) (u ∷ us) sent =
     let size : min (length (payload_of e.packet)) 184 ≡ length (payload_of e.packet) = omega (arith, sent.0.most) in
-    rw size (ap (λ (l : List Packet). record { slot = e.index; size = length (payload_of e.packet) } ∷ l) (sent_cut base0 (number_after n e) (Some u) es us sent.1))
+    rw size (ap (λ (l : List Packet). record { slot = e.index; size = length (payload_of e.packet) } ∷ l)
+    (sent_cut base0 (number_after n e) (Some u) es us sent.1))
 
 pub seen_packets : (base0 n : ℕ) (before : Option AccessUnit) (us : List AccessUnit) (f : Followed) (b : Before) (chunks : List (List ℕ)) →
-    AllSent base0 n before (entries_from f.pid b.index chunks) us → map timed_packet (seen_among f b chunks) ≡ map entry_packet (entries_from f.pid b.index chunks)
+    AllSent base0 n before (entries_from f.pid b.index chunks) us →
+    map timed_packet (seen_among f b chunks) ≡ map entry_packet (entries_from f.pid b.index chunks)
 seen_packets base0 n before us f b chunks sent = seen_cut f b chunks ∙ sent_cut base0 n before (entries_from f.pid b.index chunks) us sent
 
 -- ---- the clock references before them

@@ -37,7 +37,8 @@ none_read place (Some (WithFlags parts)) none = by parts.pcr none refl
     by None none is = rw is refl
     by (Some r) none is = absurd (let no : ⊥ = cc in no)
 
-no_clocks : (options : ViewOptions) (pid : ℕ) (content : ℕ → Content) (s n : ℕ) → ((t : ℕ) → NoClock pid (content t)) → NoClocks options (entries_in pid content s n)
+no_clocks : (options : ViewOptions) (pid : ℕ) (content : ℕ → Content) (s n : ℕ) → ((t : ℕ) → NoClock pid (content t)) →
+    NoClocks options (entries_in pid content s n)
 unfolding entries_in NoClocks
 no_clocks options pid content s zero none = tt
 no_clocks options pid content s (suc n) none =
@@ -49,7 +50,8 @@ no_clocks options pid content s (suc n) none =
 
 -- ---- and on a program's
 
-clocks_of : (rate base0 pid : ℕ) (es : List Entry) → map (λ e. e.packet) es ≡ map (λ e. pcr_view pid (pcr_at rate base0 (188 * e.index + 10))) es → AreClocks rate base0 pid es
+clocks_of : (rate base0 pid : ℕ) (es : List Entry) → map (λ e. e.packet) es ≡ map (λ e. pcr_view pid (pcr_at rate base0 (188 * e.index + 10))) es →
+    AreClocks rate base0 pid es
 unfolding AreClocks
 clocks_of rate base0 pid [] h = tt
 clocks_of rate base0 pid (e ∷ es) h =
@@ -80,8 +82,11 @@ program_range d i p ranges is =
     rw (get_or_from_slice_get d.programs i p p is) at (All-get_or IsProgram d.programs i p (slice_get_within d.programs i p is) ranges.programs)
 
 -- on any PID
-pub run_clock : (d : Scheduled) (units : ℕ → List AccessUnit) (slots : ℕ) (options : ViewOptions) (pid : ℕ) → IsInRange d.description → Promised d.description d.schedule → UnitsKept d units →
-    (limit : ℕ) × ((limit ≤ 100) × ClockIs options d.description.rate d.description.base0 limit slots pid 0 None (entries_from pid 0 (cut_packets (run_bytes (content_at d units) 0 slots))))
+pub run_clock : (d : Scheduled) (units : ℕ → List AccessUnit) (slots : ℕ) (options : ViewOptions) (pid : ℕ) → IsInRange d.description →
+    Promised d.description d.schedule → UnitsKept d units →
+    (limit : ℕ) ×
+    ((limit ≤ 100) × ClockIs options d.description.rate d.description.base0 limit slots pid 0 None
+    (entries_from pid 0 (cut_packets (run_bytes (content_at d units) 0 slots))))
 unfolding ClockIs
 run_clock d units slots options pid ranges promised kept =
     let rate : ℕ = d.description.rate in
@@ -93,7 +98,8 @@ run_clock d units slots options pid ranges promised kept =
         p.pcr_limit,
         (
           (program_range d.description i p ranges is).most_limit,
-          subst (λ (q : ℕ). ClockIs options rate base0 p.pcr_limit slots q 0 None (entries_from q 0 (cut_packets bytes))) same (clock_begins d p slots bytes options (h.programs i p is)),
+          subst (λ (q : ℕ). ClockIs options rate base0 p.pcr_limit slots q 0 None (entries_from q 0 (cut_packets bytes))) same
+              (clock_begins d p slots bytes options (h.programs i p is)),
         ),
       )
       | inr none ↦ (
@@ -102,7 +108,8 @@ run_clock d units slots options pid ranges promised kept =
           omega arith,
           inr (
             refl,
-            subst (λ (es : List Entry). NoClocks options es) (sym (run_pid_list pid slots (content_at d units) (contents_fit d units ranges kept)) ∙ pid_entries pid bytes)
+            subst (λ (es : List Entry). NoClocks options es)
+                (sym (run_pid_list pid slots (content_at d units) (contents_fit d units ranges kept)) ∙ pid_entries pid bytes)
                 (no_clocks options pid (content_at d units) 0 slots (λ t. all_none d units pid t none)),
           ),
         ),

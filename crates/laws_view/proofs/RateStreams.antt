@@ -1,5 +1,6 @@
 -- At a constant rate all packets arrive alike: what is so of a stream however it arrives, is what its last lines say at that rate.
-use Rattle.std.proofs.Common.{◌≡◌, ◌∙◌, sym, ℕ, ◌+◌, ◌*◌, ◌^◌, ◌≤◌, ◌<◌, Bool, true, false, nat_le, List, [], ◌∷◌, ◌++◌, length, Option, Some, None, Result, Ok, Err, if◌then◌else◌, refl, ap, subst, inl, inr, nat_eq, arith}
+use Rattle.std.proofs.Common.{◌≡◌, ◌∙◌, sym, ℕ, ◌+◌, ◌*◌, ◌^◌, ◌≤◌, ◌<◌, Bool, true, false, nat_le, List, [], ◌∷◌, ◌++◌, length, Option, Some, None, Result, Ok}
+use Rattle.std.proofs.Common.{Err, if◌then◌else◌, refl, ap, subst, inl, inr, nat_eq, arith}
 use Rattle.std.specs.Prelude.{slice_get}
 use Rattle.std.proofs.lemmas.Bool.{le-leb}
 use Rattle.std.proofs.lemmas.Bool.Decides.{eqb_tells}
@@ -27,8 +28,10 @@ use Rattle.es_view.specs.Entries.{EntryState}
 use Rattle.ts_report.specs.Seen.{origin_after, with_arrival}
 use Rattle.ts_report.specs.StreamTables.{TableState, beginning, stream_buffers}
 use Rattle.ts_report.specs.Views.{after_all, start}
-use Rattle.laws_view.specs.StreamPackets.{Before, Followed, after_each, entered_each, known_after, known_after_all, most_packets, seen_among, seen_in, sound_packet}
-use Rattle.laws_view.specs.TimedStreams.{Entering, IsWholeBy, after_entering, entered_by, entering, entering_among, followed_by, followed_so, is_on, known_at_first, known_by, on_pid, pid_times, stream_entering, view_by}
+use Rattle.laws_view.specs.StreamPackets.{Before, Followed, after_each, entered_each, known_after, known_after_all, most_packets, seen_among, seen_in}
+use Rattle.laws_view.specs.StreamPackets.{sound_packet}
+use Rattle.laws_view.specs.TimedStreams.{Entering, IsWholeBy, after_entering, entered_by, entering, entering_among, followed_by, followed_so, is_on}
+use Rattle.laws_view.specs.TimedStreams.{known_at_first, known_by, on_pid, pid_times, stream_entering, view_by}
 use Rattle.laws_view.specs.WholeStreams.{IsWhole, SaysAll, WholeStreamLaw, indices_of, known_at_begin, nothing_known, stream_packets}
 use Rattle.laws_view.specs.WholeStreams as whole
 use Rattle.laws_view.proofs.ClockedStreams.{Like, each_more}
@@ -48,7 +51,8 @@ pub record TwoParts (a : Arrival) (packets : List (List ℕ)) (xs : List Timed) 
   pub y_is : y ≡ record { arrival = a; bytes = first }
   pub ys_are : ys ≡ arriving_so a later
 
-two_parts : (a : Arrival) (packets : List (List ℕ)) (xs : List Timed) (y : Timed) (ys : List Timed) → arriving_so a packets ≡ xs ++ y ∷ ys → TwoParts a packets xs y ys
+two_parts : (a : Arrival) (packets : List (List ℕ)) (xs : List Timed) (y : Timed) (ys : List Timed) → arriving_so a packets ≡ xs ++ y ∷ ys →
+    TwoParts a packets xs y ys
 two_parts a [] [] y ys e = absurd (let no : ⊥ = cc in no)
 two_parts a [] (x ∷ xs) y ys e = absurd (let no : ⊥ = cc in no)
 two_parts a (b ∷ packets) [] y ys e =
@@ -103,7 +107,8 @@ known_is a f b (bytes ∷ packets) same =
     ap (λ (g : Followed). known_by g (known_after g b (sound_packet (packet_at bytes))) (arriving_so a packets)) (so_is a f same)
     ∙ known_is a f (known_after f b (sound_packet (packet_at bytes))) packets same
 
-pub entering_is : (a : Arrival) (f : Followed) (b : Before) (packets : List (List ℕ)) → Same a f → entering_among f b (arriving_so a packets) ≡ entering a (seen_among f b packets)
+pub entering_is : (a : Arrival) (f : Followed) (b : Before) (packets : List (List ℕ)) → Same a f →
+    entering_among f b (arriving_so a packets) ≡ entering a (seen_among f b packets)
 unfolding entering_among seen_among
 entering_is a f b [] same = refl
 entering_is a f b (bytes ∷ packets) same =
@@ -135,7 +140,8 @@ at_rate rate drain index few =
     rw near (sym (rate_row rate drain (188 * index) 188))
 
 one_times : (rate pid drain index : ℕ) (r : Result PacketView PacketError) (rest : List Packet) → index < most_packets →
-    (if is_on pid (sound_packet r) then packet_times drain index (AtRate rate) else []) ++ arrivals drain (slots_of rest) ≡ arrivals drain (slots_of (listed index (size_in pid r) rest))
+    (if is_on pid (sound_packet r) then packet_times drain index (AtRate rate) else [])
+    ++ arrivals drain (slots_of rest) ≡ arrivals drain (slots_of (listed index (size_in pid r) rest))
 unfolding is_on sound_packet size_in
 one_times rate pid drain index (Err error) rest few = refl
 one_times rate pid drain index (Ok packet) rest few = by packet.header.transport_error_indicator refl
@@ -166,7 +172,8 @@ rate_times rate pid drain index (bytes ∷ packets) few =
 -- ---- and so all of it
 
 as_whole : (request : RequestView) (rate : ℕ) (packets : List (List ℕ)) (e : EntryState) (w : IsWholeBy request rate (arriving_so (AtRate rate) packets) e) →
-    TwoParts (AtRate rate) packets w.begun.before w.begun.first w.begun.later → request.options.arrival ≡ AtRate rate → length packets ≤ most_packets → IsWhole request rate packets e
+    TwoParts (AtRate rate) packets w.begun.before w.begun.first w.begun.later → request.options.arrival ≡ AtRate rate → length packets ≤ most_packets →
+    IsWhole request rate packets e
 as_whole request rate packets e w t is few =
     let a : Arrival = AtRate rate in
     let f : Followed = whole.followed request e in
@@ -174,7 +181,8 @@ as_whole request rate packets e w t is few =
     let rest : List (List ℕ) = t.first ∷ t.later in
     let same : Same a f = rate_options request.options rate is in
     let itself : Like (start request) (start request) = record { options = refl; packets = refl; clocks = refl; named = refl; table = refl } in
-    let like : Like (after_all (start request) pre) (view_by (start request) (arriving_so a pre)) = each_more (start request) (start request) a pre itself same in
+    let like : Like (after_all (start request) pre) (view_by (start request) (arriving_so a pre)) =
+    each_more (start request) (start request) a pre itself same in
     let named = ap (λ (l : List Timed). (view_by (start request) l).seen.named) t.xs_are ∙ like.named in
     let table : (view_by (start request) w.begun.before).table ≡ (after_all (start request) pre).table =
     ap (λ (l : List Timed). (view_by (start request) l).table) t.xs_are ∙ like.table in
@@ -192,7 +200,8 @@ as_whole request rate packets e w t is few =
     ap (λ (l : List Entering). entered_by h l) xs_are ∙ entered_is h a ps in
     let many : length w.begun.before ≡ length pre = ap (λ (l : List Timed). length l) t.xs_are ∙ many_arrive a pre in
     let lengths : length packets ≡ length pre + length rest = ap (λ (l : List (List ℕ)). length l) t.split ∙ length-append pre rest in
-    let times_are : pid_times e.pid e.held.rx (length w.begun.before) (w.begun.first ∷ w.begun.later) ≡ arrivals e.held.rx (indices_of e.pid (length pre) rest) =
+    let times_are : pid_times e.pid e.held.rx (length w.begun.before) (w.begun.first ∷ w.begun.later) ≡ arrivals e.held.rx
+    (indices_of e.pid (length pre) rest) =
     ap (λ (i : ℕ). pid_times e.pid e.held.rx i (w.begun.first ∷ w.begun.later)) many
     ∙ ap (λ (l : List Timed). pid_times e.pid e.held.rx (length pre) l) rest_is
     ∙ rate_times rate e.pid e.held.rx (length pre) rest (omega (arith, few, lengths)) in
@@ -214,7 +223,8 @@ as_whole request rate packets e w t is few =
       };
       held = w.held ∙ ap (λ (l : List Entering). after_entering h l) xs_are ∙ after_is h a ps;
       lines = subst (λ (ts : List ℕ). SaysAll rate ts (entered_each h a ps) e) times_are
-          (subst (λ (vs : List EnteredView). SaysAll rate (pid_times e.pid e.held.rx (length w.begun.before) (w.begun.first ∷ w.begun.later)) vs e) vs_are w.lines);
+          (subst (λ (vs : List EnteredView). SaysAll rate (pid_times e.pid e.held.rx (length w.begun.before) (w.begun.first ∷ w.begun.later)) vs e) vs_are
+          w.lines);
     }
 
 pub whole_stream_law : WholeStreamLaw
@@ -224,6 +234,7 @@ whole_stream_law request rate packets place e is some few there drained =
     let same = rate_options request.options rate is in
     let itself : Like (start request) (start request) = record { options = refl; packets = refl; clocks = refl; named = refl; table = refl } in
     let like : Like (after_all (start request) packets) (view_by (start request) timed) = each_more (start request) (start request) a packets itself same in
-    let in_view : slice_get (view_by (start request) timed).table.entries place ≡ Some e = ap (λ (tb : TableState). slice_get tb.entries place) like.table ∙ there in
+    let in_view : slice_get (view_by (start request) timed).table.entries place ≡ Some e = ap (λ (tb : TableState). slice_get tb.entries place) like.table
+    ∙ there in
     let w = timed_stream_law request rate timed place e some (rate_order_law rate packets) (omega (arith, few, many_arrive a packets)) in_view in
     as_whole request rate packets e w (two_parts a packets w.begun.before w.begun.first w.begun.later w.begun.split) is few

@@ -1,5 +1,6 @@
 -- At a constant rate all packets of a window arrive alike: what a line `held` says of packets that arrive in any way, it says of them at that rate.
-use Rattle.std.proofs.Common.{◌≡◌, ◌∙◌, sym, ℕ, ◌+◌, ◌-◌, ◌*◌, ◌^◌, ◌≤◌, ◌<◌, nat_le, nat_lt, true, List, [], ◌∷◌, ◌++◌, length, refl, ap, subst, inl, inr, arith}
+use Rattle.std.proofs.Common.{◌≡◌, ◌∙◌, sym, ℕ, ◌+◌, ◌-◌, ◌*◌, ◌^◌, ◌≤◌, ◌<◌, nat_le, nat_lt, true, List, [], ◌∷◌, ◌++◌, length, refl, ap, subst, inl, inr}
+use Rattle.std.proofs.Common.{arith}
 use Rattle.std.specs.Prelude.{slice_get}
 use Rattle.std.proofs.lemmas.List.{map-append}
 use Rattle.arrival.specs.Arrivals.{has_times}
@@ -64,13 +65,15 @@ record Alike (request : RequestView) (a : Arrival) (before packets : List (List 
 so_both : (a : Arrival) (before packets : List (List ℕ)) → arriving_so a (before ++ packets) ≡ arriving_so a before ++ arriving_so a packets
 so_both a before packets = map-append (λ bytes. record { arrival = a; bytes = bytes }) before packets
 
-alike : (request : RequestView) (a : Arrival) (before packets : List (List ℕ)) (window place : ℕ) (e e' : EntryState) → (a ≡ Unknown → ⊥) → request.options.arrival ≡ a →
+alike : (request : RequestView) (a : Arrival) (before packets : List (List ℕ)) (window place : ℕ) (e e' : EntryState) → (a ≡ Unknown → ⊥) →
+    request.options.arrival ≡ a →
     OfRateWindow request before packets window place e e' → Alike request a before packets window place e e'
 alike request a before packets window place e e' known is w =
     let f : Followed = request_followed request e in
     let same : Same a f = same_options request.options a known is in
     let itself : Like (start request) (start request) = record { options = refl; packets = refl; clocks = refl; named = refl; table = refl } in
-    let like : Like (after_all (start request) before) (view_by (start request) (arriving_so a before)) = each_more (start request) (start request) a before itself same in
+    let like : Like (after_all (start request) before) (view_by (start request) (arriving_so a before)) =
+    each_more (start request) (start request) a before itself same in
     let like_all : Like (after_all (start request) (before ++ packets)) (view_by (start request) (arriving_so a (before ++ packets))) =
     each_more (start request) (start request) a (before ++ packets) itself same in
     let f_is : followed_by f (arriving_so a before) ≡ f = followed_is a f before same in
@@ -83,10 +86,12 @@ alike request a before packets window place e e' known is w =
             ∙ ap (λ (t : TableState). slice_get t.entries place) like_all.table ∙ w.come;
         other = w.other;
         all = subst (λ (g : Followed). BeginIn g.options window (length (arriving_so a before)) (arriving_so a packets)) (sym f_is)
-            (subst (λ (i : ℕ). BeginIn request.options window i (arriving_so a packets)) (sym many) (begin_in request.options a window (length before) packets same w.all));
+            (subst (λ (i : ℕ). BeginIn request.options window i (arriving_so a packets)) (sym many)
+            (begin_in request.options a window (length before) packets same w.all));
       };
       xs_are = ap (λ (g : Followed). entering_among g (known_then (view_by (start request) (arriving_so a before)) e) (arriving_so a packets)) f_is
-          ∙ ap (λ (b : Before). entering_among f b (arriving_so a packets)) (knows_then (after_all (start request) before) (view_by (start request) (arriving_so a before)) e like)
+          ∙ ap (λ (b : Before). entering_among f b (arriving_so a packets))
+          (knows_then (after_all (start request) before) (view_by (start request) (arriving_so a before)) e like)
           ∙ entering_is a f (known_then (after_all (start request) before) e) packets same;
     }
 
@@ -97,12 +102,14 @@ lines_known : (lines : ClockLines) → OnLines lines ≡ Unknown → ⊥
 lines_known lines h = cc
 
 -- where a byte enters they do
-rate_counted : (request : RequestView) (before packets : List (List ℕ)) (window place : ℕ) (e e' : EntryState) → OfRateWindow request before packets window place e e' →
+rate_counted : (request : RequestView) (before packets : List (List ℕ)) (window place : ℕ) (e e' : EntryState) →
+    OfRateWindow request before packets window place e e' →
     HasPayload e.held (entering request.options.arrival (window_packets request before e packets)) →
     CountedOver e.tally e'.tally window e.held (entering request.options.arrival (window_packets request before e packets))
 rate_counted request before packets window place e e' w has = by request.options.arrival refl
   where
-    those : (request.options.arrival ≡ Unknown → ⊥) → CountedOver e.tally e'.tally window e.held (entering request.options.arrival (window_packets request before e packets))
+    those : (request.options.arrival ≡ Unknown → ⊥) →
+        CountedOver e.tally e'.tally window e.held (entering request.options.arrival (window_packets request before e packets))
     those known =
         let a : Arrival = request.options.arrival in
         let l = alike request a before packets window place e e' known refl w in
@@ -131,7 +138,8 @@ pub rate_transport_law : RateTransportLaw
 rate_transport_law request rate before packets window place e e' w told is pos few some =
     let a : Arrival = AtRate rate in
     let l = alike request a before packets window place e e' (rate_known rate) is w in
-    let order : InOrder rate (arriving_so a before ++ arriving_so a packets) = subst (λ (ps : List Timed). InOrder rate ps) (so_both a before packets) (rate_order_law rate (before ++ packets)) in
+    let order : InOrder rate (arriving_so a before ++ arriving_so a packets) =
+    subst (λ (ps : List Timed). InOrder rate ps) (so_both a before packets) (rate_order_law rate (before ++ packets)) in
     subst (λ (xs : List Entering). IsFullWith e.held xs e'.tally.window_transport) l.xs_are
     (ordered_transport request rate (arriving_so a before) (arriving_so a packets) window place e e' l.window_is told pos order
     (omega (arith, many_arrive a before, many_arrive a packets, few)) some)

@@ -1,5 +1,6 @@
 -- By which clock reference a unit goes in a run that a multiplexer wrote: by the last one, which is never far.
-use Rattle.std.proofs.Common.{◌≡◌, ◌∙◌, sym, ℕ, suc, ◌+◌, ◌*◌, ◌≤◌, ◌<◌, Bool, true, false, List, [], ◌∷◌, ◌++◌, length, map, drop, Option, Some, None, if◌then◌else◌, refl, subst, inl, inr, nat_eq, arith}
+use Rattle.std.proofs.Common.{◌≡◌, ◌∙◌, sym, ℕ, suc, ◌+◌, ◌*◌, ◌≤◌, ◌<◌, Bool, true, false, List, [], ◌∷◌, ◌++◌, length, map, drop, Option, Some, None}
+use Rattle.std.proofs.Common.{if◌then◌else◌, refl, subst, inl, inr, nat_eq, arith}
 use Rattle.std.specs.Prelude.{slice_get}
 use Rattle.std.proofs.Math.Nat.{mul-le-mul_right}
 use Rattle.clock27.specs.Units.{slot_units_at_1bps}
@@ -69,8 +70,10 @@ later_timed rate (e ∷ es) fs (u ∷ us) timed = later_timed rate es fs us time
 
 -- ---- so it goes by the reference that is the last one then
 
-near_now : (r : Run) (options : ViewOptions) (pid i : ℕ) (now : Option PcrSample) (es : List Entry) (e : Entry) (u : AccessUnit) → IsRun r options → i < r.slots → NoneBefore (i + 1) es →
-    e.index ≡ i → ClockIs options r.rate r.base0 r.limit r.slots pid (i + 1) now es → IsTimed r.rate e u → (k : PcrSample) → now ≡ Some k → GoesBy r.rate r.base0 k u
+near_now : (r : Run) (options : ViewOptions) (pid i : ℕ) (now : Option PcrSample) (es : List Entry) (e : Entry) (u : AccessUnit) → IsRun r options →
+    i < r.slots → NoneBefore (i + 1) es →
+    e.index ≡ i → ClockIs options r.rate r.base0 r.limit r.slots pid (i + 1) now es → IsTimed r.rate e u → (k : PcrSample) → now ≡ Some k →
+    GoesBy r.rate r.base0 k u
 unfolding ClockIs IsReference
 near_now r options pid i None es e u run few none place clock timed k is = absurd (let no : ⊥ = cc in no)
 near_now r options pid i (Some c) es e u run few none place (inl told) timed k is =
@@ -79,19 +82,23 @@ near_now r options pid i (Some c) es e u run few none place (inl told) timed k i
     let limit : r.limit * r.rate ≤ 100 * r.rate = mul-le-mul_right r.rate run.limit in
     let on_time : i * 135360000 ≤ u.dts * r.rate = rw place at timed.on_time in
     let soon : u.dts * r.rate ≤ i * 135360000 + 90000 * r.rate = rw place at timed.soon in
-    let goes = run_goes_by r.rate r.base0 m i u run.least (omega (arith, told.1.1.1.0)) (omega (arith, few, run.slots)) (omega (arith, near, limit)) on_time soon in
+    let goes = run_goes_by r.rate r.base0 m i u run.least (omega (arith, told.1.1.1.0)) (omega (arith, few, run.slots)) (omega (arith, near, limit)) on_time
+    soon in
     subst (λ (x : PcrSample). GoesBy r.rate r.base0 x u) (sym told.1.1.0 ∙ some_is c k is) goes
 near_now r options pid i (Some c) es e u run few none place (inr quiet) timed k is = absurd (let other : Some c ≡ None = quiet.0 in (let no : ⊥ = cc in no))
 
-own_clocked : (r : Run) (options : ViewOptions) (pid i : ℕ) (now : Option PcrSample) (es : List Entry) (e : Entry) (later : List Entry) (us : List AccessUnit) (clocks : List (Option PcrSample)) →
-    IsRun r options → i < r.slots → NoneBefore (i + 1) es → e.index ≡ i → ClockIs options r.rate r.base0 r.limit r.slots pid (i + 1) now es → Timed r.rate (e ∷ later) us →
+own_clocked : (r : Run) (options : ViewOptions) (pid i : ℕ) (now : Option PcrSample) (es : List Entry) (e : Entry) (later : List Entry) (us : List AccessUnit)
+    (clocks : List (Option PcrSample)) →
+    IsRun r options → i < r.slots → NoneBefore (i + 1) es → e.index ≡ i → ClockIs options r.rate r.base0 r.limit r.slots pid (i + 1) now es →
+    Timed r.rate (e ∷ later) us →
     ((vs : List AccessUnit) → Timed r.rate later vs → Clocked r.rate r.base0 later vs clocks) → Clocked r.rate r.base0 (e ∷ later) us (now ∷ clocks)
 unfolding Timed Clocked
 own_clocked r options pid i now es e later [] clocks run few none place clock timed rest = tt
 own_clocked r options pid i now es e later (u ∷ us) clocks run few none place clock timed rest =
     (λ k starts is. near_now r options pid i now es e u run few none place clock timed.0 k is, rest us timed.1)
 
-one_clocked : (r : Run) (f : Followed) (b : Before) (bytes : List ℕ) (o : Option PacketView) (later es : List Entry) (us : List AccessUnit) (clocks : List (Option PcrSample)) → IsRun r f.options →
+one_clocked : (r : Run) (f : Followed) (b : Before) (bytes : List ℕ) (o : Option PacketView) (later es : List Entry) (us : List AccessUnit)
+    (clocks : List (Option PcrSample)) → IsRun r f.options →
     b.index < r.slots → NoneBefore (b.index + 1) es → ClockIs f.options r.rate r.base0 r.limit r.slots f.clock_pid (b.index + 1) (known_after f b o).clock es →
     Timed r.rate (listed f.pid b.index bytes o later) us → ((vs : List AccessUnit) → Timed r.rate later vs → Clocked r.rate r.base0 later vs clocks) →
     Clocked r.rate r.base0 (listed f.pid b.index bytes o later) us (clock_in f b o ++ clocks)
@@ -107,12 +114,14 @@ one_clocked r f b bytes (Some packet) later es us clocks run few none clock time
 
     by : (w : Bool) → nat_eq f.pid packet.header.pid ≡ w → Timed r.rate (if nat_eq f.pid packet.header.pid then e ∷ later else later) us →
         ClockIs f.options r.rate r.base0 r.limit r.slots f.clock_pid (b.index + 1) (clock_with f.options f.clock_pid b.index packet b.clock) es →
-        Clocked r.rate r.base0 (if nat_eq f.pid packet.header.pid then e ∷ later else later) us ((if nat_eq f.pid packet.header.pid then now ∷ [] else []) ++ clocks)
+        Clocked r.rate r.base0 (if nat_eq f.pid packet.header.pid then e ∷ later else later) us
+        ((if nat_eq f.pid packet.header.pid then now ∷ [] else []) ++ clocks)
     by true own t told = rw own (own_clocked r f.options f.clock_pid b.index now es e later us clocks run few none refl told (rw own at t) rest)
     by false other t told = rw other (rest us (rw other at t))
 
 pub clocked : (r : Run) (f : Followed) (b : Before) (chunks : List (List ℕ)) (us : List AccessUnit) → IsRun r f.options → b.index + length chunks ≤ r.slots →
-    Timed r.rate (entries_from f.pid b.index chunks) us → ClockIs f.options r.rate r.base0 r.limit r.slots f.clock_pid b.index b.clock (entries_from f.clock_pid b.index chunks) →
+    Timed r.rate (entries_from f.pid b.index chunks) us →
+    ClockIs f.options r.rate r.base0 r.limit r.slots f.clock_pid b.index b.clock (entries_from f.clock_pid b.index chunks) →
     Clocked r.rate r.base0 (entries_from f.pid b.index chunks) us (clocks_seen f b chunks)
 unfolding entries_from clocks_seen
 clocked r f b [] us run few timed clock = unfold Clocked in tt
@@ -124,7 +133,8 @@ clocked r f b (bytes ∷ chunks) us run few timed clock =
     let next = clock_step f b r.rate r.base0 r.limit r.slots bytes o (entries_from f.clock_pid (b.index + 1) chunks) run.arrival early clock in
     let next_is : ClockIs f.options r.rate r.base0 r.limit r.slots f.clock_pid b'.index b'.clock (entries_from f.clock_pid b'.index chunks) =
     subst (λ (i : ℕ). ClockIs f.options r.rate r.base0 r.limit r.slots f.clock_pid i b'.clock (entries_from f.clock_pid i chunks)) (sym more) next in
-    one_clocked r f b bytes o (entries_from f.pid (b.index + 1) chunks) (entries_from f.clock_pid (b.index + 1) chunks) us (clocks_seen f b' chunks) run (omega (arith, few))
+    one_clocked r f b bytes o (entries_from f.pid (b.index + 1) chunks) (entries_from f.clock_pid (b.index + 1) chunks) us (clocks_seen f b' chunks) run
+    (omega (arith, few))
     (none_before f.clock_pid (b.index + 1) chunks) next timed
     (λ vs later. subst (λ (i : ℕ). Clocked r.rate r.base0 (entries_from f.pid i chunks) vs (clocks_seen f b' chunks)) more
     (clocked r f b' chunks vs run (omega (arith, few, more)) (subst (λ (i : ℕ). Timed r.rate (entries_from f.pid i chunks) vs) (sym more) later) next_is))

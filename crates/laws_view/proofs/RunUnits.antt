@@ -1,5 +1,6 @@
 -- The units of a run that a multiplexer wrote, in the packets of their PID.
-use Rattle.std.proofs.Common.{◌≡◌, ◌∙◌, sym, ℕ, zero, suc, ◌+◌, ◌-◌, ◌*◌, ◌%◌, ◌≤◌, cond, Bool, true, false, IsTrue, if◌then◌else◌, nat_eq, List, [], ◌∷◌, ◌++◌, length, map, take, drop, replicate, Option, Some, None, refl, ap, ap₂, subst, arith, All}
+use Rattle.std.proofs.Common.{◌≡◌, ◌∙◌, sym, ℕ, zero, suc, ◌+◌, ◌-◌, ◌*◌, ◌%◌, ◌≤◌, cond, Bool, true, false, IsTrue, if◌then◌else◌, nat_eq, List, [], ◌∷◌, ◌++◌}
+use Rattle.std.proofs.Common.{length, map, take, drop, replicate, Option, Some, None, refl, ap, ap₂, subst, arith, All}
 use Rattle.std.specs.Prelude.{count_by, is_some, slice_get, unwrap_or}
 use Rattle.std.proofs.lemmas.List.{length-drop, length-take, map-append, take-map}
 use Rattle.std.proofs.lemmas.List.Elements.{All-append, All-cons, All-head, All-nil, All-tail}
@@ -68,7 +69,8 @@ unit_some true pes some =
     All-cons (λ b. 1 ≤ length b) (take 182 pes) (pieces (drop 182 pes)) (omega (arith, some, length-take 182 pes)) (payloads_join (drop 182 pes)).some
 unit_some false pes some = (payloads_join pes).some
 
-unit_is_cut : (l : OwnedStream) (u : AccessUnit) → IsTrue (fits_packet l.parameters.stream_id (length u.bytes)) → IsCut l.parameters.stream_id l.parameters.base0 (unit_cut l u)
+unit_is_cut : (l : OwnedStream) (u : AccessUnit) → IsTrue (fits_packet l.parameters.stream_id (length u.bytes)) →
+    IsCut l.parameters.stream_id l.parameters.base0 (unit_cut l u)
 unit_is_cut l u fits =
     let pes : List ℕ = pes_bytes l u in
     let field : ℕ = field_size (has_access u) in
@@ -82,10 +84,12 @@ unit_is_cut l u fits =
     omega (arith, many, length-drop (184 * 0 - field) pes, field_most (has_access u), text.short, text.size) in
     record { fits = fits; joined = join.joined; header = rw first whole; most = unit_most (has_access u) (pes_bytes l u) }
 
-all_cuts : (l : OwnedStream) (us : List AccessUnit) → ParametersInRange l.parameters → All (IsUnit l.parameters) us → All (IsCut l.parameters.stream_id l.parameters.base0) (cuts_of l us)
+all_cuts : (l : OwnedStream) (us : List AccessUnit) → ParametersInRange l.parameters → All (IsUnit l.parameters) us →
+    All (IsCut l.parameters.stream_id l.parameters.base0) (cuts_of l us)
 all_cuts l [] range all = All-nil (IsCut l.parameters.stream_id l.parameters.base0)
 all_cuts l (u ∷ us) range all =
-    All-cons (IsCut l.parameters.stream_id l.parameters.base0) (unit_cut l u) (cuts_of l us) (unit_is_cut l u (fits_unit l.parameters u range (All-head (IsUnit l.parameters) u us all)))
+    All-cons (IsCut l.parameters.stream_id l.parameters.base0) (unit_cut l u) (cuts_of l us)
+    (unit_is_cut l u (fits_unit l.parameters u range (All-head (IsUnit l.parameters) u us all)))
     (all_cuts l us range (All-tail (IsUnit l.parameters) u us all))
 
 pub same_units : (l : OwnedStream) (us : List AccessUnit) → cut_units (cuts_of l us) ≡ us
@@ -134,7 +138,8 @@ filled_marked : (start : Start) (bs : List (List ℕ)) → All (λ b. 1 ≤ leng
 unfolding marked
 filled_marked start [] all = All-nil Filled
 filled_marked start (b ∷ bs) all =
-    All-cons Filled (record { start = start; bytes = b }) (marked Continues bs) (All-head (λ b. 1 ≤ length b) b bs all) (filled_marked Continues bs (All-tail (λ b. 1 ≤ length b) b bs all))
+    All-cons Filled (record { start = start; bytes = b }) (marked Continues bs) (All-head (λ b. 1 ≤ length b) b bs all)
+    (filled_marked Continues bs (All-tail (λ b. 1 ≤ length b) b bs all))
 
 filled_pieces : (l : OwnedStream) (us : List AccessUnit) → All Filled (all_pieces l us)
 filled_pieces l [] = All-nil Filled
@@ -171,7 +176,8 @@ counted (f ∷ es) (suc j) e all found =
     rw (sum_by-cons (λ p. cond (has_payload p) 1 0) f (take j es), is) (omega (arith, rest))
 
 -- it carries the stream's units
-pub run_carries : (d : Scheduled) (s : DescribedStream) (k : ℕ) (us : List AccessUnit) (slots : ℕ) (bytes : List ℕ) → ParametersInRange (owned_stream d k s).parameters →
+pub run_carries : (d : Scheduled) (s : DescribedStream) (k : ℕ) (us : List AccessUnit) (slots : ℕ) (bytes : List ℕ) →
+    ParametersInRange (owned_stream d k s).parameters →
     Kept (owned_stream d k s) us → StreamKept d k s us slots bytes → CarriesUnits s.stream_id d.description.base0 s.pid (cuts_of (owned_stream d k s) us) bytes
 run_carries d s k us slots bytes range units kept =
     let l : OwnedStream = owned_stream d k s in
@@ -188,7 +194,8 @@ run_carries d s k us slots bytes range units kept =
     }
 
 -- its packets have 1 to 184 bytes
-sized_entries : (n base0 m : ℕ) (before : Option AccessUnit) (es : List Entry) (us : List AccessUnit) → AllSent base0 m before es us → All HasBytes es → All (λ e. e.index ≤ n) es →
+sized_entries : (n base0 m : ℕ) (before : Option AccessUnit) (es : List Entry) (us : List AccessUnit) → AllSent base0 m before es us → All HasBytes es →
+    All (λ e. e.index ≤ n) es →
     All (IsSized n) (map entry_packet es)
 unfolding AllSent
 sized_entries n base0 m before [] us sent filled low = All-nil (IsSized n)
@@ -199,7 +206,8 @@ sized_entries n base0 m before (e ∷ es) (u ∷ us) sent filled low =
     (sized_entries n base0 (number_after m e) (Some u) es us sent.1 (All-tail HasBytes e es filled) (All-tail (λ e. e.index ≤ n) e es low))
 
 -- in slots of the run
-low_listed : (pid index n : ℕ) (bytes : List ℕ) (o : Option PacketView) (es : List Entry) → index ≤ n → All (λ e. e.index ≤ n) es → All (λ e. e.index ≤ n) (listed pid index bytes o es)
+low_listed : (pid index n : ℕ) (bytes : List ℕ) (o : Option PacketView) (es : List Entry) → index ≤ n → All (λ e. e.index ≤ n) es →
+    All (λ e. e.index ≤ n) (listed pid index bytes o es)
 unfolding listed
 low_listed pid index n bytes None es le low = low
 low_listed pid index n bytes (Some packet) es le low = by (nat_eq pid packet.header.pid)
@@ -215,7 +223,8 @@ low_entries : (pid index n : ℕ) (chunks : List (List ℕ)) → index + length 
 unfolding entries_from
 low_entries pid index n [] few = All-nil (λ (e : Entry). e.index ≤ n)
 low_entries pid index n (bytes ∷ chunks) few =
-    low_listed pid index n bytes (sound_packet (packet_at bytes)) (entries_from pid (index + 1) chunks) (omega (arith, few)) (low_entries pid (index + 1) n chunks (omega (arith, few)))
+    low_listed pid index n bytes (sound_packet (packet_at bytes)) (entries_from pid (index + 1) chunks) (omega (arith, few))
+    (low_entries pid (index + 1) n chunks (omega (arith, few)))
 
 -- all of them, with what begins with each and when its unit is due
 pub record StreamSent (d : Scheduled) (s : DescribedStream) (k : ℕ) (us : List AccessUnit) (chunks : List (List ℕ)) : Type 0 where
@@ -226,8 +235,10 @@ pub record StreamSent (d : Scheduled) (s : DescribedStream) (k : ℕ) (us : List
   pub sent : AllSent d.description.base0 first None (entries_from s.pid 0 chunks) (cut_senders (cuts_of (owned_stream d k s) us))
   pub timed : Timed d.description.rate (entries_from s.pid 0 chunks) (cut_senders (cuts_of (owned_stream d k s) us))
 
-pub stream_sent : (d : Scheduled) (s : DescribedStream) (k : ℕ) (us : List AccessUnit) (slots : ℕ) (bytes : List ℕ) → slice_get d.description.streams k ≡ Some s → IsInRange d.description →
-    ParametersInRange (owned_stream d k s).parameters → Kept (owned_stream d k s) us → StreamKept d k s us slots bytes → length (cut_packets bytes) ≤ slots → StreamSent d s k us (cut_packets bytes)
+pub stream_sent : (d : Scheduled) (s : DescribedStream) (k : ℕ) (us : List AccessUnit) (slots : ℕ) (bytes : List ℕ) →
+    slice_get d.description.streams k ≡ Some s → IsInRange d.description →
+    ParametersInRange (owned_stream d k s).parameters → Kept (owned_stream d k s) us → StreamKept d k s us slots bytes → length (cut_packets bytes) ≤ slots →
+    StreamSent d s k us (cut_packets bytes)
 stream_sent d s k us slots bytes is ranges range units kept few =
     let l : OwnedStream = owned_stream d k s in
     let rate : ℕ = d.description.rate in
@@ -248,9 +259,11 @@ stream_sent d s k us slots bytes is ranges range units kept few =
     late_law.all_left rate s.rx slots 0 (timed_pes_packets s.stream_id base0 us) (pes_left rate s.rx 0 (packets_on s.pid bytes)) kept.arrived in
     let all : AllLeft rate s.rx slots (timed_pes_packets s.stream_id base0 (cut_units cuts)) (pes_left rate s.rx 0 (map entry_packet es)) =
     subst (λ (ps : List Packet). AllLeft rate s.rx slots (timed_pes_packets s.stream_id base0 (cut_units cuts)) (pes_left rate s.rx 0 ps)) packets
-    (subst (λ (vs : List AccessUnit). AllLeft rate s.rx slots (timed_pes_packets s.stream_id base0 vs) (pes_left rate s.rx 0 (packets_on s.pid bytes))) (sym (same_units l us)) arrived) in
+    (subst (λ (vs : List AccessUnit). AllLeft rate s.rx slots (timed_pes_packets s.stream_id base0 vs) (pes_left rate s.rx 0 (packets_on s.pid bytes)))
+    (sym (same_units l us)) arrived) in
     let timely = timely_units rate s.rx slots s.stream_id base0 cuts (map entry_packet es) (pes_left rate s.rx 0 (map entry_packet es)) carries.cut sizes all in
-    let filled : All HasBytes es = subst (λ (xs : List Entry). All HasBytes xs) same (filled_entries (pid_list s.pid bytes) (all_pieces l us) (filled_pieces l us) kept.pieces) in
+    let filled : All HasBytes es =
+    subst (λ (xs : List Entry). All HasBytes xs) same (filled_entries (pid_list s.pid bytes) (all_pieces l us) (filled_pieces l us) kept.pieces) in
     let sized = sized_entries slots base0 carries.first None es (cut_senders cuts) sent filled (low_entries s.pid 0 slots chunks (omega (arith, few))) in
     let on = on_time rate s.rx slots 0 (cut_senders cuts) (map entry_packet es) (omega (arith, stream.least_rx)) sized timely in
     record {

@@ -1,5 +1,6 @@
 -- The packets of units, unit by unit.
-use Rattle.std.proofs.Common.{◌≡◌, ◌∙◌, sym, ℕ, zero, suc, ◌+◌, ◌*◌, ◌≤◌, Bool, true, false, List, [], ◌∷◌, ◌++◌, length, map, take, drop, replicate, refl, ap, subst, arith, All}
+use Rattle.std.proofs.Common.{◌≡◌, ◌∙◌, sym, ℕ, zero, suc, ◌+◌, ◌*◌, ◌≤◌, Bool, true, false, List, [], ◌∷◌, ◌++◌, length, map, take, drop, replicate, refl, ap}
+use Rattle.std.proofs.Common.{subst, arith, All}
 use Rattle.std.specs.List.{concat}
 use Rattle.std.proofs.Math.Seq.{take-add}
 use Rattle.std.proofs.lemmas.List.{drop-append-le, length-append, length-drop, map-append}
@@ -58,7 +59,8 @@ drop_two (suc n) m [] = drop_none (suc n + m) ∙ sym (drop_none m)
 drop_two (suc n) m (x ∷ xs) = let same : suc n + m ≡ suc (n + m) = omega arith in ap (λ (k : ℕ). drop k (x ∷ xs)) same ∙ drop_two n m xs
 
 -- the packets of the first unit, as far as they come, and those after them
-later_sizes : (qs : List ℕ) (ps : List Packet) (rest : List ℕ) → packet_sizes ps ≡ take (length ps) (qs ++ rest) → packet_sizes (drop (length qs) ps) ≡ take (length (drop (length qs) ps)) rest
+later_sizes : (qs : List ℕ) (ps : List Packet) (rest : List ℕ) → packet_sizes ps ≡ take (length ps) (qs ++ rest) →
+    packet_sizes (drop (length qs) ps) ≡ take (length (drop (length qs) ps)) rest
 later_sizes [] ps rest e = e
 later_sizes (q ∷ qs) [] rest e = refl
 later_sizes (q ∷ qs) (p ∷ ps) rest e = later_sizes qs ps rest (let others : packet_sizes ps ≡ take (length ps) (qs ++ rest) = cc in others)
@@ -83,7 +85,8 @@ pub record FirstKept (rate r x : ℕ) (u : AccessUnit) (qs : List ℕ) (us : Lis
       ≡ kept rate r x u.dts (take (total qs) left) + kept_each rate r x us (drop (length qs) ps) (drop (total qs) left)
   pub many : length (drop (total qs) left) ≡ total (packet_sizes (drop (length qs) ps))
 
-first_kept : (rate r x : ℕ) (u : AccessUnit) (qs : List ℕ) (us : List AccessUnit) (ps : List Packet) (rest left : List ℕ) → packet_sizes ps ≡ take (length ps) (qs ++ rest) →
+first_kept : (rate r x : ℕ) (u : AccessUnit) (qs : List ℕ) (us : List AccessUnit) (ps : List Packet) (rest left : List ℕ) →
+    packet_sizes ps ≡ take (length ps) (qs ++ rest) →
     length left ≡ total (packet_sizes ps) → FirstKept rate r x u qs us ps left
 unfolding total kept_each kept
 first_kept rate r x u [] us ps rest left e many = record { is = omega (arith, kept_none rate r x u.dts); many = many }
@@ -101,7 +104,8 @@ first_kept rate r x u (q ∷ qs) us (p ∷ ps) rest left e many =
     let k = first_kept rate r x u qs us ps rest (drop q left) others fewer in
     let two : kept rate r x u.dts (take (q + total qs) left) ≡ kept rate r x u.dts (take q left) + kept rate r x u.dts (take (total qs) (drop q left)) =
     ap (λ (l : List ℕ). kept rate r x u.dts l) (take-add q (total qs) left) ∙ kept-append rate r x u.dts (take q left) (take (total qs) (drop q left)) in
-    let last : kept_each rate r x us (drop (length qs) ps) (drop (q + total qs) left) ≡ kept_each rate r x us (drop (length qs) ps) (drop (total qs) (drop q left)) =
+    let last : kept_each rate r x us (drop (length qs) ps) (drop (q + total qs) left) ≡ kept_each rate r x us (drop (length qs) ps)
+    (drop (total qs) (drop q left)) =
     ap (λ (l : List ℕ). kept_each rate r x us (drop (length qs) ps) l) (drop_two q (total qs) left) in
     record { is = rw size (omega (arith, k.is, two, last)); many = ap (λ (l : List ℕ). length l) (drop_two q (total qs) left) ∙ k.many }
 
@@ -119,7 +123,8 @@ kept_units rate r x id base0 (c ∷ cuts) ps left cut e many =
     let qs : List ℕ = payload_sizes c.payloads in
     let sizes : packet_sizes ps ≡ take (length ps) (qs ++ sizes_of (cut_pieces cuts)) = e ∙ ap (λ (ns : List ℕ). take (length ps) ns) (all_sizes c cuts) in
     let k = first_kept rate r x c.unit qs (cut_senders cuts) ps (sizes_of (cut_pieces cuts)) left sizes many in
-    let rest = kept_units rate r x id base0 cuts (drop (length qs) ps) (drop (total qs) left) (All-tail (IsCut id base0) c cuts cut) (later_sizes qs ps (sizes_of (cut_pieces cuts)) sizes) k.many in
+    let rest = kept_units rate r x id base0 cuts (drop (length qs) ps) (drop (total qs) left) (All-tail (IsCut id base0) c cuts cut)
+    (later_sizes qs ps (sizes_of (cut_pieces cuts)) sizes) k.many in
     let whole = unit_total id base0 c (All-head (IsCut id base0) c cuts cut) in
     let first = rw (many_sizes c.payloads, whole) at k.is in
     let more = rw (many_sizes c.payloads, whole) at rest in
@@ -154,7 +159,8 @@ unfoldable pub TimelyEach : ℕ → ℕ → ℕ → List AccessUnit → List Pac
 TimelyEach rate r n us [] left = Unit {0}
 TimelyEach rate r n [] (p ∷ ps) left = Unit {0}
 TimelyEach rate r n (u ∷ us) (p ∷ ps) left =
-    (u.dts * rate ≤ n * slot_units_at_1bps → All (λ d. d * byte_units_at_1bps ≤ u.dts * rate * r) (take p.size left)) × TimelyEach rate r n us ps (drop p.size left)
+    (u.dts * rate ≤ n * slot_units_at_1bps → All (λ d. d * byte_units_at_1bps ≤ u.dts * rate * r) (take p.size left)) × TimelyEach rate r n us ps
+    (drop p.size left)
 
 all_parts : (m : ℕ) (xs ys : List ℕ) → All (λ d. d * 720000 ≤ m) (xs ++ ys) → All (λ d. d * 720000 ≤ m) xs × All (λ d. d * 720000 ≤ m) ys
 all_parts m [] ys h = (All-nil (λ d. d * 720000 ≤ m), h)
@@ -162,10 +168,12 @@ all_parts m (x ∷ xs) ys h =
     let rest = all_parts m xs ys (All-tail (λ d. d * 720000 ≤ m) x (xs ++ ys) h) in
     (All-cons (λ d. d * 720000 ≤ m) x xs (All-head (λ d. d * 720000 ≤ m) x (xs ++ ys) h) rest.0, rest.1)
 
-all_split : (m q n : ℕ) (left : List ℕ) → All (λ d. d * 720000 ≤ m) (take (q + n) left) → All (λ d. d * 720000 ≤ m) (take q left) × All (λ d. d * 720000 ≤ m) (take n (drop q left))
+all_split : (m q n : ℕ) (left : List ℕ) → All (λ d. d * 720000 ≤ m) (take (q + n) left) →
+    All (λ d. d * 720000 ≤ m) (take q left) × All (λ d. d * 720000 ≤ m) (take n (drop q left))
 all_split m q n left h = all_parts m (take q left) (take n (drop q left)) (subst (λ (l : List ℕ). All (λ d. d * 720000 ≤ m) l) (take-add q n left) h)
 
-first_timely : (rate r n : ℕ) (u : AccessUnit) (qs : List ℕ) (us : List AccessUnit) (ps : List Packet) (rest left : List ℕ) → packet_sizes ps ≡ take (length ps) (qs ++ rest) →
+first_timely : (rate r n : ℕ) (u : AccessUnit) (qs : List ℕ) (us : List AccessUnit) (ps : List Packet) (rest left : List ℕ) →
+    packet_sizes ps ≡ take (length ps) (qs ++ rest) →
     (u.dts * rate ≤ n * slot_units_at_1bps → All (λ d. d * 720000 ≤ u.dts * rate * r) (take (total qs) left)) →
     TimelyEach rate r n us (drop (length qs) ps) (drop (total qs) left) → TimelyEach rate r n (replicate (length qs) u ++ us) ps left
 unfolding total TimelyEach
@@ -174,14 +182,16 @@ first_timely rate r n u (q ∷ qs) us [] rest left e h later = tt
 first_timely rate r n u (q ∷ qs) us (p ∷ ps) rest left e h later =
     let size : p.size ≡ q = cc in
     let others : packet_sizes ps ≡ take (length ps) (qs ++ rest) = cc in
-    let two : u.dts * rate ≤ n * slot_units_at_1bps → All (λ d. d * 720000 ≤ u.dts * rate * r) (take q left) × All (λ d. d * 720000 ≤ u.dts * rate * r) (take (total qs) (drop q left)) =
+    let two : u.dts * rate ≤ n * slot_units_at_1bps →
+    All (λ d. d * 720000 ≤ u.dts * rate * r) (take q left) × All (λ d. d * 720000 ≤ u.dts * rate * r) (take (total qs) (drop q left)) =
     λ due. all_split (u.dts * rate * r) q (total qs) left (h due) in
     let last : TimelyEach rate r n us (drop (length qs) ps) (drop (total qs) (drop q left)) =
     subst (λ (l : List ℕ). TimelyEach rate r n us (drop (length qs) ps) l) (drop_two q (total qs) left) later in
     rw size ((λ due. (two due).0), first_timely rate r n u qs us ps rest (drop q left) others (λ due. (two due).1) last)
 
 pub timely_units : (rate r n id base0 : ℕ) (cuts : List CutUnit) (ps : List Packet) (left : List ℕ) → All (IsCut id base0) cuts →
-    packet_sizes ps ≡ take (length ps) (sizes_of (cut_pieces cuts)) → AllLeft rate r n (timed_pes_packets id base0 (cut_units cuts)) left → TimelyEach rate r n (cut_senders cuts) ps left
+    packet_sizes ps ≡ take (length ps) (sizes_of (cut_pieces cuts)) → AllLeft rate r n (timed_pes_packets id base0 (cut_units cuts)) left →
+    TimelyEach rate r n (cut_senders cuts) ps left
 unfolding AllLeft
 timely_units rate r n id base0 [] ps left cut e all = none ps
   where
@@ -194,7 +204,8 @@ timely_units rate r n id base0 (c ∷ cuts) ps left cut e all =
     let size : total qs ≡ length (pes_packet_bytes id base0 c.unit) = unit_total id base0 c (All-head (IsCut id base0) c cuts cut) in
     let sizes : packet_sizes ps ≡ take (length ps) (qs ++ sizes_of (cut_pieces cuts)) = e ∙ ap (λ (ns : List ℕ). take (length ps) ns) (all_sizes c cuts) in
     let rest : TimelyEach rate r n (cut_senders cuts) (drop (length qs) ps) (drop (total qs) left) =
-    timely_units rate r n id base0 cuts (drop (length qs) ps) (drop (total qs) left) (All-tail (IsCut id base0) c cuts cut) (later_sizes qs ps (sizes_of (cut_pieces cuts)) sizes)
+    timely_units rate r n id base0 cuts (drop (length qs) ps) (drop (total qs) left) (All-tail (IsCut id base0) c cuts cut)
+    (later_sizes qs ps (sizes_of (cut_pieces cuts)) sizes)
     (subst (λ (m : ℕ). AllLeft rate r n (timed_pes_packets id base0 (cut_units cuts)) (drop m left)) (sym size) all.1) in
     let whole : u.dts * rate ≤ n * slot_units_at_1bps → All (λ d. d * 720000 ≤ u.dts * rate * r) (take (total qs) left) =
     λ due. subst (λ (m : ℕ). All (λ d. d * 720000 ≤ u.dts * rate * r) (take m left)) (sym size) (all.0 due).1 in

@@ -1,5 +1,6 @@
 -- The packets of a PID that carry units: what begins with each, and of which unit it is.
-use Rattle.std.proofs.Common.{◌≡◌, ◌∙◌, ◌⊎◌, sym, ℕ, suc, ◌+◌, ◌%◌, ◌≤◌, ◌==◌, if◌then◌else◌, cond, Bool, true, false, IsTrue, List, [], ◌∷◌, ◌++◌, length, map, take, drop, replicate, Option, Some, None, refl, ap, inl, inr, arith, All, eqb-true}
+use Rattle.std.proofs.Common.{◌≡◌, ◌∙◌, ◌⊎◌, sym, ℕ, suc, ◌+◌, ◌%◌, ◌≤◌, ◌==◌, if◌then◌else◌, cond, Bool, true, false, IsTrue, List, [], ◌∷◌, ◌++◌, length, map}
+use Rattle.std.proofs.Common.{take, drop, replicate, Option, Some, None, refl, ap, inl, inr, arith, All, eqb-true}
 use Rattle.std.specs.Prelude.{count_by, is_some, slice_get, unwrap_or}
 use Rattle.std.specs.List.{concat}
 use Rattle.std.proofs.lemmas.Bool.{cases_Bool}
@@ -30,7 +31,8 @@ wire_dts base0 u = on_wire (u.dts + base0)
 -- a payload of a unit, which begins with it, or goes on from the one before
 pub record HasPiece (base0 : ℕ) (before : Option AccessUnit) (p : BegunPayload) (u : AccessUnit) : Type 0 where
   pub most : length p.bytes ≤ 184
-  pub begins : ((p.start ≡ true) × (1 ≤ length p.bytes) × (by_header (header_at p.bytes) ≡ Stamped (wire_dts base0 u))) ⊎ ((p.start ≡ false) × (before ≡ Some u))
+  pub begins : ((p.start ≡ true) × (1 ≤ length p.bytes) × (by_header (header_at p.bytes) ≡ Stamped (wire_dts base0 u))) ⊎
+      ((p.start ≡ false) × (before ≡ Some u))
 
 unfoldable pub Cut : ℕ → Option AccessUnit → List BegunPayload → List AccessUnit → Type 0
 Cut base0 before [] us = Unit {0}
@@ -70,20 +72,25 @@ pub some_header : (base0 : ℕ) (u : AccessUnit) → 1 ≤ unit_header_size base
 some_header base0 u = some_by u.marks.long (on_wire (u.pts + base0) == on_wire (u.dts + base0)) (extension_size u.marks)
 
 -- those of one unit
-one_cut : (id base0 : ℕ) (u : AccessUnit) (before : Option AccessUnit) (bs : List (List ℕ)) (ps : List BegunPayload) (us : List AccessUnit) → IsTrue (fits_packet id (length u.bytes)) →
-    concat bs ≡ pes_packet_bytes id base0 u → unit_header_size base0 u ≤ length (unwrap_or (slice_get bs 0) []) → All (λ b. length b ≤ 184) bs → Cut base0 (Some u) ps us →
+one_cut : (id base0 : ℕ) (u : AccessUnit) (before : Option AccessUnit) (bs : List (List ℕ)) (ps : List BegunPayload) (us : List AccessUnit) →
+    IsTrue (fits_packet id (length u.bytes)) →
+    concat bs ≡ pes_packet_bytes id base0 u → unit_header_size base0 u ≤ length (unwrap_or (slice_get bs 0) []) → All (λ b. length b ≤ 184) bs →
+    Cut base0 (Some u) ps us →
     Cut base0 before (begun true bs ++ ps) (replicate (length bs) u ++ us)
 unfolding begun Cut
 one_cut id base0 u before [] ps us fits joined header most rest = absurd (omega (arith, header, some_header base0 u))
 one_cut id base0 u before (b ∷ bs) ps us fits joined header most rest =
-    let front : take (length b) (pes_packet_bytes id base0 u) ≡ b = ap (λ (l : List ℕ). take (length b) l) (sym joined) ∙ take_at b (concat bs) (length b) refl in
-    let read : by_header (header_at b) ≡ Stamped (wire_dts base0 u) = ap (λ (l : List ℕ). by_header (header_at l)) (sym front) ∙ header_read id base0 (length b) u fits header in
+    let front : take (length b) (pes_packet_bytes id base0 u) ≡ b = ap (λ (l : List ℕ). take (length b) l) (sym joined)
+    ∙ take_at b (concat bs) (length b) refl in
+    let read : by_header (header_at b) ≡ Stamped (wire_dts base0 u) = ap (λ (l : List ℕ). by_header (header_at l)) (sym front)
+    ∙ header_read id base0 (length b) u fits header in
     let some : 1 ≤ length b = omega (arith, header, some_header base0 u) in (
       record { most = All-head (λ b. length b ≤ 184) b bs most; begins = inl (refl, some, read) },
       goes_on base0 u bs ps us (All-tail (λ b. length b ≤ 184) b bs most) rest,
     )
 
-pub all_cut : (id base0 : ℕ) (before : Option AccessUnit) (cuts : List CutUnit) → All (IsCut id base0) cuts → Cut base0 before (cut_pieces cuts) (cut_senders cuts)
+pub all_cut : (id base0 : ℕ) (before : Option AccessUnit) (cuts : List CutUnit) → All (IsCut id base0) cuts →
+    Cut base0 before (cut_pieces cuts) (cut_senders cuts)
 all_cut id base0 before [] all = unfold Cut in tt
 all_cut id base0 before (c ∷ cuts) all =
     let is = All-head (IsCut id base0) c cuts all in
@@ -117,7 +124,8 @@ nothing_begins None = refl
 nothing_begins (Some b) = refl
 
 begins_by : (base0 : ℕ) (start : Bool) (o : Option (List ℕ)) (before : Option AccessUnit) (u : AccessUnit) →
-    ((start ≡ true) × (1 ≤ length (unwrap_or o [])) × (by_header (header_at (unwrap_or o [])) ≡ Stamped (wire_dts base0 u))) ⊎ ((start ≡ false) × (before ≡ Some u)) →
+    ((start ≡ true) × (1 ≤ length (unwrap_or o [])) × (by_header (header_at (unwrap_or o [])) ≡ Stamped (wire_dts base0 u))) ⊎
+    ((start ≡ false) × (before ≡ Some u)) →
     ((start ≡ true) × (by_payload start o ≡ Stamped (wire_dts base0 u))) ⊎ ((by_payload start o ≡ Nothing) × (before ≡ Some u))
 unfolding by_payload
 begins_by base0 start None before u (inl begins) = absurd (omega (arith, begins.1))
@@ -142,7 +150,8 @@ one_sent base0 n before e q u piece is counter =
 
 -- each has the counter after that of the last one with a payload
 abbrev CountOn : ℕ → List Entry → Type 0
-CountOn n es = (j : ℕ) (e : Entry) → slice_get es j ≡ Some e → is_some e.packet.payload ≡ true → e.packet.header.continuity_counter ≡ (n + count_by has_payload (take j es)) % 16
+CountOn n es = (j : ℕ) (e : Entry) → slice_get es j ≡ Some e → is_some e.packet.payload ≡ true →
+    e.packet.header.continuity_counter ≡ (n + count_by has_payload (take j es)) % 16
 
 count_next : (n : ℕ) (e : Entry) (es : List Entry) → CountOn n (e ∷ es) → CountOn (number_after n e) es
 count_next n e es counters j f found some = counters (suc j) f found some ∙ ap (λ (m : ℕ). m % 16) (same (is_some e.packet.payload) refl)
@@ -165,7 +174,8 @@ all_sent base0 n before (e ∷ es) (q ∷ qs) (u ∷ us) cut same counters =
     (one, all_sent base0 (number_after n e) (Some u) es qs us cut.1 others (count_next n e es counters))
 
 -- so the packets of a PID that carries units are
-pub carried_sent : (id base0 pid : ℕ) (cuts : List CutUnit) (bytes : List ℕ) (c : CarriesUnits id base0 pid cuts bytes) → AllSent base0 c.first None (pid_list pid bytes) (cut_senders cuts)
+pub carried_sent : (id base0 pid : ℕ) (cuts : List CutUnit) (bytes : List ℕ) (c : CarriesUnits id base0 pid cuts bytes) →
+    AllSent base0 c.first None (pid_list pid bytes) (cut_senders cuts)
 carried_sent id base0 pid cuts bytes c =
     all_sent base0 c.first None (pid_list pid bytes) (cut_pieces cuts) (cut_senders cuts) (all_cut id base0 None cuts c.cut) c.pieces c.counters
 
@@ -173,12 +183,14 @@ pub many_packets : (es : List Entry) → length (map entry_packet es) ≡ length
 many_packets [] = refl
 many_packets (e ∷ es) = ap (λ (n : ℕ). suc n) (many_packets es)
 
-pub sizes_below : (base0 n : ℕ) (before : Option AccessUnit) (es : List Entry) (us : List AccessUnit) → AllSent base0 n before es us → All (λ p. p.size ≤ 188) (map entry_packet es)
+pub sizes_below : (base0 n : ℕ) (before : Option AccessUnit) (es : List Entry) (us : List AccessUnit) → AllSent base0 n before es us →
+    All (λ p. p.size ≤ 188) (map entry_packet es)
 unfolding AllSent
 sizes_below base0 n before [] us sent = All-nil (λ (p : Packet). p.size ≤ 188)
 sizes_below base0 n before (e ∷ es) [] sent = absurd sent
 sizes_below base0 n before (e ∷ es) (u ∷ us) sent =
-    All-cons (λ p. p.size ≤ 188) (entry_packet e) (map entry_packet es) (omega (arith, sent.0.most)) (sizes_below base0 (number_after n e) (Some u) es us sent.1)
+    All-cons (λ p. p.size ≤ 188) (entry_packet e) (map entry_packet es) (omega (arith, sent.0.most))
+    (sizes_below base0 (number_after n e) (Some u) es us sent.1)
 
 -- the packets after these
 pub record LaterSent (base0 : ℕ) (es fs : List Entry) (us : List AccessUnit) : Type 0 where
@@ -186,7 +198,8 @@ pub record LaterSent (base0 : ℕ) (es fs : List Entry) (us : List AccessUnit) :
   pub number : ℕ
   pub sent : AllSent base0 number last fs (drop (length es) us)
 
-pub later_sent : (base0 n : ℕ) (before : Option AccessUnit) (es fs : List Entry) (us : List AccessUnit) → AllSent base0 n before (es ++ fs) us → LaterSent base0 es fs us
+pub later_sent : (base0 n : ℕ) (before : Option AccessUnit) (es fs : List Entry) (us : List AccessUnit) → AllSent base0 n before (es ++ fs) us →
+    LaterSent base0 es fs us
 unfolding AllSent
 later_sent base0 n before [] fs us sent = record { last = before; number = n; sent = sent }
 later_sent base0 n before (e ∷ es) fs [] sent = absurd sent

@@ -1,5 +1,6 @@
 -- A packet more of a stream: what is known, and what enters the buffers of each stream that has begun.
-use Rattle.std.proofs.Common.{◌≡◌, ◌∙◌, sym, ℕ, ◌+◌, ◌-◌, ◌^◌, ◌<◌, ◌⊎◌, Bool, true, false, List, [], ◌∷◌, length, Option, Some, None, Result, Ok, Err, if◌then◌else◌, refl, ap, subst, inl, inr, nat_eq, arith}
+use Rattle.std.proofs.Common.{◌≡◌, ◌∙◌, sym, ℕ, ◌+◌, ◌-◌, ◌^◌, ◌<◌, ◌⊎◌, Bool, true, false, List, [], ◌∷◌, length, Option, Some, None, Result, Ok, Err}
+use Rattle.std.proofs.Common.{if◌then◌else◌, refl, ap, subst, inl, inr, nat_eq, arith}
 use Rattle.std.specs.Prelude.{slice_get, ◌==◌}
 use Rattle.std.specs.Option.{option_or}
 use Rattle.std.specs.Map.{lookup}
@@ -81,7 +82,8 @@ clock_more options pid index packet clocks None = by (nat_eq pid packet.header.p
     by true = refl
     by false = refl
 clock_more options pid index packet clocks (Some sample) = elim (eqb_tells pid packet.header.pid) [
-  | inl same ↦ rw same.0 (ap (λ (q : ℕ). lookup (nat_eq q) (with_sample clocks packet.header.pid (Some sample))) same.1 ∙ lookup_same clocks packet.header.pid sample)
+  | inl same ↦ rw same.0
+      (ap (λ (q : ℕ). lookup (nat_eq q) (with_sample clocks packet.header.pid (Some sample))) same.1 ∙ lookup_same clocks packet.header.pid sample)
   | inr other ↦ rw other.0 (lookup_other clocks packet.header.pid pid sample (λ e. other.1 (sym e)))
 ]
 
@@ -94,7 +96,17 @@ clock_known options pid index packet clocks = clock_more options pid index packe
 in_window_excesses : (t : Tally) (window : ℕ) → (in_window t window).excesses ≡ t.excesses
 in_window_excesses t window = by (t.window == window)
   where
-    by : (b : Bool) → (if b then t else record t { window = window; window_transport = 0; window_main = 0; window_least = None; window_units = 0; window_late = 0; slack = 2 ^ 128 - 1 }).excesses ≡ t.excesses
+    by : (b : Bool) →
+        (if b then t else record t {
+          window = window;
+          window_transport = 0;
+          window_main = 0;
+          window_least = None;
+          window_units = 0;
+          window_late = 0;
+          slack =
+              2 ^ 128 - 1;
+        }).excesses ≡ t.excesses
     by true = refl
     by false = refl
 
@@ -116,7 +128,8 @@ in_window_units t window = by (t.window == window)
     by true = (refl, refl)
     by false = (refl, refl)
 
-pub unit_units : (t : Tally) (window : ℕ) (unit : Option UnitSeen) → ((with_unit_if t window unit).units ≡ units_with t.units unit) × ((with_unit_if t window unit).late ≡ late_with t.late unit)
+pub unit_units : (t : Tally) (window : ℕ) (unit : Option UnitSeen) →
+    ((with_unit_if t window unit).units ≡ units_with t.units unit) × ((with_unit_if t window unit).late ≡ late_with t.late unit)
 unfolding with_unit_if units_with late_with
 unit_units t window None = (refl, refl)
 unit_units t window (Some u) =
@@ -147,10 +160,12 @@ pub record Steps (s : ViewState) (o : Option PacketView) (s' : ViewState) (e e' 
 
 -- sections and names change none of it
 pub finished_steps : (s s' : ViewState) (o : Option PacketView) (bytes : List ℕ) (e e' : EntryState) → Steps s o s' e e' → Steps s o (finished s' bytes) e e'
-finished_steps s s' o bytes e e' k = record { same_stream = k.same_stream; then_known = k.then_known; size = k.size; held = k.held; excesses = k.excesses; units = k.units; late = k.late }
+finished_steps s s' o bytes e e' k =
+    record { same_stream = k.same_stream; then_known = k.then_known; size = k.size; held = k.held; excesses = k.excesses; units = k.units; late = k.late }
 
 -- what a packet leaves of an entry, once the view has counted it
-packet_steps : (s s' : ViewState) (packet : PacketView) (window : ℕ) (e : EntryState) → s'.seen.options ≡ s.seen.options → s'.seen.packets ≡ s.seen.packets + 1 →
+packet_steps : (s s' : ViewState) (packet : PacketView) (window : ℕ) (e : EntryState) → s'.seen.options ≡ s.seen.options →
+    s'.seen.packets ≡ s.seen.packets + 1 →
     s'.seen.clocks ≡ clocks_after s.seen.clocks s.seen.options.arrival s.seen.packets packet →
     Steps s (Some packet) s' e
     (entry_with s.seen.options s.seen.packets window (clocks_after s.seen.clocks s.seen.options.arrival s.seen.packets packet) e packet)
@@ -218,7 +233,8 @@ begun_steps s packet j e agree few there =
       ),
     )
 
-pub sound_steps : (s : ViewState) (o : Option PacketView) (j : ℕ) (e : EntryState) → Agree s.table → s.seen.packets + 1 < 2 ^ 64 → slice_get s.table.entries j ≡ Some e →
+pub sound_steps : (s : ViewState) (o : Option PacketView) (j : ℕ) (e : EntryState) → Agree s.table → s.seen.packets + 1 < 2 ^ 64 →
+    slice_get s.table.entries j ≡ Some e →
     (e' : EntryState) × ((slice_get (after_sound s o).table.entries j ≡ Some e') × Steps s o (after_sound s o) e e')
 unfolding after_sound
 sound_steps s None j e agree few there = (

@@ -18,7 +18,8 @@ unfolding ComeFrom
 come_low low from [] le come = tt
 come_low low from (p ∷ ps) le come = (omega (arith, le, come.0), come.1, come.2)
 
-come_one : (f : Followed) (b : Before) (o : Option PacketView) (ps : List Arriving) → b.index < most_packets → ComeFrom (b.index + 1) ps → ComeFrom b.index (seen_in f b o ++ ps)
+come_one : (f : Followed) (b : Before) (o : Option PacketView) (ps : List Arriving) → b.index < most_packets → ComeFrom (b.index + 1) ps →
+    ComeFrom b.index (seen_in f b o ++ ps)
 unfolding seen_in ComeFrom
 come_one f b None ps early come = come_low b.index (b.index + 1) ps (omega arith) come
 come_one f b (Some packet) ps early come = by (nat_eq f.pid packet.header.pid) refl
@@ -37,5 +38,6 @@ they_come f b (bytes ∷ packets) few =
     let o = sound_packet (packet_at bytes) in
     let b' : Before = known_after f b o in
     let more = index_more f b o in
-    let rest : ComeFrom (b.index + 1) (seen_among f b' packets) = subst (λ (i : ℕ). ComeFrom i (seen_among f b' packets)) more (they_come f b' packets (omega (arith, few, more))) in
+    let rest : ComeFrom (b.index + 1) (seen_among f b' packets) =
+    subst (λ (i : ℕ). ComeFrom i (seen_among f b' packets)) more (they_come f b' packets (omega (arith, few, more))) in
     come_one f b o (seen_among f b' packets) (omega (arith, few)) rest

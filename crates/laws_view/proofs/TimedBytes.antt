@@ -1,5 +1,6 @@
 -- Packets that enter buffers, each as it arrives: when their bytes arrive.
-use Rattle.std.proofs.Common.{◌≡◌, ◌∙◌, sym, ℕ, zero, suc, ◌+◌, ◌-◌, ◌*◌, ◌^◌, ◌≤◌, ◌<◌, ◌&&◌, min, nat_le, nat_lt, Bool, true, false, List, [], ◌∷◌, ◌++◌, length, Option, Some, None, Result, Ok, Err, if◌then◌else◌, refl, ap, subst, inl, inr, nat_eq, arith}
+use Rattle.std.proofs.Common.{◌≡◌, ◌∙◌, sym, ℕ, zero, suc, ◌+◌, ◌-◌, ◌*◌, ◌^◌, ◌≤◌, ◌<◌, ◌&&◌, min, nat_le, nat_lt, Bool, true, false, List, [], ◌∷◌, ◌++◌}
+use Rattle.std.proofs.Common.{length, Option, Some, None, Result, Ok, Err, if◌then◌else◌, refl, ap, subst, inl, inr, nat_eq, arith}
 use Rattle.std.specs.Prelude.{unwrap_or}
 use Rattle.std.proofs.lemmas.Bool.{cases_lt, le-leb, lt-ltb, le-ltb}
 use Rattle.std.proofs.lemmas.List.{append-nil, length-append}
@@ -43,7 +44,8 @@ line_row : (lines : ClockLines) (line : Line) (drain i n : ℕ) → ((j : ℕ) �
 unfolding arrivals_on times_from time_of
 line_row lines line drain i zero on = refl
 line_row lines line drain i (suc n) on =
-    let first : arrival_at drain line i ≡ arrival_at drain (line_at lines i) i = ap (λ (l : Line). arrival_at drain l i) (sym (on i (omega arith) (omega arith))) in
+    let first : arrival_at drain line i ≡ arrival_at drain (line_at lines i) i =
+    ap (λ (l : Line). arrival_at drain l i) (sym (on i (omega arith) (omega arith))) in
     let rest = line_row lines line drain (suc i) n (λ j low high. on j (omega (arith, low)) (omega (arith, high))) in
     ap (λ (t : ℕ). t ∷ arrivals_on drain line (suc i) n) first ∙ ap (λ (ts : List ℕ). arrival_at drain (line_at lines i) i ∷ ts) rest
 
@@ -53,7 +55,8 @@ OnOne Unknown i n = Unit {0}
 OnOne (AtRate rate) i n = Unit {0}
 OnOne (OnLines lines) i n = i ≤ lines.line.byte → i + n ≤ lines.line.byte + 1
 
-pub row_is : (arrival : Arrival) (drain i n j m : ℕ) → has_times arrival j m ≡ true → OnOne arrival i n → times_at arrival drain i n ≡ times_from arrival drain i n
+pub row_is : (arrival : Arrival) (drain i n j m : ℕ) → has_times arrival j m ≡ true → OnOne arrival i n →
+    times_at arrival drain i n ≡ times_from arrival drain i n
 unfolding times_at has_times OnOne
 row_is Unknown drain i n j m has on = absurd (let no : ⊥ = cc in no)
 row_is (AtRate rate) drain i n j m has on = rate_row rate drain i n
@@ -71,7 +74,8 @@ pub record Pieces (arrival : Arrival) (i size lead : ℕ) : Type 0 where
   pub second : OnOne arrival (i + lead) (188 - size - lead)
   pub third : OnOne arrival (i + (188 - size)) size
 
-line_pieces : (lines : ClockLines) (i size l : ℕ) → size ≤ 188 → l ≡ (if nat_le i lines.line.byte && nat_lt lines.line.byte (i + 188) then lines.line.byte + 1 - i else 0) →
+line_pieces : (lines : ClockLines) (i size l : ℕ) → size ≤ 188 →
+    l ≡ (if nat_le i lines.line.byte && nat_lt lines.line.byte (i + 188) then lines.line.byte + 1 - i else 0) →
     (0 < l → l + size ≤ 188) → Pieces (OnLines lines) i size (min l (188 - size))
 unfolding OnOne
 line_pieces lines i size l small is leads = elim (cases_lt lines.line.byte i) [
@@ -100,7 +104,8 @@ line_pieces lines i size l small is leads = elim (cases_lt lines.line.byte i) [
   ]
 ]
 
-pub pieces : (arrival : Arrival) (i size : ℕ) → size ≤ 188 → (0 < lead_of arrival i → lead_of arrival i + size ≤ 188) → Pieces arrival i size (min (lead_of arrival i) (188 - size))
+pub pieces : (arrival : Arrival) (i size : ℕ) → size ≤ 188 → (0 < lead_of arrival i → lead_of arrival i + size ≤ 188) →
+    Pieces arrival i size (min (lead_of arrival i) (188 - size))
 unfolding OnOne lead_of
 pieces Unknown i size small leads = record { first = tt; second = tt; third = tt }
 pieces (AtRate rate) i size small leads = record { first = tt; second = tt; third = tt }
@@ -161,7 +166,8 @@ Leads arrival p = 0 < lead_of arrival (188 * p.index) → lead_of arrival (188 *
 pub packet_pieces : (arrival : Arrival) (p : Arriving) → Leads arrival p → Pieces arrival (188 * p.index) (size_of p) (lead_in arrival p)
 packet_pieces arrival p leads = pieces arrival (188 * p.index) (size_of p) (omega arith) leads
 
-pub packet_arrives_by : (h : Held) (arrival : Arrival) (p : Arriving) → takes_in h arrival p ≡ true → has_times arrival (188 * p.index) 188 ≡ true → Leads arrival p →
+pub packet_arrives_by : (h : Held) (arrival : Arrival) (p : Arriving) → takes_in h arrival p ≡ true → has_times arrival (188 * p.index) 188 ≡ true →
+    Leads arrival p →
     Arrives h (after h arrival p) (times_from arrival h.rx (188 * p.index) 188)
 unfolding after
 packet_arrives_by h arrival p e has leads =
@@ -217,7 +223,8 @@ LeadsIn arrival index o = 0 < lead_of arrival (188 * index) → lead_of arrival 
 abbrev pub times_in : ℕ → ℕ → Arrival → ℕ → Option PacketView → List ℕ
 times_in pid drain arrival index o = if is_on pid o then packet_times drain index arrival else []
 
-pub one_arrives : (h : Held) (f : Followed) (b : Before) (arrival : Arrival) (o : Option PacketView) → b.index < most_packets → length (arrivals_of h.parts) ≤ 188 * b.index →
+pub one_arrives : (h : Held) (f : Followed) (b : Before) (arrival : Arrival) (o : Option PacketView) → b.index < most_packets →
+    length (arrivals_of h.parts) ≤ 188 * b.index →
     LeadsIn arrival b.index o → Arrives h (after_entering h (entering arrival (seen_in (followed_so f arrival) b o))) (times_in f.pid h.rx arrival b.index o)
 unfolding seen_in after_entering is_on size_in
 one_arrives h f b arrival None early few leads = none_arrives h
@@ -243,7 +250,8 @@ unfolding after_entering
 entering-append h [] ys = refl
 entering-append h (x ∷ xs) ys = entering-append (after h x.arrival x.packet) xs ys
 
-pub leads_in : (arrival : Arrival) (index : ℕ) (bytes : List ℕ) → (0 < lead_of arrival (188 * index) → lead_of arrival (188 * index) + payload_in (packet_at bytes) ≤ 188) →
+pub leads_in : (arrival : Arrival) (index : ℕ) (bytes : List ℕ) →
+    (0 < lead_of arrival (188 * index) → lead_of arrival (188 * index) + payload_in (packet_at bytes) ≤ 188) →
     LeadsIn arrival index (sound_packet (packet_at bytes))
 leads_in arrival index bytes leads some = omega (arith, leads some, sound_size (packet_at bytes))
 

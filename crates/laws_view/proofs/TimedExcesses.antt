@@ -1,5 +1,6 @@
 -- The excesses of a transport buffer that end with each packet, and the units, whichever way the packets arrive.
-use Rattle.std.proofs.Common.{◌≡◌, ◌∙◌, sym, ℕ, suc, ◌+◌, ◌-◌, ◌*◌, ◌≤◌, ◌<◌, Bool, true, false, List, [], ◌∷◌, ◌++◌, length, Option, Some, None, if◌then◌else◌, refl, ap, subst, nat_eq, arith}
+use Rattle.std.proofs.Common.{◌≡◌, ◌∙◌, sym, ℕ, suc, ◌+◌, ◌-◌, ◌*◌, ◌≤◌, ◌<◌, Bool, true, false, List, [], ◌∷◌, ◌++◌, length, Option, Some, None, if◌then◌else◌}
+use Rattle.std.proofs.Common.{refl, ap, subst, nat_eq, arith}
 use Rattle.std.specs.Prelude.{flat_map}
 use Rattle.std.specs.Option.{option_to_list}
 use Rattle.std.proofs.lemmas.List.{append_assoc, append-nil, length-append}
@@ -23,7 +24,8 @@ use Rattle.laws_view.specs.TimedStreams.{Entering, after_entering, followed_so, 
 use Rattle.laws_view.proofs.EnteredBytes.{Arrives, after_alike, begin_arrives}
 use Rattle.laws_view.proofs.Excesses.{ended_two, none_ended, payload_told}
 use Rattle.laws_view.proofs.StreamIndices.{index_more}
-use Rattle.laws_view.proofs.TimedBytes.{Leads, LeadsIn, OnOne, Pieces, bytes_arrive_by, leads_in, many_times, one_arrives, packet_pieces, row_is, size_in, taken_by, three_times, times_in, times_short}
+use Rattle.laws_view.proofs.TimedBytes.{Leads, LeadsIn, OnOne, Pieces, bytes_arrive_by, leads_in, many_times, one_arrives, packet_pieces, row_is, size_in}
+use Rattle.laws_view.proofs.TimedBytes.{taken_by, three_times, times_in, times_short}
 use Rattle.laws_view.proofs.Units.{packet_units}
 
 -- ---- excesses
@@ -54,10 +56,12 @@ parts_told_by h arrival p size lead le has three =
     bytes_told_by a arrival h.rx (i + lead) (188 - size - lead) i 188 first.alike.rx has three.second in
     let told_three : bytes_transport c arrival (i + (188 - size)) size ≡ transport_ended c threes =
     bytes_told_by c arrival h.rx (i + (188 - size)) size i 188 (third.alike.rx ∙ second.alike.rx ∙ first.alike.rx) has three.third in
-    let last : transport_ended b ([] ++ threes) ≡ transport_ended c threes = ended_two b c [] threes third ∙ ap (λ (l : List Excess). l ++ transport_ended c threes) (none_ended b) in
+    let last : transport_ended b ([] ++ threes) ≡ transport_ended c threes =
+    ended_two b c [] threes third ∙ ap (λ (l : List Excess). l ++ transport_ended c threes) (none_ended b) in
     let all : transport_ended h (ones ++ (twos ++ ([] ++ threes))) ≡ transport_ended h ones ++ (transport_ended a twos ++ transport_ended c threes) =
     ended_two h a ones (twos ++ ([] ++ threes)) first
-    ∙ ap (λ (l : List Excess). transport_ended h ones ++ l) (ended_two a b twos ([] ++ threes) second ∙ ap (λ (l : List Excess). transport_ended a twos ++ l) last) in
+    ∙ ap (λ (l : List Excess). transport_ended h ones ++ l)
+    (ended_two a b twos ([] ++ threes) second ∙ ap (λ (l : List Excess). transport_ended a twos ++ l) last) in
     let whole : transport_ended h (ones ++ (twos ++ ([] ++ threes))) ≡ transport_ended h (times_from arrival h.rx i 188) =
     ap (λ (ts : List ℕ). transport_ended h ts) (three_times arrival h.rx i lead size le) in
     rw (told_one, told_two, told_three) (sym all ∙ whole)
@@ -79,21 +83,25 @@ told_or_none h arrival p early few leads = by (has_times arrival (188 * p.index)
     taken : takes_in h arrival p ≡ has_times arrival (188 * p.index) 188
     taken = taken_by h arrival p early few
 
-    by : (b : Bool) → has_times arrival (188 * p.index) 188 ≡ b → (entered h arrival p).transport ≡ transport_ended h (if b then times_from arrival h.rx (188 * p.index) 188 else [])
+    by : (b : Bool) → has_times arrival (188 * p.index) 188 ≡ b →
+        (entered h arrival p).transport ≡ transport_ended h (if b then times_from arrival h.rx (188 * p.index) 188 else [])
     by true e = packet_told_by h arrival p (taken ∙ e) e leads
     by false e = untaken_told h arrival p (taken ∙ e) ∙ sym (none_ended h)
 
 abbrev pub told_of : List EnteredView → List Excess
 told_of vs = flat_map (λ v. v.transport) vs
 
-one_told : (h : Held) (f : Followed) (b : Before) (arrival : Arrival) (o : Option PacketView) → b.index < most_packets → length (arrivals_of h.parts) ≤ 188 * b.index →
-    LeadsIn arrival b.index o → told_of (entered_by h (entering arrival (seen_in (followed_so f arrival) b o))) ≡ transport_ended h (times_in f.pid h.rx arrival b.index o)
+one_told : (h : Held) (f : Followed) (b : Before) (arrival : Arrival) (o : Option PacketView) → b.index < most_packets →
+    length (arrivals_of h.parts) ≤ 188 * b.index →
+    LeadsIn arrival b.index o →
+    told_of (entered_by h (entering arrival (seen_in (followed_so f arrival) b o))) ≡ transport_ended h (times_in f.pid h.rx arrival b.index o)
 unfolding seen_in entered_by is_on size_in
 one_told h f b arrival None early few leads = sym (none_ended h)
 one_told h f b arrival (Some packet) early few leads = by (nat_eq f.pid packet.header.pid) refl
   where
     by : (w : Bool) → nat_eq f.pid packet.header.pid ≡ w →
-        told_of (entered_by h (entering arrival (seen_in (followed_so f arrival) b (Some packet)))) ≡ transport_ended h (times_in f.pid h.rx arrival b.index (Some packet))
+        told_of (entered_by h (entering arrival (seen_in (followed_so f arrival) b (Some packet)))) ≡ transport_ended h
+        (times_in f.pid h.rx arrival b.index (Some packet))
     by true e = rw e (append-nil _ ∙ told_or_none h arrival _ early few (λ some. omega (arith, leads some)))
     by false e = rw e (sym (none_ended h))
 
@@ -119,7 +127,14 @@ each_told_by h f b (p ∷ packets) leads early few =
     let one : Arrives h h' here = one_arrives h f b p.arrival o (omega (arith, early)) few lead in
     let index : b'.index ≡ b.index + 1 = index_more f' b o in
     let more : length (arrivals_of h'.parts) ≤ 188 * b'.index =
-    omega (arith, few, index, ap (λ (l : List ℕ). length l) one.arrivals, length-append (arrivals_of h.parts) here, times_short f.pid h.rx p.arrival b.index o) in
+    omega (
+      arith,
+      few,
+      index,
+      ap (λ (l : List ℕ). length l) one.arrivals,
+      length-append (arrivals_of h.parts) here,
+      times_short f.pid h.rx p.arrival b.index o,
+    ) in
     let rest : told_of (entered_by h' (entering_among f' b' packets)) ≡ transport_ended h' (times_among (on_pid f.pid) h'.rx b'.index packets) =
     each_told_by h' f' b' packets (subst (λ (i : ℕ). AllLead i packets) (sym index) leads.1) (omega (arith, early, index)) more in
     let same : times_among (on_pid f.pid) h'.rx b'.index packets ≡ later =

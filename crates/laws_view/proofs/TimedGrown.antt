@@ -17,17 +17,20 @@ use Rattle.laws_view.specs.TimedStreams.{Entering, after_entering, followed_so, 
 use Rattle.laws_view.proofs.Lists.{some_is}
 use Rattle.laws_view.proofs.Units.{late_more, late_with, units_more, units_with}
 use Rattle.laws_view.proofs.Entries.{Agree, BeginsWith}
-use Rattle.laws_view.proofs.Steps.{Begins, Steps, after_sound, excesses_more, finished_steps, followed, known, next, packet_is, sound_agrees, sound_before, sound_packets, sound_steps}
+use Rattle.laws_view.proofs.Steps.{Begins, Steps, after_sound, excesses_more, finished_steps, followed, known, next, packet_is, sound_agrees, sound_before}
+use Rattle.laws_view.proofs.Steps.{sound_packets, sound_steps}
 
 -- ---- packets that arrive so, and then others
 
-each_then : (h : Held) (arrival : Arrival) (ps : List Arriving) (xs : List Entering) → after_entering h (entering arrival ps ++ xs) ≡ after_entering (after_each h arrival ps) xs
+each_then : (h : Held) (arrival : Arrival) (ps : List Arriving) (xs : List Entering) →
+    after_entering h (entering arrival ps ++ xs) ≡ after_entering (after_each h arrival ps) xs
 unfolding after_entering after_each
 each_then h arrival [] xs = refl
 each_then h arrival (p ∷ ps) xs = each_then (after h arrival p) arrival ps xs
 
 excesses_then : (h : Held) (n : ℕ) (arrival : Arrival) (ps : List Arriving) (xs : List Entering) →
-    excesses_more n (entered_by h (entering arrival ps ++ xs)) ≡ excesses_more (excesses_more n (entered_each h arrival ps)) (entered_by (after_each h arrival ps) xs)
+    excesses_more n (entered_by h (entering arrival ps ++ xs)) ≡ excesses_more (excesses_more n (entered_each h arrival ps))
+    (entered_by (after_each h arrival ps) xs)
 unfolding entered_by entered_each after_each excesses_more
 excesses_then h n arrival [] xs = refl
 excesses_then h n arrival (p ∷ ps) xs = excesses_then (after h arrival p) (more n (length (entered h arrival p).transport)) arrival ps xs
@@ -106,7 +109,8 @@ none_more_by f b e = record {
 abbrev pub GrownTo : ViewState → List Timed → ℕ → EntryState → Followed → Before → List Timed → Type 0
 GrownTo s' later j e f b packets = (e' : EntryState) × ((slice_get (view_by s' later).table.entries j ≡ Some e') × GrownBy f b packets e e')
 
-pub grown_by : (s : ViewState) (packets : List Timed) (j : ℕ) (e : EntryState) → Agree s.table → s.seen.packets + length packets < 2 ^ 64 → slice_get s.table.entries j ≡ Some e →
+pub grown_by : (s : ViewState) (packets : List Timed) (j : ℕ) (e : EntryState) → Agree s.table → s.seen.packets + length packets < 2 ^ 64 →
+    slice_get s.table.entries j ≡ Some e →
     GrownTo s packets j e (followed s e) (known s e) packets
 unfolding view_by
 grown_by s [] j e agree few there = (e, (there, none_more_by (followed s e) (known s e) e))
@@ -143,9 +147,12 @@ came_after_by s p packets e' b = record {
   packet = b.packet;
   sound = b.sound;
   first = b.first;
-  begins = subst (λ (x : ViewState). BeginsWith (ready (view_by x b.before) b.p.arrival).seen.options (view_by x b.before).seen.named (view_by x b.before).table b.packet b.first)
+  begins = subst
+      (λ (x : ViewState). BeginsWith (ready (view_by x b.before) b.p.arrival).seen.options (view_by x b.before).seen.named (view_by x b.before).table b.packet
+      b.first)
       (sym (came_is s p)) b.begins;
-  grown = subst (λ (x : ViewState). GrownBy (followed (view_by x b.before) b.first) (known (view_by x b.before) b.first) (b.p ∷ b.later) b.first e') (sym (came_is s p)) b.grown;
+  grown = subst (λ (x : ViewState). GrownBy (followed (view_by x b.before) b.first) (known (view_by x b.before) b.first) (b.p ∷ b.later) b.first e')
+      (sym (came_is s p)) b.grown;
 }
 
 came_now_by : (s : ViewState) (p : Timed) (packets : List Timed) (j : ℕ) (e1 e' : EntryState) → Agree s.table → s.seen.packets + length (p ∷ packets) < 2 ^ 64 →

@@ -1,5 +1,6 @@
 -- The packets of a stream from one of them on: their bytes arrive in order where those of all packets do.
-use Rattle.std.proofs.Common.{◌≡◌, ◌∙◌, ℕ, ◌+◌, ◌*◌, ◌≤◌, ◌&&◌, nat_le, Bool, true, false, List, [], ◌∷◌, ◌++◌, length, if◌then◌else◌, refl, ap, subst, arith, All}
+use Rattle.std.proofs.Common.{◌≡◌, ◌∙◌, ℕ, ◌+◌, ◌*◌, ◌≤◌, ◌&&◌, nat_le, Bool, true, false, List, [], ◌∷◌, ◌++◌, length, if◌then◌else◌, refl, ap, subst, arith}
+use Rattle.std.proofs.Common.{All}
 use Rattle.std.proofs.lemmas.Bool.{le-leb, lt-leb}
 use Rattle.std.proofs.Math.Nat.{mul-le-mul_right}
 use Rattle.std.proofs.lemmas.List.Elements.{All-cons, All-head, All-nil, All-tail}
@@ -31,7 +32,8 @@ all_chosen low chosen drain index [] le = refl
 all_chosen low chosen drain index (p ∷ packets) le =
     let after : nat_le low index ≡ true = le-leb low index le in
     rw after
-    (ap (λ (ts : List ℕ). (if chosen index p.bytes then packet_times drain index p.arrival else []) ++ ts) (all_chosen low chosen drain (index + 1) packets (omega (arith, le))))
+    (ap (λ (ts : List ℕ). (if chosen index p.bytes then packet_times drain index p.arrival else []) ++ ts)
+    (all_chosen low chosen drain (index + 1) packets (omega (arith, le))))
 
 pub later_rise : (chosen : ℕ → List ℕ → Bool) (drain : ℕ) (before rest : List Timed) →
     ((chosen : ℕ → List ℕ → Bool) (drain : ℕ) → Rises 0 (times_among chosen drain 0 (before ++ rest))) → Rises 0 (times_among chosen drain (length before) rest)
@@ -39,9 +41,11 @@ later_rise chosen drain before rest rises =
     let low : ℕ = length before in
     let first : times_among (from low chosen) drain 0 before ≡ [] = none_chosen low chosen drain 0 before (omega arith) in
     let second : times_among (from low chosen) drain (0 + length before) rest ≡ times_among chosen drain low rest =
-    all_chosen low chosen drain (0 + length before) rest (omega arith) ∙ ap (λ (i : ℕ). times_among chosen drain i rest) (let e : 0 + length before ≡ low = omega arith in e) in
+    all_chosen low chosen drain (0 + length before) rest (omega arith)
+    ∙ ap (λ (i : ℕ). times_among chosen drain i rest) (let e : 0 + length before ≡ low = omega arith in e) in
     let all : times_among (from low chosen) drain 0 (before ++ rest) ≡ times_among chosen drain low rest =
-    among-append (from low chosen) drain 0 before rest ∙ ap (λ (ts : List ℕ). ts ++ times_among (from low chosen) drain (0 + length before) rest) first ∙ second in
+    among-append (from low chosen) drain 0 before rest ∙ ap (λ (ts : List ℕ). ts ++ times_among (from low chosen) drain (0 + length before) rest) first
+    ∙ second in
     subst (λ (ts : List ℕ). Rises 0 ts) all (rises (from low chosen) drain)
 
 pub later_leads : (index : ℕ) (before rest : List Timed) → AllLead index (before ++ rest) → AllLead (index + length before) rest
@@ -57,7 +61,8 @@ that_one P (q ∷ before) p later all = that_one P before p later (All-tail P q 
 
 -- ---- at a constant rate
 
-rate_rises : (rate : ℕ) (packets : List (List ℕ)) (chosen : ℕ → List ℕ → Bool) (drain : ℕ) → Rises 0 (times_among chosen drain 0 (arriving_so (AtRate rate) packets))
+rate_rises : (rate : ℕ) (packets : List (List ℕ)) (chosen : ℕ → List ℕ → Bool) (drain : ℕ) →
+    Rises 0 (times_among chosen drain 0 (arriving_so (AtRate rate) packets))
 unfolding time_of
 rate_rises rate packets chosen drain =
     let all = packets_between (AtRate rate) chosen drain 0 packets (λ i j le. mul-le-mul_right drain le) in

@@ -1,5 +1,6 @@
 -- The last lines of a stream are about all packets of its PID, whichever way they arrive.
-use Rattle.std.proofs.Common.{◌≡◌, ◌∙◌, sym, ℕ, ◌+◌, ◌-◌, ◌*◌, ◌^◌, ◌≤◌, ◌<◌, Bool, List, [], ◌∷◌, ◌++◌, length, Option, Some, None, refl, ap, subst, inl, inr, arith, All}
+use Rattle.std.proofs.Common.{◌≡◌, ◌∙◌, sym, ℕ, ◌+◌, ◌-◌, ◌*◌, ◌^◌, ◌≤◌, ◌<◌, Bool, List, [], ◌∷◌, ◌++◌, length, Option, Some, None, refl, ap, subst, inl, inr}
+use Rattle.std.proofs.Common.{arith, All}
 use Rattle.std.specs.Prelude.{count_by, flat_map, slice_get}
 use Rattle.std.specs.Option.{option_to_list}
 use Rattle.std.proofs.lemmas.List.{length-append}
@@ -32,7 +33,8 @@ use Rattle.es_view.specs.Tallies.{is_late}
 use Rattle.ts_report.specs.Views.{ViewState, start}
 use Rattle.laws_view.specs.StreamPackets.{Before, Followed, known_after, most_packets, sound_packet}
 use Rattle.laws_view.specs.StreamUnits.{all_units, units_ended}
-use Rattle.laws_view.specs.TimedStreams.{Entering, InOrder, IsWholeBy, TimedStreamLaw, after_entering, followed_so, entered_by, entering_among, followed_by, known_at_first, known_by, on_pid, pid_times, stream_entering, view_by}
+use Rattle.laws_view.specs.TimedStreams.{Entering, InOrder, IsWholeBy, TimedStreamLaw, after_entering, followed_so, entered_by, entering_among, followed_by}
+use Rattle.laws_view.specs.TimedStreams.{known_at_first, known_by, on_pid, pid_times, stream_entering, view_by}
 use Rattle.laws_view.specs.WholeStreams.{nothing_known}
 use Rattle.laws_view.specs.WholeStreams as whole
 use Rattle.laws_view.proofs.EnteredBytes.{Arrives}
@@ -115,7 +117,8 @@ figures_by step rx size f b packets times some leads few same rises =
     let both = figures_law step h'.parts some (subst (λ (l : List ℕ). Rises 0 l) (sym arrive) rises) in
     let ended : told_of (entered_by h xs) ≡ excesses_ended step tb_size 0 None times =
     each_told_by h f b packets leads few (omega arith) ∙ ap (λ (l : List ℕ). excesses_ended step tb_size 0 None l) same in
-    let short : length times ≤ 188 * length packets = subst (λ (l : List ℕ). length l ≤ 188 * length packets) same (among_short (on_pid f.pid) rx b.index packets) in
+    let short : length times ≤ 188 * length packets =
+    subst (λ (l : List ℕ). length l ≤ 188 * length packets) same (among_short (on_pid f.pid) rx b.index packets) in
     let many : length (told_of (entered_by h xs)) ≤ length times = subst (λ (es : List Excess). length es ≤ length times) (sym ended) (few_told h times) in
     let number = excesses_exact 0 (entered_by h xs) (omega (arith, many, short, few)) in
     record {
@@ -123,7 +126,8 @@ figures_by step rx size f b packets times some leads few same rises =
       arrived = arrive;
       transport = subst (λ (r : ℕ). IsPeak (λ x. fullness x times (departures step 0 times)) (transport_of r h'.parts).most) (sym rate)
           (subst (λ (l : List ℕ). IsPeak (λ x. fullness x l (departures step 0 l)) (transport_of step h'.parts).most) arrive both.0);
-      main = subst (λ (r : ℕ). IsPeak (main_fullness step h'.parts) (main_most (record { rate = r; rx = h'.rx; parts = h'.parts; main = h'.main }))) (sym rate) both.1;
+      main = subst (λ (r : ℕ). IsPeak (main_fullness step h'.parts) (main_most (record { rate = r; rx = h'.rx; parts = h'.parts; main = h'.main }))) (sym rate)
+          both.1;
       ended = ended;
       under_way = ap (λ (r : ℕ). excess_after r tb_size 0 None (arrivals_of h'.parts)) rate ∙ ap (λ (l : List ℕ). excess_after step tb_size 0 None l) arrive;
       number = omega (arith, number, ap (λ (es : List Excess). length es) ended);
@@ -151,7 +155,8 @@ units_by step rx size e xs held few units_are late_are =
     sym (ap (λ (g : Held). units_ended step g.parts) held ∙ each_units_by step h xs refl ∙ none_before step (flat_map (λ v. option_to_list v.unit) vs)) in
     let few_of : length vs ≤ most_packets = omega (arith, few, many_entered_by h xs) in
     let lengths_are : length (flat_map (λ v. option_to_list v.unit) vs) ≡ length (units_ended step e.held.parts) = ap (λ (l : List UnitSeen). length l) told in
-    let counts_are : count_by is_late (flat_map (λ v. option_to_list v.unit) vs) ≡ count_by is_late (units_ended step e.held.parts) = ap (λ (l : List UnitSeen). count_by is_late l) told in
+    let counts_are : count_by is_late (flat_map (λ v. option_to_list v.unit) vs) ≡ count_by is_late (units_ended step e.held.parts) =
+    ap (λ (l : List UnitSeen). count_by is_late l) told in
     let units_exactly = units_exact 0 vs (omega (arith, few_of)) in
     let late_exactly = late_exact 0 vs (omega (arith, few_of)) in
     let many_units : e.tally.units ≡ length (units_ended step e.held.parts) = omega (arith, units_are, units_exactly, lengths_are) in
@@ -198,14 +203,16 @@ assemble_by request step packets e some order few b =
     ap (λ (x : Followed). entering_among x (known s first) rest) f_is ∙ ap (λ (x : Before). entering_among f x rest) k_is in
     let rx_is : e.held.rx ≡ buffers.rx = b.grown.rx ∙ ap (λ (x : EntryState). x.held.rx) new in
     let size_is : e.held.main.size ≡ buffers.main = b.grown.size ∙ ap (λ (x : EntryState). x.held.main.size) new in
-    let step_is : step_of b.p.arrival ≡ step = that_one (λ p. step_of p.arrival ≡ step) b.before b.p b.later (subst (λ (l : List Timed). All (λ p. step_of p.arrival ≡ step) l) b.split order.same) in
+    let step_is : step_of b.p.arrival ≡ step =
+    that_one (λ p. step_of p.arrival ≡ step) b.before b.p b.later (subst (λ (l : List Timed). All (λ p. step_of p.arrival ≡ step) l) b.split order.same) in
     let h : Held = empty step e.held.rx e.held.main.size in
     let empty_is : first.held ≡ h = ap (λ (x : EntryState). x.held) new ∙ rw (step_is, rx_is, size_is) refl in
     let vs : List EnteredView = entered_by h xs in
     let entered_is : entered_by first.held (entering_among (followed s first) (known s first) rest) ≡ vs =
     ap (λ (x : Held). entered_by x (entering_among (followed s first) (known s first) rest)) empty_is ∙ ap (λ (l : List Entering). entered_by h l) same in
     let held : e.held ≡ after_entering h xs =
-    b.grown.held ∙ ap (λ (x : Held). after_entering x (entering_among (followed s first) (known s first) rest)) empty_is ∙ ap (λ (l : List Entering). after_entering h l) same in
+    b.grown.held ∙ ap (λ (x : Held). after_entering x (entering_among (followed s first) (known s first) rest)) empty_is
+    ∙ ap (λ (l : List Entering). after_entering h l) same in
     let index : k.index ≡ length b.before = omega (arith, index_by f0 nothing_known b.before) in
     let times : List ℕ = pid_times e.pid e.held.rx (length b.before) rest in
     let times_are : times_among (on_pid f.pid) e.held.rx k.index rest ≡ times =
@@ -214,7 +221,8 @@ assemble_by request step packets e some order few b =
     (subst (λ (l : List Timed). (chosen : ℕ → List ℕ → Bool) (drain : ℕ) → Rises 0 (times_among chosen drain 0 l)) b.split order.rises) in
     let leads : AllLead (0 + length b.before) rest = later_leads 0 b.before rest (subst (λ (l : List Timed). AllLead 0 l) b.split order.leads) in
     let there : AllLead k.index rest = subst (λ (i : ℕ). AllLead i rest) (let place : 0 + length b.before ≡ k.index = omega (arith, index) in place) leads in
-    let fig : FiguresBy step h f xs times = figures_by step e.held.rx e.held.main.size f k rest times some there (omega (arith, few, lengths, index)) times_are rises in
+    let fig : FiguresBy step h f xs times =
+    figures_by step e.held.rx e.held.main.size f k rest times some there (omega (arith, few, lengths, index)) times_are rises in
     let arrived : arrivals_of e.held.parts ≡ times = ap (λ (g : Held). arrivals_of g.parts) held ∙ fig.arrived in
     let ended : List Excess = excesses_ended step tb_size 0 None times in
     let under : transport_under_way e.held ≡ excess_after step tb_size 0 None times = ap (λ (g : Held). transport_under_way g) held ∙ fig.under_way in
@@ -231,7 +239,8 @@ assemble_by request step packets e some order few b =
     b.grown.late ∙ ap (λ (n : ℕ). late_more n (entered_by first.held (entering_among (followed s first) (known s first) rest))) zero_late
     ∙ ap (λ (l : List EnteredView). late_more 0 l) entered_is in
     let units = units_by step e.held.rx e.held.main.size e xs held (omega (arith, few_entering f k rest, lengths, few)) units_are late_are in
-    let all_of : ended ++ option_to_list (transport_under_way e.held) ≡ excesses step tb_size times = ap (λ (o : Option Excess). ended ++ option_to_list o) under in
+    let all_of : ended ++ option_to_list (transport_under_way e.held) ≡ excesses step tb_size times =
+    ap (λ (o : Option Excess). ended ++ option_to_list o) under in
     record {
       begun = record {
         before = b.before;
@@ -253,7 +262,8 @@ assemble_by request step packets e some order few b =
       lines = record {
         transport = subst (λ (g : Held). IsPeak (λ x. fullness x times (departures step 0 times)) (transport_most g)) (sym held) fig.transport;
         told = ap (λ (l : List Excess). l ++ option_to_list (transport_under_way e.held)) fig.ended ∙ all_of;
-        excesses = λ window. one_counted (closed window e).excesses ended (transport_under_way e.held) (unit_excesses e.tally window (unit_before e.held) ∙ number) ∙ ap (λ (l : List Excess). length l) all_of;
+        excesses = λ window. one_counted (closed window e).excesses ended (transport_under_way e.held)
+            (unit_excesses e.tally window (unit_before e.held) ∙ number) ∙ ap (λ (l : List Excess). length l) all_of;
         main = subst (λ (g : Held). IsPeak (main_fullness step g.parts) (main_most g)) (sym held) fig.main;
         told_units = units.told;
         units = units.units;

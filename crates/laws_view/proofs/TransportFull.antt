@@ -20,7 +20,8 @@ most_found-append step prev [] us = omega arith
 most_found-append step prev (t ∷ ts) us = omega (arith, most_found-append step (max t prev + step) ts us)
 
 fullness_joined : (x step prev : ℕ) (ts us : List ℕ) →
-    fullness x (ts ++ us) (departures step prev (ts ++ us)) ≡ fullness x ts (departures step prev ts) + fullness x us (departures step (last_left step prev ts) us)
+    fullness x (ts ++ us) (departures step prev (ts ++ us)) ≡ fullness x ts (departures step prev ts)
+    + fullness x us (departures step (last_left step prev ts) us)
 unfolding fullness departures last_left
 fullness_joined x step prev [] us = omega arith
 fullness_joined x step prev (t ∷ ts) us = omega (arith, fullness_joined x step (max t prev + step) ts us)

@@ -1,5 +1,6 @@
 -- The greatest that a line `held` says of a transport buffer is its greatest fullness from the first byte of the window's packets on.
-use Rattle.std.proofs.Common.{◌≡◌, ◌∙◌, sym, ℕ, ◌+◌, ◌-◌, ◌*◌, ◌<◌, max, Bool, true, false, List, [], ◌∷◌, ◌++◌, length, map, Option, Some, None, if◌then◌else◌, refl, ap, ap₂, subst, inl, inr, arith, append_assoc}
+use Rattle.std.proofs.Common.{◌≡◌, ◌∙◌, sym, ℕ, ◌+◌, ◌-◌, ◌*◌, ◌<◌, max, Bool, true, false, List, [], ◌∷◌, ◌++◌, length, map, Option, Some, None, if◌then◌else◌}
+use Rattle.std.proofs.Common.{refl, ap, ap₂, subst, inl, inr, arith, append_assoc}
 use Rattle.std.specs.Prelude.{◌==◌}
 use Rattle.std.proofs.lemmas.Bool.Decides.{eqb_tells}
 use Rattle.std.proofs.lemmas.List.{append-nil}
@@ -13,7 +14,8 @@ use Rattle.tstd_rows.specs.History.{Part, arrivals_of, last_of}
 use Rattle.tstd_rows.specs.declared.unit_seen.DueTime.{DueTime}
 use Rattle.tstd_rows.specs.declared.unit_seen.UnitSeen.{UnitSeen}
 use Rattle.tstd_rows.specs.Held.{Held, carried, passed, transport_found, transport_most}
-use Rattle.tstd_rows.specs.Entering.{EnteredView, after, after_begin, after_header, after_lead, after_payload, after_unit, ended_with, entered, lead_in, nothing, payload_transport_most, size_of, takes_in, with_packet}
+use Rattle.tstd_rows.specs.Entering.{EnteredView, after, after_begin, after_header, after_lead, after_payload, after_unit, ended_with, entered, lead_in}
+use Rattle.tstd_rows.specs.Entering.{nothing, payload_transport_most, size_of, takes_in, with_packet}
 use Rattle.tstd_rows.specs.declared.arriving.Arriving.{Arriving}
 use Rattle.es_view.specs.Tallies.{tally_after}
 use Rattle.es_view.specs.Tallies.{in_window, with_excesses, with_packet as with_tallied, with_unit_if}
@@ -98,7 +100,8 @@ packet_arrives h arrival p = by (takes_in h arrival p)
     by true = parts_arrive h arrival p (size_of p) (lead_in arrival p)
     by false = nothing_arrives h
 
-pub each_arrives : (h h' : Held) (most : ℕ) (xs : List Entering) → Arrives h h' most → Arrives h (after_entering h' xs) (transport_after most (entered_by h' xs))
+pub each_arrives : (h h' : Held) (most : ℕ) (xs : List Entering) → Arrives h h' most →
+    Arrives h (after_entering h' xs) (transport_after most (entered_by h' xs))
 unfolding after_entering entered_by transport_after
 each_arrives h h' most [] come = come
 each_arrives h h' most (x ∷ xs) come =
@@ -195,4 +198,5 @@ says_full t t' window h xs c other told pos rises some =
 
 pub timed_transport_law : TimedTransportLaw
 timed_transport_law request before packets window place e e' w told pos rises some =
-    says_full e.tally e'.tally window e.held (window_entering request before e packets) (window_counted request before packets window place e e' w) w.other told pos rises some
+    says_full e.tally e'.tally window e.held (window_entering request before e packets) (window_counted request before packets window place e e' w) w.other told
+    pos rises some

@@ -1,5 +1,6 @@
 -- The units that end with each packet, all together.
-use Rattle.std.proofs.Common.{◌≡◌, ◌∙◌, sym, ℕ, ◌+◌, ◌-◌, ◌*◌, ◌^◌, ◌≤◌, ◌<◌, cond, Bool, true, false, List, [], ◌∷◌, ◌++◌, length, Option, Some, None, if◌then◌else◌, refl, ap, inl, inr, arith}
+use Rattle.std.proofs.Common.{◌≡◌, ◌∙◌, sym, ℕ, ◌+◌, ◌-◌, ◌*◌, ◌^◌, ◌≤◌, ◌<◌, cond, Bool, true, false, List, [], ◌∷◌, ◌++◌, length, Option, Some, None}
+use Rattle.std.proofs.Common.{if◌then◌else◌, refl, ap, inl, inr, arith}
 use Rattle.std.specs.Prelude.{count_by, flat_map}
 use Rattle.std.specs.Option.{option_to_list}
 use Rattle.std.proofs.lemmas.Bool.Decides.{eqb_tells}
@@ -12,18 +13,21 @@ use Rattle.tstd_rows.specs.declared.unit_seen.DueTime.{DueTime}
 use Rattle.tstd_rows.specs.declared.unit_seen.UnitSeen.{UnitSeen}
 use Rattle.tstd_rows.specs.declared.arriving.Arriving.{Arriving}
 use Rattle.tstd_rows.specs.Held.{Held, carried, passed}
-use Rattle.tstd_rows.specs.Entering.{EnteredView, after, after_begin, after_header, after_lead, after_payload, after_unit, ended_with, entered, lead_in, nothing, size_of, takes_in, unit_ended, with_packet}
+use Rattle.tstd_rows.specs.Entering.{EnteredView, after, after_begin, after_header, after_lead, after_payload, after_unit, ended_with, entered, lead_in}
+use Rattle.tstd_rows.specs.Entering.{nothing, size_of, takes_in, unit_ended, with_packet}
 use Rattle.es_view.specs.Tallies.{is_late, more}
 use Rattle.laws_view.specs.StreamUnits.{units_ended}
 use Rattle.laws_view.proofs.EnteredBytes.{Alike, payload_alike}
 
 -- bytes end no unit
-goes_units : (step : ℕ) (h : Held) (enters : Bool) (times : List ℕ) → units_ended step (if enters then carried h times else passed h times).parts ≡ units_ended step h.parts
+goes_units : (step : ℕ) (h : Held) (enters : Bool) (times : List ℕ) →
+    units_ended step (if enters then carried h times else passed h times).parts ≡ units_ended step h.parts
 unfolding units_ended
 goes_units step h true times = refl
 goes_units step h false times = refl
 
-payload_units : (step : ℕ) (h : Held) (enters : Bool) (n : ℕ) (times : List ℕ) → units_ended step (after_payload h enters n times).parts ≡ units_ended step h.parts
+payload_units : (step : ℕ) (h : Held) (enters : Bool) (n : ℕ) (times : List ℕ) →
+    units_ended step (after_payload h enters n times).parts ≡ units_ended step h.parts
 unfolding after_payload
 payload_units step h enters n times = elim (eqb_tells n 0) [
   | inl none ↦ rw none.0 refl
@@ -31,7 +35,8 @@ payload_units step h enters n times = elim (eqb_tells n 0) [
 ]
 
 -- the begin of one ends the one before
-begin_units : (step : ℕ) (h : Held) (due : Option DueTime) → h.rate ≡ step → units_ended step (after_begin h due).parts ≡ units_ended step h.parts ++ option_to_list (unit_ended h due)
+begin_units : (step : ℕ) (h : Held) (due : Option DueTime) → h.rate ≡ step → units_ended step (after_begin h due).parts ≡ units_ended step h.parts
+    ++ option_to_list (unit_ended h due)
 unfolding after_begin units_ended unit_ended
 begin_units step h None e = sym (append-nil (units_ended step h.parts))
 begin_units step h (Some due) e = ap (λ (r : ℕ). units_ended step h.parts ++ option_to_list (unit_of r h.parts)) (sym e)
@@ -108,19 +113,22 @@ count_two [] ys = omega arith
 count_two (x ∷ xs) ys =
     rw (sum_by-cons (λ u. cond (is_late u) 1 0) x (xs ++ ys), sum_by-cons (λ u. cond (is_late u) 1 0) x xs) (omega (arith, count_two xs ys))
 
-late_counted : (n : ℕ) (o : Option UnitSeen) → n < 2 ^ 64 - 1 → (late_with n o ≡ n + count_by is_late (option_to_list o)) × (count_by is_late (option_to_list o) ≤ 1)
+late_counted : (n : ℕ) (o : Option UnitSeen) → n < 2 ^ 64 - 1 →
+    (late_with n o ≡ n + count_by is_late (option_to_list o)) × (count_by is_late (option_to_list o) ≤ 1)
 unfolding late_with
 late_counted n None few = (omega arith, omega arith)
 late_counted n (Some u) few =
     let one = sum_by-cons (λ v. cond (is_late v) 1 0) u [] in
     by (is_late u) one
   where
-    by : (b : Bool) → count_by is_late (u ∷ []) ≡ cond b 1 0 + count_by is_late [] → (more n (if b then 1 else 0) ≡ n + count_by is_late (u ∷ [])) × (count_by is_late (u ∷ []) ≤ 1)
+    by : (b : Bool) → count_by is_late (u ∷ []) ≡ cond b 1 0 + count_by is_late [] →
+        (more n (if b then 1 else 0) ≡ n + count_by is_late (u ∷ [])) × (count_by is_late (u ∷ []) ≤ 1)
     by true one = (omega (arith, few, one), omega (arith, one))
     by false one = (omega (arith, few, one), omega (arith, one))
 
 pub late_exact : (n : ℕ) (vs : List EnteredView) → n + length vs < 2 ^ 64 - 1 →
-    (late_more n vs ≡ n + count_by is_late (flat_map (λ v. option_to_list v.unit) vs)) × (count_by is_late (flat_map (λ v. option_to_list v.unit) vs) ≤ length vs)
+    (late_more n vs ≡ n + count_by is_late (flat_map (λ v. option_to_list v.unit) vs)) ×
+    (count_by is_late (flat_map (λ v. option_to_list v.unit) vs) ≤ length vs)
 unfolding late_more
 late_exact n [] few = (omega arith, omega arith)
 late_exact n (v ∷ vs) few =
@@ -130,7 +138,8 @@ late_exact n (v ∷ vs) few =
     let two = count_two (option_to_list v.unit) all in
     (omega (arith, one.0, rest.0, two), omega (arith, one.1, rest.1, two))
 
-pub last_late : (n : ℕ) (us : List UnitSeen) (o : Option UnitSeen) → n ≡ count_by is_late us → n < 2 ^ 64 - 1 → late_with n o ≡ count_by is_late (us ++ option_to_list o)
+pub last_late : (n : ℕ) (us : List UnitSeen) (o : Option UnitSeen) → n ≡ count_by is_late us → n < 2 ^ 64 - 1 →
+    late_with n o ≡ count_by is_late (us ++ option_to_list o)
 last_late n us o e few = omega (arith, e, (late_counted n o few).0, count_two us (option_to_list o))
 
 pub length_units : (vs : List EnteredView) → length (flat_map (λ v. option_to_list v.unit) vs) ≤ length vs

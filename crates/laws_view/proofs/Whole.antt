@@ -25,7 +25,8 @@ pub record Knows (s : ViewState) (f : Followed) (b : Before) : Type 0 where
   pub index : b.index ≡ s.seen.packets
   pub clock : b.clock ≡ clock_of s.seen.clocks f.clock_pid
 
-pub sound_clock : (s : ViewState) (f : Followed) (b : Before) (o : Option PacketView) → Knows s f b → (known_after f b o).clock ≡ clock_of (after_sound s o).seen.clocks f.clock_pid
+pub sound_clock : (s : ViewState) (f : Followed) (b : Before) (o : Option PacketView) → Knows s f b →
+    (known_after f b o).clock ≡ clock_of (after_sound s o).seen.clocks f.clock_pid
 unfolding known_after after_sound
 sound_clock s f b None k = k.clock
 sound_clock s f b (Some packet) k = rw (k.index, k.clock, sym k.options) (sym (clock_known s.seen.options f.clock_pid s.seen.packets packet s.seen.clocks))
@@ -58,7 +59,8 @@ none_agree request = record { at = λ pid j h. absurd (let no : ⊥ = cc in no);
     none j e h = cc
 
 -- an entry stays where it is, with its PID
-pub entry_stays : (s : ViewState) (packets : List (List ℕ)) (j : ℕ) (e : EntryState) → Agree s.table → s.seen.packets + length packets < 2 ^ 64 → slice_get s.table.entries j ≡ Some e →
+pub entry_stays : (s : ViewState) (packets : List (List ℕ)) (j : ℕ) (e : EntryState) → Agree s.table → s.seen.packets + length packets < 2 ^ 64 →
+    slice_get s.table.entries j ≡ Some e →
     (e' : EntryState) × ((slice_get (after_all s packets).table.entries j ≡ Some e') × (e'.pid ≡ e.pid))
 unfolding after_all
 entry_stays s [] j e agree few there = (e, (there, refl))
@@ -73,7 +75,8 @@ entry_stays s (bytes ∷ packets) j e agree few there =
 
 -- ---- excesses that are counted
 
-pub excesses_exact : (n : ℕ) (vs : List EnteredView) → n + length (flat_map (λ v. v.transport) vs) < 2 ^ 64 → excesses_more n vs ≡ n + length (flat_map (λ v. v.transport) vs)
+pub excesses_exact : (n : ℕ) (vs : List EnteredView) → n + length (flat_map (λ v. v.transport) vs) < 2 ^ 64 →
+    excesses_more n vs ≡ n + length (flat_map (λ v. v.transport) vs)
 unfolding excesses_more
 excesses_exact n [] few = omega arith
 excesses_exact n (v ∷ vs) few =

@@ -25,6 +25,7 @@ last_events_law options count window e =
     ++ (stays_closing options (place_at count e) e ++ mark_events e.pid e.mark_tally) in
     record {
       before = window_events ++ under_way;
-      events = ap (λ (es : List Event). window_events ++ es) (append_assoc under_way totals after) ∙ sym (append_assoc window_events under_way (totals ++ after));
+      events = ap (λ (es : List Event). window_events ++ es) (append_assoc under_way totals after)
+          ∙ sym (append_assoc window_events under_way (totals ++ after));
       by_packets = by_packets window e;
     }

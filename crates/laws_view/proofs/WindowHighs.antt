@@ -1,5 +1,6 @@
 -- The greatest that a line `held` says of a main buffer is its greatest fullness from the first payload byte of the window's packets on.
-use Rattle.std.proofs.Common.{◌≡◌, ◌∙◌, sym, ℕ, ◌+◌, ◌-◌, ◌*◌, ◌<◌, is_some, max, Bool, true, false, List, [], ◌∷◌, ◌++◌, length, map, Option, Some, None, if◌then◌else◌, refl, ap, subst, inl, inr, arith}
+use Rattle.std.proofs.Common.{◌≡◌, ◌∙◌, sym, ℕ, ◌+◌, ◌-◌, ◌*◌, ◌<◌, is_some, max, Bool, true, false, List, [], ◌∷◌, ◌++◌, length, map, Option, Some, None}
+use Rattle.std.proofs.Common.{if◌then◌else◌, refl, ap, subst, inl, inr, arith}
 use Rattle.std.proofs.lemmas.Bool.{cases_lt}
 use Rattle.std.proofs.lemmas.Bool.Decides.{eqb_tells}
 use Rattle.tstd_rows.specs.Least.{least_found}
@@ -51,7 +52,8 @@ pub window_high_law : WindowHighLaw
 window_high_law h xs pos has =
     let come = each_comes h h None 0 xs (nothing_comes h) in
     let some : is_some (least_of h.rate come.recent h.parts) ≡ true = ap is_some come.found ∙ least_some None h xs has in
-    let first = first_of (entries_of h.rate come.recent h.parts) (λ none. is_nothing (least_of h.rate come.recent h.parts) (none_least h.rate come.recent h.parts none) some) in
+    let first = first_of (entries_of h.rate come.recent h.parts)
+    (λ none. is_nothing (least_of h.rate come.recent h.parts) (none_least h.rate come.recent h.parts none) some) in
     let high = is_high h.rate first.0 first.1 come.recent h.parts pos first.2 in
     subst (λ (n : ℕ). IsHighWith h xs n) come.most_found (record { recent = come.recent; come = come.parts; high = high })
 
@@ -110,7 +112,8 @@ payload_none h enters size times none = elim (eqb_tells size 0) [
     goes some true is = absurd (none is some)
     goes some false is = refl
 
-entered_none : (h : Held) (arrival : Arrival) (p : Arriving) → ((takes_in h arrival p ≡ true) × (p.enters ≡ true) × (0 < size_of p) → ⊥) → (entered h arrival p).main_most ≡ 0
+entered_none : (h : Held) (arrival : Arrival) (p : Arriving) → ((takes_in h arrival p ≡ true) × (p.enters ≡ true) × (0 < size_of p) → ⊥) →
+    (entered h arrival p).main_most ≡ 0
 unfolding entered
 entered_none h arrival p none = by (takes_in h arrival p) refl
   where

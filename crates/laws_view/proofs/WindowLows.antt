@@ -1,5 +1,6 @@
 -- The least that a line `held` says of a main buffer is its least fullness while the packets of the window come.
-use Rattle.std.proofs.Common.{◌≡◌, ◌∙◌, sym, ℕ, zero, suc, ◌+◌, ◌-◌, ◌*◌, ◌^◌, ◌<◌, ◌&&◌, is_some, nat_le, nat_lt, max, min, Bool, true, false, List, [], ◌∷◌, ◌++◌, length, map, Option, Some, None, if◌then◌else◌, refl, ap, subst, inl, inr, arith, append_assoc}
+use Rattle.std.proofs.Common.{◌≡◌, ◌∙◌, sym, ℕ, zero, suc, ◌+◌, ◌-◌, ◌*◌, ◌^◌, ◌<◌, ◌&&◌, is_some, nat_le, nat_lt, max, min, Bool, true, false, List, [], ◌∷◌}
+use Rattle.std.proofs.Common.{◌++◌, length, map, Option, Some, None, if◌then◌else◌, refl, ap, subst, inl, inr, arith, append_assoc}
 use Rattle.std.specs.Prelude.{unwrap_or}
 use Rattle.std.proofs.lemmas.Bool.Decides.{eqb_tells}
 use Rattle.arrival.specs.declared.arrival.Arrival.{Arrival}
@@ -10,7 +11,8 @@ use Rattle.tstd_rows.specs.Least.{least_found, lesser}
 use Rattle.arrival.specs.Arrivals.{has_times, times_at}
 use Rattle.arrival.specs.declared.arrival.Arrival.TheVariants.{Unknown, AtRate, OnLines}
 use Rattle.tstd_rows.specs.Held.{Held, carried, main_found, main_least_found, passed}
-use Rattle.tstd_rows.specs.Entering.{EnteredView, after, after_begin, after_header, after_lead, after_payload, after_unit, ended_with, entered, lead_in, nothing, payload_main_least, payload_main_most, size_of, takes_in, with_packet}
+use Rattle.tstd_rows.specs.Entering.{EnteredView, after, after_begin, after_header, after_lead, after_payload, after_unit, ended_with, entered, lead_in}
+use Rattle.tstd_rows.specs.Entering.{nothing, payload_main_least, payload_main_most, size_of, takes_in, with_packet}
 use Rattle.tstd_rows.specs.declared.arriving.Arriving.{Arriving}
 use Rattle.tstd.specs.BufferedUnits.{one_buffered}
 use Rattle.tstd_rows.specs.History.{Part, last_of, main_fullness, row_least, transport_of, until_of}
@@ -139,7 +141,8 @@ unfolding after entered
 packet_comes h arrival p = by (takes_in h arrival p)
   where
     by : (b : Bool) → Comes h (if b then with_packet h arrival p (size_of p) (lead_in arrival p) else h)
-        (if b then ended_with h arrival p (size_of p) (lead_in arrival p) else nothing).main_least (if b then ended_with h arrival p (size_of p) (lead_in arrival p) else nothing).main_most
+        (if b then ended_with h arrival p (size_of p) (lead_in arrival p) else nothing).main_least
+        (if b then ended_with h arrival p (size_of p) (lead_in arrival p) else nothing).main_most
     by true = parts_come h arrival p (size_of p) (lead_in arrival p)
     by false = nothing_comes h
 
@@ -180,7 +183,8 @@ unit_least t window None is = (refl, is)
 unit_least t window (Some u) is = (ap (λ (k : Tally). k.window_least) (same_window t window is), ap (λ (k : Tally). k.window) (same_window t window is) ∙ is)
 
 pub packet_least : (t : Tally) (window : ℕ) (unread : Bool) (v : EnteredView) →
-    ((tally_after t window unread v).window_least ≡ least_of_both (in_window t window).window_least v.main_least) × ((tally_after t window unread v).window ≡ window)
+    ((tally_after t window unread v).window_least ≡ least_of_both (in_window t window).window_least v.main_least) ×
+    ((tally_after t window unread v).window ≡ window)
 packet_least t window unread v =
     unit_least (with_excesses (with_tallied t window v) (length v.transport) (length v.main) unread) window v.unit (in_that_window t window)
 
@@ -212,7 +216,8 @@ carried_some : (h : Held) (t : ℕ) (ts : List ℕ) → is_some (main_least_foun
 unfolding least_found lesser departures
 carried_some h t ts =
     let left : ℕ = max t (last_of h.rate h.parts) + h.rate in
-    found_some (main_fullness h.rate h.parts) (until_of h.parts) 1 (main_fullness h.rate h.parts left + 0 * one_buffered (until_of h.parts) left) (departures h.rate left ts)
+    found_some (main_fullness h.rate h.parts) (until_of h.parts) 1 (main_fullness h.rate h.parts left + 0 * one_buffered (until_of h.parts) left)
+    (departures h.rate left ts)
 
 payload_some : (h : Held) (size t : ℕ) (ts : List ℕ) → 0 < size → is_some (payload_main_least h true size (t ∷ ts)) ≡ true
 unfolding payload_main_least
@@ -238,11 +243,13 @@ have_times Unknown i rx j (suc n) has some = absurd (let no : ⊥ = cc in no)
 have_times (AtRate rate) i rx j (suc n) has some = record { first = _; later = _; is = refl }
 have_times (OnLines lines) i rx j (suc n) has some = record { first = _; later = _; is = refl }
 
-entered_some : (h : Held) (arrival : Arrival) (p : Arriving) → takes_in h arrival p ≡ true → p.enters ≡ true → 0 < size_of p → is_some (entered h arrival p).main_least ≡ true
+entered_some : (h : Held) (arrival : Arrival) (p : Arriving) → takes_in h arrival p ≡ true → p.enters ≡ true → 0 < size_of p →
+    is_some (entered h arrival p).main_least ≡ true
 unfolding entered
 entered_some h arrival p takes enters some =
     let c : Held = after_unit h arrival p (size_of p) (lead_in arrival p) in
-    let has = last_of_three (nat_lt p.index most_packets) (nat_le (transport_of h.rate h.parts).bytes (2 ^ 40 - 188)) (has_times arrival (188 * p.index) 188) takes in
+    let has = last_of_three (nat_lt p.index most_packets) (nat_le (transport_of h.rate h.parts).bytes (2 ^ 40 - 188)) (has_times arrival (188 * p.index) 188)
+    takes in
     let times = have_times arrival (188 * p.index) c.rx (188 * p.index + (188 - size_of p)) (size_of p) has some in
     rw (takes, enters, times.is) (payload_some c (size_of p) times.first times.later some)
 

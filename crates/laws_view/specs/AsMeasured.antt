@@ -38,24 +38,32 @@ HasClock request e before = is_some (known_after_all (followed request e) nothin
 -- clock reference: before the first one no unit begins in a view, so bytes that come by then are in no main buffer
 abbrev pub AsMeasuredLaw : Type 0
 AsMeasuredLaw = (request : RequestView) (rate base0 : ℕ) (bytes : List ℕ) (e : EntryState) (s : DescribedStream) (cuts : List CutUnit) (f : StreamFullness) →
-    request.options.arrival ≡ AtRate rate → length (cut_packets bytes) ≤ most_packets → e.pid ≡ s.pid → e.held.rx ≡ s.rx → (whole : IsWhole request rate (cut_packets bytes) e) →
-    FromTheFirst e.pid whole.begun.before → HasClock request e (whole.begun.before ++ whole.begun.first ∷ []) → CarriesUnits s.stream_id base0 s.pid cuts bytes →
-    KeepsClock (followed request e) (known_at_begin (followed request e) whole.begun.before) rate base0 cuts (pid_list s.pid bytes) (whole.begun.first ∷ whole.begun.later) →
+    request.options.arrival ≡ AtRate rate → length (cut_packets bytes) ≤ most_packets → e.pid ≡ s.pid → e.held.rx ≡ s.rx →
+    (whole : IsWhole request rate (cut_packets bytes) e) →
+    FromTheFirst e.pid whole.begun.before → HasClock request e (whole.begun.before ++ whole.begun.first ∷ []) →
+    CarriesUnits s.stream_id base0 s.pid cuts bytes →
+    KeepsClock (followed request e) (known_at_begin (followed request e) whole.begun.before) rate base0 cuts (pid_list s.pid bytes)
+    (whole.begun.first ∷ whole.begun.later) →
     IsStreamFullness rate base0 s (cut_units cuts) (packets_on s.pid bytes) f → AsMeasured e f
 
 -- so of each stream that a multiplexer wrote, which is viewed with the description's buffers
 abbrev pub RunAsMeasuredLaw : Type 0
-RunAsMeasuredLaw = (d : Scheduled) (units : ℕ → List AccessUnit) (slots : ℕ) (request : RequestView) (e : EntryState) (k : ℕ) → IsInRange d.description → Promised d.description d.schedule →
-    UnitsKept d units → slots ≤ most_packets → (viewed : IsViewedAs d request k e) → (whole : IsWhole request d.description.rate (cut_packets (run_bytes (content_at d units) 0 slots)) e) →
+RunAsMeasuredLaw = (d : Scheduled) (units : ℕ → List AccessUnit) (slots : ℕ) (request : RequestView) (e : EntryState) (k : ℕ) → IsInRange d.description →
+    Promised d.description d.schedule →
+    UnitsKept d units → slots ≤ most_packets → (viewed : IsViewedAs d request k e) →
+    (whole : IsWhole request d.description.rate (cut_packets (run_bytes (content_at d units) 0 slots)) e) →
     FromTheFirst e.pid whole.begun.before → HasClock request e (whole.begun.before ++ whole.begun.first ∷ []) → (f : StreamFullness) →
-    IsStreamFullness d.description.rate d.description.base0 viewed.stream (units k) (packets_on viewed.stream.pid (run_bytes (content_at d units) 0 slots)) f → AsMeasured e f
+    IsStreamFullness d.description.rate d.description.base0 viewed.stream (units k) (packets_on viewed.stream.pid (run_bytes (content_at d units) 0 slots)) f →
+    AsMeasured e f
 
 abbrev pub JobAsMeasuredLaw : Type 0
-JobAsMeasuredLaw = (d : Scheduled) (units : List (ℕ × AccessUnit)) (slots : ℕ) (request : RequestView) (e : EntryState) (k : ℕ) → IsInRange d.description → Promised d.description d.schedule →
+JobAsMeasuredLaw = (d : Scheduled) (units : List (ℕ × AccessUnit)) (slots : ℕ) (request : RequestView) (e : EntryState) (k : ℕ) → IsInRange d.description →
+    Promised d.description d.schedule →
     first_refused d (capacity_for units) [] units ≡ None → slots ≤ most_packets → (viewed : IsViewedAs d request k e) →
     (whole : IsWhole request d.description.rate (cut_packets (output_of false d (job_history units slots))) e) →
     FromTheFirst e.pid whole.begun.before → HasClock request e (whole.begun.before ++ whole.begun.first ∷ []) → (f : StreamFullness) →
-    IsStreamFullness d.description.rate d.description.base0 viewed.stream (units_of k units) (packets_on viewed.stream.pid (output_of false d (job_history units slots))) f → AsMeasured e f
+    IsStreamFullness d.description.rate d.description.base0 viewed.stream (units_of k units)
+    (packets_on viewed.stream.pid (output_of false d (job_history units slots))) f → AsMeasured e f
 
 -- clock references are looked for on the PID of one of the description's programs
 abbrev pub IsClockOf : Scheduled → EntryState → Type 0
@@ -63,13 +71,18 @@ IsClockOf d e = (i : ℕ) × (p : DescribedProgram) × (slice_get d.description.
 
 -- so where no unit of it is due before 2 seconds after the run's begin: tables and clock references come before its packets
 abbrev pub RunLateAsMeasuredLaw : Type 0
-RunLateAsMeasuredLaw = (d : Scheduled) (units : ℕ → List AccessUnit) (slots : ℕ) (request : RequestView) (e : EntryState) (k : ℕ) → IsInRange d.description → Promised d.description d.schedule →
+RunLateAsMeasuredLaw = (d : Scheduled) (units : ℕ → List AccessUnit) (slots : ℕ) (request : RequestView) (e : EntryState) (k : ℕ) → IsInRange d.description →
+    Promised d.description d.schedule →
     UnitsKept d units → slots ≤ most_packets → (viewed : IsViewedAs d request k e) → IsClockOf d e →
     (whole : IsWhole request d.description.rate (cut_packets (run_bytes (content_at d units) 0 slots)) e) → DueLate (units k) → (f : StreamFullness) →
-    IsStreamFullness d.description.rate d.description.base0 viewed.stream (units k) (packets_on viewed.stream.pid (run_bytes (content_at d units) 0 slots)) f → AsMeasured e f
+    IsStreamFullness d.description.rate d.description.base0 viewed.stream (units k) (packets_on viewed.stream.pid (run_bytes (content_at d units) 0 slots)) f →
+    AsMeasured e f
 
 abbrev pub JobLateAsMeasuredLaw : Type 0
-JobLateAsMeasuredLaw = (d : Scheduled) (units : List (ℕ × AccessUnit)) (slots : ℕ) (request : RequestView) (e : EntryState) (k : ℕ) → IsInRange d.description → Promised d.description d.schedule →
+JobLateAsMeasuredLaw = (d : Scheduled) (units : List (ℕ × AccessUnit)) (slots : ℕ) (request : RequestView) (e : EntryState) (k : ℕ) → IsInRange d.description →
+    Promised d.description d.schedule →
     first_refused d (capacity_for units) [] units ≡ None → slots ≤ most_packets → (viewed : IsViewedAs d request k e) → IsClockOf d e →
-    (whole : IsWhole request d.description.rate (cut_packets (output_of false d (job_history units slots))) e) → DueLate (units_of k units) → (f : StreamFullness) →
-    IsStreamFullness d.description.rate d.description.base0 viewed.stream (units_of k units) (packets_on viewed.stream.pid (output_of false d (job_history units slots))) f → AsMeasured e f
+    (whole : IsWhole request d.description.rate (cut_packets (output_of false d (job_history units slots))) e) → DueLate (units_of k units) →
+    (f : StreamFullness) →
+    IsStreamFullness d.description.rate d.description.base0 viewed.stream (units_of k units)
+    (packets_on viewed.stream.pid (output_of false d (job_history units slots))) f → AsMeasured e f

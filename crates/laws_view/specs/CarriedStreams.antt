@@ -1,6 +1,7 @@
 -- A stream at a constant rate that carries the PES packets of units on a PID, whoever wrote it, and whose clock goes with the rate (ISO/IEC
 -- 13818-1, 2.4.2 and 2.4.3).
-use Rattle.std.specs.Prelude.{◌≡◌, ℕ, ◌+◌, ◌*◌, ◌/◌, ◌%◌, ◌≤◌, Bool, true, false, IsTrue, is_some, List, [], ◌∷◌, length, map, take, replicate, count_by, slice_get, unwrap_or, Some, All}
+use Rattle.std.specs.Prelude.{◌≡◌, ℕ, ◌+◌, ◌*◌, ◌/◌, ◌%◌, ◌≤◌, Bool, true, false, IsTrue, is_some, List, [], ◌∷◌, length, map, take, replicate, count_by}
+use Rattle.std.specs.Prelude.{slice_get, unwrap_or, Some, All}
 use Rattle.std.specs.List.{concat, flat_map}
 use Rattle.ts_packet.specs.PidList.{Entry, pid_list, payload_of}
 use Rattle.pes_packet.specs.AccessUnits.{AccessUnit}
@@ -70,5 +71,6 @@ pub record GoesBy (rate base0 : ℕ) (clock : PcrSample) (u : AccessUnit) : Type
 -- so does each unit that begins with one of these packets of the PID, by the program's last clock reference then, if one has come; `packets`
 -- are all packets from the one on before which this is known
 abbrev pub KeepsClock : Followed → Before → ℕ → ℕ → List CutUnit → List Entry → List (List ℕ) → Type 0
-KeepsClock f b rate base0 cuts entries packets = (j : ℕ) (e : Entry) (u : AccessUnit) (clock : PcrSample) → slice_get entries j ≡ Some e → slice_get (cut_senders cuts) j ≡ Some u →
+KeepsClock f b rate base0 cuts entries packets = (j : ℕ) (e : Entry) (u : AccessUnit) (clock : PcrSample) → slice_get entries j ≡ Some e →
+    slice_get (cut_senders cuts) j ≡ Some u →
     e.packet.header.payload_unit_start_indicator ≡ true → slice_get (clocks_seen f b packets) j ≡ Some (Some clock) → GoesBy rate base0 clock u

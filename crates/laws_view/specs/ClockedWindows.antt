@@ -59,18 +59,19 @@ ClockedTablesLaw = (request : RequestView) (packets : List (List ℕ)) (before l
 
 -- one whose buffers have begun before the window, and whose last packet then lies in another: e once all packets before the window have been
 -- viewed, e' once those `now` have too
-pub record OfClockedWindow (request : RequestView) (packets : List (List ℕ)) (before now later : List Timed) (window place : ℕ) (e e' : EntryState) : Type 0 where
-  pub unknown : request.options.arrival ≡ Unknown
-  pub few : length packets < 2 ^ 64
-  pub split : timed_in request packets ≡ before ++ (now ++ later)
-  pub t : TableState
-  pub before_it : slice_get (report_tables request packets) (length before) ≡ Some t
-  pub begun : slice_get t.entries place ≡ Some e
-  pub t' : TableState
-  pub after_it : slice_get (report_tables request packets) (length (before ++ now)) ≡ Some t'
-  pub come : slice_get t'.entries place ≡ Some e'
-  pub other : (e.tally.window == window) ≡ false
-  pub all : BeginIn (options_then request e before) window (length before) now
+pub record OfClockedWindow (request : RequestView) (packets : List (List ℕ)) (before now later : List Timed) (window place : ℕ) (e e' : EntryState) : Type 0
+  where
+    pub unknown : request.options.arrival ≡ Unknown
+    pub few : length packets < 2 ^ 64
+    pub split : timed_in request packets ≡ before ++ (now ++ later)
+    pub t : TableState
+    pub before_it : slice_get (report_tables request packets) (length before) ≡ Some t
+    pub begun : slice_get t.entries place ≡ Some e
+    pub t' : TableState
+    pub after_it : slice_get (report_tables request packets) (length (before ++ now)) ≡ Some t'
+    pub come : slice_get t'.entries place ≡ Some e'
+    pub other : (e.tally.window == window) ≡ false
+    pub all : BeginIn (options_then request e before) window (length before) now
 
 -- once the packets of the window have been viewed, its line `held` has the main buffer's least fullness while they come
 abbrev pub ClockedWindowLaw : Type 0

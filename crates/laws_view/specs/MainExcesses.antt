@@ -19,7 +19,9 @@ TimedNoExcessLaw = (request : RequestView) (step : ℕ) (packets : List Timed) (
 
 -- at a constant rate
 abbrev pub NoMainExcessLaw : Type 0
-NoMainExcessLaw = (request : RequestView) (rate : ℕ) (packets : List (List ℕ)) (e : EntryState) (whole : IsWhole request rate packets e) → main_most e.held ≤ e.held.main.size →
+NoMainExcessLaw = (request : RequestView) (rate : ℕ) (packets : List (List ℕ)) (e : EntryState) (whole : IsWhole request rate packets e) →
+    main_most e.held ≤ e.held.main.size →
     (flat_map (λ v. v.main)
-    (entered_each (empty rate e.held.rx e.held.main.size) (AtRate rate) (stream_packets request e whole.begun.before (whole.begun.first ∷ whole.begun.later))) ≡ [])
+    (entered_each (empty rate e.held.rx e.held.main.size) (AtRate rate) (stream_packets request e whole.begun.before (whole.begun.first ∷ whole.begun.later))) ≡
+    [])
     × (e.held.main.under_way ≡ None)

@@ -15,6 +15,7 @@ use Rattle.laws_view.specs.WholeStreams.{IsWhole}
 -- the most in the transport buffer is no more than what measuring all packets of the PID finds, and the same where its buffers begin with
 -- the first of them
 abbrev pub MeasuredStreamLaw : Type 0
-MeasuredStreamLaw = (request : RequestView) (rate base0 : ℕ) (bytes : List ℕ) (e : EntryState) (s : DescribedStream) (units : List AccessUnit) (f : StreamFullness) →
+MeasuredStreamLaw = (request : RequestView) (rate base0 : ℕ) (bytes : List ℕ) (e : EntryState) (s : DescribedStream) (units : List AccessUnit)
+    (f : StreamFullness) →
     (whole : IsWhole request rate (cut_packets bytes) e) → e.pid ≡ s.pid → e.held.rx ≡ s.rx → IsStreamFullness rate base0 s units (packets_on s.pid bytes) f →
     (transport_most e.held ≤ f.transport) × (packets_from s.pid 0 whole.begun.before ≡ [] → transport_most e.held ≡ f.transport)

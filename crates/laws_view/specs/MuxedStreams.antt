@@ -24,16 +24,19 @@ pub record NoExcess (request : RequestView) (rate : ℕ) (packets : List (List �
   pub whole : IsWhole request rate packets e
   pub most : transport_most e.held ≤ tb_size
   pub none_ended : flat_map (λ v. v.transport)
-      (entered_each (empty rate e.held.rx e.held.main.size) (AtRate rate) (stream_packets request e whole.begun.before (whole.begun.first ∷ whole.begun.later))) ≡ []
+      (entered_each (empty rate e.held.rx e.held.main.size) (AtRate rate) (stream_packets request e whole.begun.before (whole.begun.first ∷ whole.begun.later)))
+      ≡ []
   pub none_under_way : transport_under_way e.held ≡ None
   pub number : (window : ℕ) → with_one (closed window e).excesses (transport_under_way e.held) ≡ 0
 
 -- of bytes that keep what a multiplexer promises, each stream of the description that is viewed with the rate out of its transport buffer
 -- that the description gives
 abbrev pub MuxedStreamLaw : Type 0
-MuxedStreamLaw = (d : Scheduled) (units : ℕ → List AccessUnit) (slots : ℕ) (bytes : List ℕ) (request : RequestView) (place : ℕ) (e : EntryState) (k : ℕ) (s : DescribedStream) →
+MuxedStreamLaw = (d : Scheduled) (units : ℕ → List AccessUnit) (slots : ℕ) (bytes : List ℕ) (request : RequestView) (place : ℕ) (e : EntryState) (k : ℕ)
+    (s : DescribedStream) →
     IsInRange d.description → Headline d units slots bytes → slots ≤ most_packets → request.options.arrival ≡ AtRate d.description.rate →
-    slice_get (after_all (start request) (cut_packets bytes)).table.entries place ≡ Some e → slice_get d.description.streams k ≡ Some s → e.pid ≡ s.pid → e.held.rx ≡ s.rx →
+    slice_get (after_all (start request) (cut_packets bytes)).table.entries place ≡ Some e → slice_get d.description.streams k ≡ Some s → e.pid ≡ s.pid →
+    e.held.rx ≡ s.rx →
     NoExcess request d.description.rate (cut_packets bytes) e
 
 -- so of a whole job of which no unit is refused, over a plan that keeps its conditions or two in turn

@@ -118,7 +118,8 @@ RateOrderLaw = (rate : ℕ) (packets : List (List ℕ)) → InOrder rate (arrivi
 
 -- so of each stream of a view whose packets arrive in order, in the first 2^40 bytes
 abbrev pub TimedStreamLaw : Type 0
-TimedStreamLaw = (request : RequestView) (step : ℕ) (packets : List Timed) (place : ℕ) (e : EntryState) → 0 < step → InOrder step packets → length packets ≤ most_packets →
+TimedStreamLaw = (request : RequestView) (step : ℕ) (packets : List Timed) (place : ℕ) (e : EntryState) → 0 < step → InOrder step packets →
+    length packets ≤ most_packets →
     slice_get (view_by (start request) packets).table.entries place ≡ Some e → IsWholeBy request step packets e
 
 -- and of each stream of a report on packets of 188 bytes that arrive by clock references, at its end: in units of 1 / (27,000,000 * rx) seconds
@@ -126,5 +127,6 @@ TimedStreamLaw = (request : RequestView) (step : ℕ) (packets : List Timed) (pl
 abbrev pub ClockedStreamLaw : Type 0
 ClockedStreamLaw = (request : RequestView) (packets : List (List ℕ)) (place : ℕ) (e : EntryState) → request.options.arrival ≡ Unknown →
     All (λ bytes. length bytes ≡ 188) packets → length packets ≤ most_packets →
-    slice_get (last_view (clocked.after_all (clocked.start request) packets).view (clocked.after_all (clocked.start request) packets).queue).table.entries place ≡ Some e →
+    slice_get (last_view (clocked.after_all (clocked.start request) packets).view (clocked.after_all (clocked.start request) packets).queue).table.entries place
+    ≡ Some e →
     IsWholeBy request byte_ticks_at_1bps (timed_packets (clock_for request.choice.programs) packets) e

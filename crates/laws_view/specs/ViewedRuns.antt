@@ -40,7 +40,8 @@ FromTheFirst pid before = packets_from pid 0 before ≡ []
 
 -- the line `main` says no more than what measuring these bytes finds
 abbrev pub NoMoreThanMeasured : Scheduled → List AccessUnit → List ℕ → DescribedStream → EntryState → Type 0
-NoMoreThanMeasured d units bytes s e = (f : StreamFullness) → IsStreamFullness d.description.rate d.description.base0 s units (packets_on s.pid bytes) f → main_most e.held ≤ f.main
+NoMoreThanMeasured d units bytes s e = (f : StreamFullness) → IsStreamFullness d.description.rate d.description.base0 s units (packets_on s.pid bytes) f →
+    main_most e.held ≤ f.main
 
 -- no excess of the main buffer is told of such a stream, of which these units were accepted: the line `main` says no more than its size, with
 -- none of the stream's packets has an excess ended, and none is under way at the end. It is no more than what measuring these bytes finds where
@@ -50,42 +51,53 @@ pub record NoMainExcess (d : Scheduled) (request : RequestView) (units : List Ac
     (whole : IsWhole request d.description.rate (cut_packets bytes) e) : Type 0 where
   pub most : main_most e.held ≤ e.held.main.size
   pub none_ended : flat_map (λ v. v.main)
-      (entered_each (empty d.description.rate e.held.rx e.held.main.size) (AtRate d.description.rate) (stream_packets request e whole.begun.before (whole.begun.first ∷ whole.begun.later))) ≡ []
+      (entered_each (empty d.description.rate e.held.rx e.held.main.size) (AtRate d.description.rate)
+      (stream_packets request e whole.begun.before (whole.begun.first ∷ whole.begun.later))) ≡ []
   pub none_under_way : e.held.main.under_way ≡ None
   pub measured : FromTheFirst e.pid whole.begun.before → NoMoreThanMeasured d units bytes s e
 
 -- so of each such stream, wherever its buffers begin
 abbrev pub RunMainLaw : Type 0
-RunMainLaw = (d : Scheduled) (units : ℕ → List AccessUnit) (slots : ℕ) (request : RequestView) (e : EntryState) (k : ℕ) → IsInRange d.description → Promised d.description d.schedule →
-    UnitsKept d units → slots ≤ most_packets → (viewed : IsViewedAs d request k e) → (whole : IsWhole request d.description.rate (cut_packets (run_bytes (content_at d units) 0 slots)) e) →
+RunMainLaw = (d : Scheduled) (units : ℕ → List AccessUnit) (slots : ℕ) (request : RequestView) (e : EntryState) (k : ℕ) → IsInRange d.description →
+    Promised d.description d.schedule →
+    UnitsKept d units → slots ≤ most_packets → (viewed : IsViewedAs d request k e) →
+    (whole : IsWhole request d.description.rate (cut_packets (run_bytes (content_at d units) 0 slots)) e) →
     NoMainExcess d request (units k) (run_bytes (content_at d units) 0 slots) viewed.stream e whole
 
 -- so of a whole job of which no unit is refused, over a plan that keeps its conditions or two in turn
 abbrev pub JobMainLaw : Type 0
-JobMainLaw = (d : Scheduled) (units : List (ℕ × AccessUnit)) (slots : ℕ) (request : RequestView) (e : EntryState) (k : ℕ) → IsInRange d.description → Promised d.description d.schedule →
+JobMainLaw = (d : Scheduled) (units : List (ℕ × AccessUnit)) (slots : ℕ) (request : RequestView) (e : EntryState) (k : ℕ) → IsInRange d.description →
+    Promised d.description d.schedule →
     first_refused d (capacity_for units) [] units ≡ None → slots ≤ most_packets → (viewed : IsViewedAs d request k e) →
     (whole : IsWhole request d.description.rate (cut_packets (output_of false d (job_history units slots))) e) →
     NoMainExcess d request (units_of k units) (output_of false d (job_history units slots)) viewed.stream e whole
 
 -- buffers begin with the first packet where PAT and PMT have come before: no unit of the stream is due before 2 seconds after the run's begin
 abbrev pub RunFirstLaw : Type 0
-RunFirstLaw = (d : Scheduled) (units : ℕ → List AccessUnit) (slots : ℕ) (request : RequestView) (e : EntryState) (k : ℕ) → IsInRange d.description → Promised d.description d.schedule →
-    UnitsKept d units → slots ≤ most_packets → IsViewedAs d request k e → (whole : IsWhole request d.description.rate (cut_packets (run_bytes (content_at d units) 0 slots)) e) →
+RunFirstLaw = (d : Scheduled) (units : ℕ → List AccessUnit) (slots : ℕ) (request : RequestView) (e : EntryState) (k : ℕ) → IsInRange d.description →
+    Promised d.description d.schedule →
+    UnitsKept d units → slots ≤ most_packets → IsViewedAs d request k e →
+    (whole : IsWhole request d.description.rate (cut_packets (run_bytes (content_at d units) 0 slots)) e) →
     DueLate (units k) → FromTheFirst e.pid whole.begun.before
 
 abbrev pub JobFirstLaw : Type 0
-JobFirstLaw = (d : Scheduled) (units : List (ℕ × AccessUnit)) (slots : ℕ) (request : RequestView) (e : EntryState) (k : ℕ) → IsInRange d.description → Promised d.description d.schedule →
+JobFirstLaw = (d : Scheduled) (units : List (ℕ × AccessUnit)) (slots : ℕ) (request : RequestView) (e : EntryState) (k : ℕ) → IsInRange d.description →
+    Promised d.description d.schedule →
     first_refused d (capacity_for units) [] units ≡ None → slots ≤ most_packets → IsViewedAs d request k e →
-    (whole : IsWhole request d.description.rate (cut_packets (output_of false d (job_history units slots))) e) → DueLate (units_of k units) → FromTheFirst e.pid whole.begun.before
+    (whole : IsWhole request d.description.rate (cut_packets (output_of false d (job_history units slots))) e) → DueLate (units_of k units) →
+    FromTheFirst e.pid whole.begun.before
 
 -- so of these streams the line `main` says no more than what is measured
 abbrev pub RunLateUnitsLaw : Type 0
-RunLateUnitsLaw = (d : Scheduled) (units : ℕ → List AccessUnit) (slots : ℕ) (request : RequestView) (e : EntryState) (k : ℕ) → IsInRange d.description → Promised d.description d.schedule →
-    UnitsKept d units → slots ≤ most_packets → (viewed : IsViewedAs d request k e) → IsWhole request d.description.rate (cut_packets (run_bytes (content_at d units) 0 slots)) e →
+RunLateUnitsLaw = (d : Scheduled) (units : ℕ → List AccessUnit) (slots : ℕ) (request : RequestView) (e : EntryState) (k : ℕ) → IsInRange d.description →
+    Promised d.description d.schedule →
+    UnitsKept d units → slots ≤ most_packets → (viewed : IsViewedAs d request k e) →
+    IsWhole request d.description.rate (cut_packets (run_bytes (content_at d units) 0 slots)) e →
     DueLate (units k) → NoMoreThanMeasured d (units k) (run_bytes (content_at d units) 0 slots) viewed.stream e
 
 abbrev pub JobLateUnitsLaw : Type 0
-JobLateUnitsLaw = (d : Scheduled) (units : List (ℕ × AccessUnit)) (slots : ℕ) (request : RequestView) (e : EntryState) (k : ℕ) → IsInRange d.description → Promised d.description d.schedule →
+JobLateUnitsLaw = (d : Scheduled) (units : List (ℕ × AccessUnit)) (slots : ℕ) (request : RequestView) (e : EntryState) (k : ℕ) → IsInRange d.description →
+    Promised d.description d.schedule →
     first_refused d (capacity_for units) [] units ≡ None → slots ≤ most_packets → (viewed : IsViewedAs d request k e) →
     IsWhole request d.description.rate (cut_packets (output_of false d (job_history units slots))) e →
     DueLate (units_of k units) → NoMoreThanMeasured d (units_of k units) (output_of false d (job_history units slots)) viewed.stream e
@@ -97,11 +109,14 @@ pub record NoLateUnit (rate : ℕ) (e : EntryState) : Type 0 where
 
 -- so wherever its buffers begin
 abbrev pub RunLateLaw : Type 0
-RunLateLaw = (d : Scheduled) (units : ℕ → List AccessUnit) (slots : ℕ) (request : RequestView) (e : EntryState) (k : ℕ) → IsInRange d.description → Promised d.description d.schedule →
-    UnitsKept d units → slots ≤ most_packets → IsViewedAs d request k e → IsWhole request d.description.rate (cut_packets (run_bytes (content_at d units) 0 slots)) e →
+RunLateLaw = (d : Scheduled) (units : ℕ → List AccessUnit) (slots : ℕ) (request : RequestView) (e : EntryState) (k : ℕ) → IsInRange d.description →
+    Promised d.description d.schedule →
+    UnitsKept d units → slots ≤ most_packets → IsViewedAs d request k e →
+    IsWhole request d.description.rate (cut_packets (run_bytes (content_at d units) 0 slots)) e →
     NoLateUnit d.description.rate e
 
 abbrev pub JobLateLaw : Type 0
-JobLateLaw = (d : Scheduled) (units : List (ℕ × AccessUnit)) (slots : ℕ) (request : RequestView) (e : EntryState) (k : ℕ) → IsInRange d.description → Promised d.description d.schedule →
+JobLateLaw = (d : Scheduled) (units : List (ℕ × AccessUnit)) (slots : ℕ) (request : RequestView) (e : EntryState) (k : ℕ) → IsInRange d.description →
+    Promised d.description d.schedule →
     first_refused d (capacity_for units) [] units ≡ None → slots ≤ most_packets → IsViewedAs d request k e →
     IsWhole request d.description.rate (cut_packets (output_of false d (job_history units slots))) e → NoLateUnit d.description.rate e

@@ -1,7 +1,9 @@
-//! Laws of the report on a stream. Each function does nothing: its contract is the law, over the definitions of `specs/`.
+//! Laws of the report on a stream. Each function does nothing: its contract is the law, over the definitions of
+//! `specs/`.
 ghost use Rattle.laws_view.specs.AsMeasured.{AsMeasuredLaw, JobAsMeasuredLaw, JobLateAsMeasuredLaw, RunAsMeasuredLaw, RunLateAsMeasuredLaw};
 ghost use Rattle.laws_view.specs.ClockedWindows.{ClockedTablesLaw, ClockedWindowLaw};
 ghost use Rattle.laws_view.specs.FirstHighs.{ClockedFirstLaw, FirstHighLaw};
+ghost use Rattle.laws_view.specs.FrameExcesses.{JobFramesLaw, RunFramesLaw};
 ghost use Rattle.laws_view.specs.HeldWindows.{FirstWindowLaw, HeldWindowLaw, TimedWindowLaw};
 ghost use Rattle.laws_view.specs.MainExcesses.{NoMainExcessLaw, TimedNoExcessLaw};
 ghost use Rattle.laws_view.specs.MeasuredStreams.{MeasuredStreamLaw};
@@ -14,32 +16,34 @@ ghost use Rattle.laws_view.specs.WholeStreams.{LastEventsLaw, WholeStreamLaw};
 ghost use Rattle.laws_view.specs.WindowHighs.{ClockedHighLaw, HighWithoutLaw, RateHighLaw, TimedHighLaw, WholeHighLaw, WindowHighLaw, WindowMostLaw};
 ghost use Rattle.laws_view.specs.WindowLows.{WholeWindowLaw, WindowLeastLaw, WindowLowLaw, WindowWithoutLaw};
 
-/// States for a constant rate that the last lines of a stream are about all packets of its PID, from the packet that begins its buffers: the
-/// line `transport` has the greatest number of bytes in the transport buffer over all moments (ISO/IEC 13818-1, 2.4.2.3) and the number of all
-/// excesses, the line `main` the greatest number of bytes in the main buffer and the numbers of all units and of late units.
+/// States for a constant rate that the last lines of a stream are about all packets of its PID, from the packet that
+/// begins its buffers: the line `transport` has the greatest number of bytes in the transport buffer over all moments
+/// (ISO/IEC 13818-1, 2.4.2.3) and the number of all excesses, the line `main` the greatest number of bytes in the main
+/// buffer and the numbers of all units and of late units.
 pub fn whole_streams()
     ensures whole { WholeStreamLaw }
     ensures events { LastEventsLaw }
 {}
 
-/// States the same fact for a stream whose packets arrive in any way that keeps the order of the bytes: at a constant rate, and by the
-/// clock references of a stream, as a report without a rate takes them, at its end.
+/// States the same fact for a stream whose packets arrive in any way that keeps the order of the bytes: at a constant
+/// rate, and by the clock references of a stream, as a report without a rate takes them, at its end.
 pub fn timed_streams()
     ensures timed { TimedStreamLaw }
     ensures rate { RateOrderLaw }
     ensures clocked { ClockedStreamLaw }
 {}
 
-/// States that there is no excess of a main buffer if its line says no more than its size, whichever way the stream's packets arrive; and
-/// so at a constant rate.
+/// States that there is no excess of a main buffer if its line says no more than its size, whichever way the stream's
+/// packets arrive; and so at a constant rate.
 pub fn main_excesses()
     ensures timed { TimedNoExcessLaw }
     ensures rate { NoMainExcessLaw }
 {}
 
-/// States that the least that a line `held` says of a main buffer is the least that the bytes of its window's packets find in it, which is
-/// the least fullness of the buffer meanwhile, whichever way they arrive. A report counts it so for a stream whose buffers began before the
-/// window, if a packet of the window carries payload; otherwise the line says 0.
+/// States that the least that a line `held` says of a main buffer is the least that the bytes of its window's packets
+/// find in it, which is the least fullness of the buffer meanwhile, whichever way they arrive. A report counts it so
+/// for a stream whose buffers began before the window, if a packet of the window carries payload; otherwise the line
+/// says 0.
 pub fn window_lows()
     ensures counted { WindowLeastLaw }
     ensures low { WindowLowLaw }
@@ -50,18 +54,20 @@ pub fn window_lows()
     ensures report { HeldWindowLaw }
 {}
 
-/// States the same fact for each window of a report on packets that arrive by clock references: its streams, once each packet has been
-/// viewed, are the streams of its packets one by one, each as it arrives.
+/// States the same fact for each window of a report on packets that arrive by clock references: its streams, once each
+/// packet has been viewed, are the streams of its packets one by one, each as it arrives.
 pub fn clocked_windows()
     ensures tables { ClockedTablesLaw }
     ensures window { ClockedWindowLaw }
 {}
 
-/// States that the greatest that a line `held` says of a main buffer is the most that the bytes of its window's packets find in it, themselves
-/// counted, which is the greatest fullness of the buffer from their first payload byte on: earlier it may be more. A report counts it so for a
-/// stream whose buffers began before the window, whichever way packets arrive; if no byte enters, the line says 0. The greatest of a transport
-/// buffer is its greatest fullness from the first byte of the window's packets on, if bytes arrive in their order, as they do at a constant
-/// rate and by clock references. If the buffers begin in the window, the line says what the lines `transport` and `main` say so far.
+/// States that the greatest that a line `held` says of a main buffer is the most that the bytes of its window's packets
+/// find in it, themselves counted, which is the greatest fullness of the buffer from their first payload byte on:
+/// earlier it may be more. A report counts it so for a stream whose buffers began before the window, whichever way
+/// packets arrive; if no byte enters, the line says 0. The greatest of a transport buffer is its greatest fullness from
+/// the first byte of the window's packets on, if bytes arrive in their order, as they do at a constant rate and by
+/// clock references. If the buffers begin in the window, the line says what the lines `transport` and `main` say so
+/// far.
 pub fn window_highs()
     ensures counted { WindowMostLaw }
     ensures main { WindowHighLaw }
@@ -80,28 +86,28 @@ pub fn window_highs()
     ensures clocked_transport { ClockedTransportLaw }
 {}
 
-/// States that the greatest number of bytes in a transport buffer is no more than what `tstd::measure` finds of the same bytes, and the same
-/// where the stream's buffers begin with the first packet of its PID.
+/// States that the greatest number of bytes in a transport buffer is no more than what `tstd::measure` finds of the
+/// same bytes, and the same where the stream's buffers begin with the first packet of its PID.
 pub fn measured_streams()
     ensures { MeasuredStreamLaw }
 {}
 
-/// States that there is no excess of a transport buffer in the output of a multiplexer over a plan that keeps its conditions, or over two in
-/// turn, viewed at its rate.
+/// States that there is no excess of a transport buffer in the output of a multiplexer over a plan that keeps its
+/// conditions, or over two in turn, viewed at its rate.
 pub fn muxed_streams()
     ensures whole { MuxedStreamLaw }
     ensures jobs { JobNoExcessLaw }
 {}
 
-/// States that there is no excess of a main buffer there, wherever the stream's buffers begin; and that its line says no more than
-/// `tstd::measure` finds in the same bytes, if they begin with the first packet of its PID.
+/// States that there is no excess of a main buffer there, wherever the stream's buffers begin; and that its line says
+/// no more than `tstd::measure` finds in the same bytes, if they begin with the first packet of its PID.
 pub fn muxed_main_buffers()
     ensures run { RunMainLaw }
     ensures jobs { JobMainLaw }
 {}
 
-/// States that the buffers of a stream do so if no unit of it is due before 2 s after the begin: PAT and PMT precede its packets (ISO/IEC
-/// 13818-1, 2.4.4), so the view knows of it by then, whatever else is viewed.
+/// States that the buffers of a stream do so if no unit of it is due before 2 s after the begin: PAT and PMT precede
+/// its packets (ISO/IEC 13818-1, 2.4.4), so the view knows of it by then, whatever else is viewed.
 pub fn muxed_after_tables()
     ensures first { RunFirstLaw }
     ensures jobs_first { JobFirstLaw }
@@ -115,9 +121,10 @@ pub fn muxed_units()
     ensures jobs { JobLateLaw }
 {}
 
-/// States that there is no excess of the elementary stream buffer of video there either (ISO/IEC 13818-1, 2.4.2.3), wherever the stream's buffers
-/// begin: its line says no more than its size, if that is the size of the description. Nor is there one of its multiplexing buffer, if buffers begin
-/// with the first packet of its PID and a byte takes a whole number of the view's units of time to leave it.
+/// States that there is no excess of the elementary stream buffer of video there either (ISO/IEC 13818-1, 2.4.2.3),
+/// wherever the stream's buffers begin: its line says no more than its size, if that is the size of the description.
+/// Nor is there one of its multiplexing buffer, if buffers begin with the first packet of its PID and a byte takes a
+/// whole number of the view's units of time to leave it.
 pub fn muxed_video_buffers()
     ensures run { RunElementaryLaw }
     ensures jobs { JobElementaryLaw }
@@ -125,15 +132,23 @@ pub fn muxed_video_buffers()
     ensures jobs_multiplexing { JobMultiplexingLaw }
 {}
 
-/// States that the greatest numbers of bytes in both buffers of a stream at a constant rate that carries units on a PID, whoever wrote it, are
-/// the numbers that `tstd::measure` finds in the same bytes: if its buffers begin with the first packet of the PID, with or after a clock
-/// reference, and units go by clock references that agree with the rate.
+/// States that there is no excess of a main buffer there that is viewed by access units (ISO/IEC 13818-1, 2.4.2.3):
+/// each access unit of a stream of sound whose access units the description declares is removed at its own decoding
+/// time, if the view removes no byte later than a cut of the units into such access units does.
+pub fn muxed_frames()
+    ensures run { RunFramesLaw }
+    ensures jobs { JobFramesLaw }
+{}
+
+/// States that the greatest numbers of bytes in both buffers of a stream at a constant rate that carries units on a
+/// PID, whoever wrote it, are the numbers that `tstd::measure` finds in the same bytes: if its buffers begin with the
+/// first packet of the PID, with or after a clock reference, and units go by clock references that agree with the rate.
 pub fn carried_as_measured()
     ensures { AsMeasuredLaw }
 {}
 
-/// States the same for the output of a multiplexer, if the buffers begin so; and they do if no unit is due before 2 s after the begin, as long
-/// as the view looks for clock references on the PID of a program's.
+/// States the same for the output of a multiplexer, if the buffers begin so; and they do if no unit is due before 2 s
+/// after the begin, as long as the view looks for clock references on the PID of a program's.
 pub fn muxed_as_measured()
     ensures run { RunAsMeasuredLaw }
     ensures jobs { JobAsMeasuredLaw }

@@ -1,7 +1,7 @@
 //! What the report on a stream says is so of all its packets: laws, no code.
 //!
-//! Each function here does nothing: its contract is the law, over the definitions of `ts_report`, `tstd` and `mux_core`.
-//! Definitions in `specs/`:
+//! Each function here does nothing: its contract is the law, over the definitions of `ts_report`, `tstd` and
+//! `mux_core`. Definitions in `specs/`:
 //! - `StreamPackets`: which packets are a stream's, and how its buffers see them; `StreamUnits`: which units they carry.
 //! - `WholeStreams`: what a stream's last lines say of all its packets at a constant rate; `TimedStreams`: whichever way they arrive.
 //! - `WindowLows`, `HeldWindows`: the least that a window's line says of a main buffer; `ClockedWindows`: the same by clock references.
@@ -9,6 +9,7 @@
 //! - `MainExcesses`: when a main buffer has no excess; `MeasuredStreams`: what measuring the same bytes finds.
 //! - `MuxedStreams`, `ViewedRuns`: a multiplexer's output, with no late unit and no main buffer too full, and when its tables come first.
 //! - `VideoExcesses`: a multiplexer's output, with neither buffer of video too full.
+//! - `FrameExcesses`: a multiplexer's output, with no main buffer of sound too full that is viewed by access units.
 //! - `CarriedStreams`: which packets carry units, and their clock references; `AsMeasured`: when the figures equal the measured numbers.
 //!
 //! - [`laws`]: the last lines of a stream are about all packets of its PID and say no more than the measured numbers, and the same numbers

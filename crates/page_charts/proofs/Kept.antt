@@ -1,5 +1,6 @@
 -- Curves one by one, beside the values that are kept of them.
-use Rattle.std.proofs.Common.{◌≡◌, ◌≢◌, ◌∙◌, sym, ℕ, zero, suc, ◌+◌, ◌==◌, ◌<◌, ◌≤◌, Bool, true, false, cond, List, [], ◌∷◌, ◌++◌, length, set, take, drop, Option, Some, None, Result, Ok, Err, refl, ap, subst, arith}
+use Rattle.std.proofs.Common.{◌≡◌, ◌≢◌, ◌∙◌, sym, ℕ, zero, suc, ◌+◌, ◌==◌, ◌<◌, ◌≤◌, Bool, true, false, cond, List, [], ◌∷◌, ◌++◌, length, set, take, drop}
+use Rattle.std.proofs.Common.{Option, Some, None, Result, Ok, Err, refl, ap, subst, arith}
 use Rattle.std.proofs.lemmas.Bool.Decides.{nat_tests}
 use Rattle.std.specs.Prelude.{slice_get, OnOk, ◌||◌, nat_le}
 use Rattle.page_charts.specs.Curves.{Sample, IsCurve}
@@ -46,7 +47,8 @@ same_length (e ∷ es) (k ∷ ks) a = ap suc (same_length es ks a.1)
 
 -- 2. One more, and one that changes
 
-pub one_more : (es : List PidCurve) (ks : List KeptCurve) (e : PidCurve) (k : KeptCurve) → AreCurves es ks → IsKept e k → AreCurves (es ++ e ∷ []) (ks ++ k ∷ [])
+pub one_more : (es : List PidCurve) (ks : List KeptCurve) (e : PidCurve) (k : KeptCurve) → AreCurves es ks → IsKept e k →
+    AreCurves (es ++ e ∷ []) (ks ++ k ∷ [])
 unfolding AreCurves
 one_more [] [] e k a i = (i, tt)
 one_more [] (l ∷ ks) e k a i = absurd a
@@ -62,7 +64,8 @@ pub begins : (es : List PidCurve) (ks : List KeptCurve) (pid : ℕ) (s : Sample)
 begins es ks pid s a = record { are = a; none = refl }
 
 -- the walk passes one of another PID
-passed : (es : List PidCurve) (ks : List KeptCurve) (pid n : ℕ) (s : Sample) (e : PidCurve) → AreCurves es ks → slice_get es n ≡ Some e → (e.pid == pid) ≡ false →
+passed : (es : List PidCurve) (ks : List KeptCurve) (pid n : ℕ) (s : Sample) (e : PidCurve) → AreCurves es ks → slice_get es n ≡ Some e →
+    (e.pid == pid) ≡ false →
     take n ks ++ with_sample pid s (drop n ks) ≡ take (suc n) ks ++ with_sample pid s (drop (suc n) ks)
 unfolding AreCurves with_sample
 passed [] ks pid n s e a at other = absurd cc
@@ -73,13 +76,15 @@ passed (d ∷ es) (k ∷ ks) pid zero s e a at other =
     rw not refl
 passed (d ∷ es) (k ∷ ks) pid (suc n) s e a at other = ap (λ (t : List KeptCurve). k ∷ t) (passed es ks pid n s e a.1 at other)
 
-pub goes_on : (es : List PidCurve) (ks : List KeptCurve) (pid n : ℕ) (s : Sample) (e : PidCurve) → slice_get es n ≡ Some e → e.pid ≢ pid → Walks es ks pid s n → Walks es ks pid s (n + 1)
+pub goes_on : (es : List PidCurve) (ks : List KeptCurve) (pid n : ℕ) (s : Sample) (e : PidCurve) → slice_get es n ≡ Some e → e.pid ≢ pid → Walks es ks pid s n →
+    Walks es ks pid s (n + 1)
 goes_on es ks pid n s e at other w =
     let next : suc n ≡ n + 1 = omega arith in
     subst (Walks es ks pid s) next (record { are = w.are; none = w.none ∙ passed es ks pid n s e w.are at (differs e.pid pid other) })
 
 -- it stops at the first of the PID
-changed : (es : List PidCurve) (ks : List KeptCurve) (pid n : ℕ) (s : Sample) (e e' : PidCurve) → AreCurves es ks → slice_get es n ≡ Some e → (e.pid == pid) ≡ true →
+changed : (es : List PidCurve) (ks : List KeptCurve) (pid n : ℕ) (s : Sample) (e e' : PidCurve) → AreCurves es ks → slice_get es n ≡ Some e →
+    (e.pid == pid) ≡ true →
     e'.pid ≡ e.pid → e'.name ≡ e.name → e'.limit ≡ e.limit → ((samples : List Sample) → IsCurve e.curve samples → IsCurve e'.curve (s ∷ samples)) →
     AreCurves (set es n e') (take n ks ++ with_sample pid s (drop n ks))
 unfolding AreCurves with_sample
@@ -98,7 +103,8 @@ stops : (es : List PidCurve) (ks : List KeptCurve) (pid n : ℕ) (s : Sample) (e
 stops es ks pid n s e e' at it p q r takes w = subst (AreCurves (set es n e')) (sym w.none) (changed es ks pid n s e e' w.are at it p q r takes)
 
 -- if there was memory for the value
-pub stops_ok : {V E : Type 0} (r : Result V E) (es : List PidCurve) (ks : List KeptCurve) (pid n : ℕ) (s : Sample) (e e' : PidCurve) → slice_get es n ≡ Some e → e.pid ≡ pid →
+pub stops_ok : {V E : Type 0} (r : Result V E) (es : List PidCurve) (ks : List KeptCurve) (pid n : ℕ) (s : Sample) (e e' : PidCurve) → slice_get es n ≡ Some e →
+    e.pid ≡ pid →
     e'.pid ≡ e.pid → e'.name ≡ e.name → e'.limit ≡ e.limit → ((samples : List Sample) → IsCurve e.curve samples → OnOk r (IsCurve e'.curve (s ∷ samples))) →
     Walks es ks pid s n → OnOk r (AreCurves (set es n e') (with_sample pid s ks))
 stops_ok (Ok v) es ks pid n s e e' at it p q r takes w = stops es ks pid n s e e' at (equals e.pid pid it) p q r takes w
@@ -117,13 +123,15 @@ ends es ks pid n s e w = subst (AreCurves es) (sym (w.none ∙ past ks pid n s (
 
 -- 3. Looking for a PID
 
-pub has_found : (rest after : List PidCurve) (e : PidCurve) (pid : ℕ) (whole : Bool) → rest ≡ e ∷ after → e.pid ≡ pid → entry_has pid rest ≡ whole → true ≡ whole
+pub has_found : (rest after : List PidCurve) (e : PidCurve) (pid : ℕ) (whole : Bool) → rest ≡ e ∷ after → e.pid ≡ pid → entry_has pid rest ≡ whole →
+    true ≡ whole
 unfolding entry_has
 has_found rest after e pid whole same it before =
     let one : entry_has pid (e ∷ after) ≡ true = rw (equals e.pid pid it) refl in
     sym one ∙ sym (ap (entry_has pid) same) ∙ before
 
-pub has_passed : (rest after : List PidCurve) (e : PidCurve) (pid : ℕ) (whole : Bool) → rest ≡ e ∷ after → e.pid ≢ pid → entry_has pid rest ≡ whole → entry_has pid after ≡ whole
+pub has_passed : (rest after : List PidCurve) (e : PidCurve) (pid : ℕ) (whole : Bool) → rest ≡ e ∷ after → e.pid ≢ pid → entry_has pid rest ≡ whole →
+    entry_has pid after ≡ whole
 unfolding entry_has
 has_passed rest after e pid whole same other before =
     let one : entry_has pid (e ∷ after) ≡ entry_has pid after = rw (differs e.pid pid other) refl in
@@ -133,13 +141,15 @@ pub has_none : (rest : List PidCurve) (pid : ℕ) (whole : Bool) → rest ≡ []
 unfolding entry_has
 has_none rest pid whole same before = sym (ap (entry_has pid) same) ∙ before
 
-pub name_found : (rest after : List PidCurve) (e : PidCurve) (pid : ℕ) (whole : Option PidName) → rest ≡ e ∷ after → e.pid ≡ pid → entry_name pid rest ≡ whole → Some e.name ≡ whole
+pub name_found : (rest after : List PidCurve) (e : PidCurve) (pid : ℕ) (whole : Option PidName) → rest ≡ e ∷ after → e.pid ≡ pid → entry_name pid rest ≡ whole →
+    Some e.name ≡ whole
 unfolding entry_name
 name_found rest after e pid whole same it before =
     let one : entry_name pid (e ∷ after) ≡ Some e.name = rw (equals e.pid pid it) refl in
     sym one ∙ sym (ap (entry_name pid) same) ∙ before
 
-pub name_passed : (rest after : List PidCurve) (e : PidCurve) (pid : ℕ) (whole : Option PidName) → rest ≡ e ∷ after → e.pid ≢ pid → entry_name pid rest ≡ whole → entry_name pid after ≡ whole
+pub name_passed : (rest after : List PidCurve) (e : PidCurve) (pid : ℕ) (whole : Option PidName) → rest ≡ e ∷ after → e.pid ≢ pid →
+    entry_name pid rest ≡ whole → entry_name pid after ≡ whole
 unfolding entry_name
 name_passed rest after e pid whole same other before =
     let one : entry_name pid (e ∷ after) ≡ entry_name pid after = rw (differs e.pid pid other) refl in
@@ -164,7 +174,8 @@ full es ks pid many a =
     tested : (a b : ℕ) → a ≤ b → nat_le a b ≡ true
     tested a b le = grind (arith, nat_tests)
 
-pub not_full : (es : List PidCurve) (ks : List KeptCurve) (pid : ℕ) (has : Bool) → length es < 32 → has ≡ has_pid pid ks → AreCurves es ks → has ≡ is_closed pid ks
+pub not_full : (es : List PidCurve) (ks : List KeptCurve) (pid : ℕ) (has : Bool) → length es < 32 → has ≡ has_pid pid ks → AreCurves es ks →
+    has ≡ is_closed pid ks
 not_full es ks pid has few is a =
     let there : nat_le 32 (length ks) ≡ false = tested 32 (length ks) (omega (arith, few, same_length es ks a)) in
     rw there is
@@ -172,14 +183,17 @@ not_full es ks pid has few is a =
     tested : (a b : ℕ) → b < a → nat_le a b ≡ false
     tested a b lt = grind (arith, nat_tests)
 
-pub stays : (es : List PidCurve) (ks : List KeptCurve) (pid limit : ℕ) (name : PidName) (t : Bool) → t ≡ (nat_le 32 (length ks) || has_pid pid ks) → t ≡ true → AreCurves es ks →
+pub stays : (es : List PidCurve) (ks : List KeptCurve) (pid limit : ℕ) (name : PidName) (t : Bool) → t ≡ (nat_le 32 (length ks) || has_pid pid ks) → t ≡ true →
+    AreCurves es ks →
     AreCurves es (opened pid name limit ks)
 stays es ks pid limit name t is holds a =
     let here : (nat_le 32 (length ks) || has_pid pid ks) ≡ true = sym is ∙ holds in
     rw here a
 
-pub opens : (es : List PidCurve) (ks : List KeptCurve) (e : PidCurve) (t : Bool) → t ≡ (nat_le 32 (length ks) || has_pid e.pid ks) → t ≡ false → IsCurve e.curve [] → AreCurves es ks →
+pub opens : (es : List PidCurve) (ks : List KeptCurve) (e : PidCurve) (t : Bool) → t ≡ (nat_le 32 (length ks) || has_pid e.pid ks) → t ≡ false →
+    IsCurve e.curve [] → AreCurves es ks →
     AreCurves (es ++ e ∷ []) (opened e.pid e.name e.limit ks)
 opens es ks e t is fails curve a =
     let here : (nat_le 32 (length ks) || has_pid e.pid ks) ≡ false = sym is ∙ fails in
-    rw here (one_more es ks e (record { pid = e.pid; name = e.name; limit = e.limit; samples = [] }) a (record { pid = refl; name = refl; limit = refl; curve = curve }))
+    rw here (one_more es ks e (record { pid = e.pid; name = e.name; limit = e.limit; samples = [] }) a
+    (record { pid = refl; name = refl; limit = refl; curve = curve }))

@@ -1,5 +1,6 @@
 -- The bounds of twice as many windows are those of both halves.
-use Rattle.std.proofs.Common.{◌≡◌, ◌≢◌, ◌∙◌, ℕ, ◌+◌, ◌-◌, ◌*◌, ◌/◌, ◌^◌, ◌==◌, min, max, Bool, true, false, List, [], ◌∷◌, Option, Some, None, refl, sym, ap, ap₂, arith}
+use Rattle.std.proofs.Common.{◌≡◌, ◌≢◌, ◌∙◌, ℕ, ◌+◌, ◌-◌, ◌*◌, ◌/◌, ◌^◌, ◌==◌, min, max, Bool, true, false, List, [], ◌∷◌, Option, Some, None, refl, sym, ap}
+use Rattle.std.proofs.Common.{ap₂, arith}
 use Rattle.std.proofs.lemmas.Bool.Decides.{nat_tests}
 use Rattle.std.proofs.Math.Nat.{div-div-eq-div-mul, mul_comm}
 use Rattle.page_charts.specs.declared.bounds.Bounds.{Bounds}
@@ -21,12 +22,16 @@ min_assoc x y z = omega arith
 max_assoc : (x y z : ℕ) → max (max x y) z ≡ max x (max y z)
 max_assoc x y z = omega arith
 
-same_bounds : (c c' l l' g g' : ℕ) → c ≡ c' → l ≡ l' → g ≡ g' → (λ (x y z : ℕ). let b : Bounds = record { count = x; least = y; greatest = z } in b) c l g ≡ (λ (x y z : ℕ). let b : Bounds = record { count = x; least = y; greatest = z } in b) c' l' g'
+same_bounds : (c c' l l' g g' : ℕ) → c ≡ c' → l ≡ l' → g ≡ g' →
+    (λ (x y z : ℕ). let b : Bounds = record { count = x; least = y; greatest = z } in b) c l g ≡
+    (λ (x y z : ℕ). let b : Bounds = record { count = x; least = y; greatest = z } in b) c' l' g'
 same_bounds c c' l l' g g' p q r = rw (p, q, r) refl
 
 both_assoc : (a b c : Bounds) → both (both a b) c ≡ both a (both b c)
-both_assoc a b c = same_bounds (min (min (a.count + b.count) (2 ^ 64 - 1) + c.count) (2 ^ 64 - 1)) (min (a.count + min (b.count + c.count) (2 ^ 64 - 1)) (2 ^ 64 - 1))
-    (min (min a.least b.least) c.least) (min a.least (min b.least c.least)) (max (max a.greatest b.greatest) c.greatest) (max a.greatest (max b.greatest c.greatest))
+both_assoc a b c =
+    same_bounds (min (min (a.count + b.count) (2 ^ 64 - 1) + c.count) (2 ^ 64 - 1)) (min (a.count + min (b.count + c.count) (2 ^ 64 - 1)) (2 ^ 64 - 1))
+    (min (min a.least b.least) c.least) (min a.least (min b.least c.least)) (max (max a.greatest b.greatest) c.greatest)
+    (max a.greatest (max b.greatest c.greatest))
     (count_assoc a.count b.count c.count (2 ^ 64 - 1)) (min_assoc a.least b.least c.least) (max_assoc a.greatest b.greatest c.greatest)
 
 sum_comm : (x y m : ℕ) → min (x + y) m ≡ min (y + x) m
@@ -86,4 +91,5 @@ merged span slot [] = refl
 merged span slot (x ∷ xs) =
     ap (λ (q : ℕ). joined (value_if (q == slot) x.value) (bounds_in (2 * span) slot xs)) (quotient x.number span)
     ∙ ap₂ joined (value_halved (x.number / span) slot x.value) (merged span slot xs)
-    ∙ joined_across (value_if (x.number / span == 2 * slot) x.value) (value_if (x.number / span == 2 * slot + 1) x.value) (bounds_in span (2 * slot) xs) (bounds_in span (2 * slot + 1) xs)
+    ∙ joined_across (value_if (x.number / span == 2 * slot) x.value) (value_if (x.number / span == 2 * slot + 1) x.value) (bounds_in span (2 * slot) xs)
+    (bounds_in span (2 * slot + 1) xs)

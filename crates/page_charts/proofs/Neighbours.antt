@@ -1,5 +1,6 @@
 -- Slots that are joined with the ones after them, in place.
-use Rattle.std.proofs.Common.{◌≡◌, ◌≢◌, ◌∙◌, ℕ, ◌+◌, ◌*◌, ◌==◌, ◌<◌, ◌≤◌, ◌⊎◌, inl, inr, Bool, true, false, List, [], ◌∷◌, length, get_or, set, take, drop, min, max, ◌/◌, Option, None, refl, sym, ap, ap₂, subst, arith}
+use Rattle.std.proofs.Common.{◌≡◌, ◌≢◌, ◌∙◌, ℕ, ◌+◌, ◌*◌, ◌==◌, ◌<◌, ◌≤◌, ◌⊎◌, inl, inr, Bool, true, false, List, [], ◌∷◌, length, get_or, set, take, drop, min}
+use Rattle.std.proofs.Common.{max, ◌/◌, Option, None, refl, sym, ap, ap₂, subst, arith}
 use Rattle.std.proofs.lemmas.Bool.{cases_lt}
 use Rattle.std.proofs.lemmas.List.{get_or-set_same, get_or-set_other, get_or-take, get_or_past, length-take}
 use Rattle.page_charts.specs.declared.bounds.Bounds.{Bounds}
@@ -16,7 +17,8 @@ pub record Joins (now before : List (Option Bounds)) (n : ℕ) : Type 0 where
 pub joins_none : (before : List (Option Bounds)) → Joins before before 0
 joins_none before = record { same_length = refl; done = λ k less. absurd (omega (arith, less)); others = λ k le. refl }
 
-pub joins_more : (now before : List (Option Bounds)) (i : ℕ) (x : Option Bounds) → i < length now → x ≡ joined (get_or now (2 * i) None) (get_or now (2 * i + 1) None) →
+pub joins_more : (now before : List (Option Bounds)) (i : ℕ) (x : Option Bounds) → i < length now →
+    x ≡ joined (get_or now (2 * i) None) (get_or now (2 * i + 1) None) →
     length (set now i x) ≡ length now → Joins now before i → Joins (set now i x) before (i + 1)
 joins_more now before i x lt is keeps j = record {
   same_length = keeps ∙ j.same_length;
@@ -51,7 +53,8 @@ joins_all now before count half j slot = by (cases_lt slot count)
         none ∙ sym (ap₂ joined first second)
 
 -- the greatest of what is left of the slots
-pub greatest_more : (rest after : List (Option Bounds)) (b : Option Bounds) (g x m whole : ℕ) → x ≡ greatest_in b → m ≡ max g x → rest ≡ b ∷ after → max g (greatest_of rest) ≡ whole →
+pub greatest_more : (rest after : List (Option Bounds)) (b : Option Bounds) (g x m whole : ℕ) → x ≡ greatest_in b → m ≡ max g x → rest ≡ b ∷ after →
+    max g (greatest_of rest) ≡ whole →
     max m (greatest_of after) ≡ whole
 unfolding greatest_of
 greatest_more rest after b g x m whole is more same before =

@@ -5,14 +5,16 @@ use Rattle.page_charts.specs.declared.pid_curves.PidCurve.{PidCurve}
 use Rattle.page_charts.specs.Scale.{reaches, scale_among}
 use Rattle.page_charts.specs.PidCurves.{greatest_in, greatest_value}
 
-pub found : (rest after : List ℕ) (s g whole : ℕ) (t : Bool) → rest ≡ s ∷ after → t ≡ reaches s g → t ≡ true → scale_among rest g ≡ whole → min s GREATEST_VALUE ≡ whole
+pub found : (rest after : List ℕ) (s g whole : ℕ) (t : Bool) → rest ≡ s ∷ after → t ≡ reaches s g → t ≡ true → scale_among rest g ≡ whole →
+    min s GREATEST_VALUE ≡ whole
 unfolding scale_among
 found rest after s g whole t same is holds before =
     let here : reaches s g ≡ true = sym is ∙ holds in
     let one : scale_among (s ∷ after) g ≡ min s GREATEST_VALUE = rw here refl in
     sym one ∙ sym (ap (λ (r : List ℕ). scale_among r g) same) ∙ before
 
-pub passed : (rest after : List ℕ) (s g whole : ℕ) (t : Bool) → rest ≡ s ∷ after → t ≡ reaches s g → t ≡ false → scale_among rest g ≡ whole → scale_among after g ≡ whole
+pub passed : (rest after : List ℕ) (s g whole : ℕ) (t : Bool) → rest ≡ s ∷ after → t ≡ reaches s g → t ≡ false → scale_among rest g ≡ whole →
+    scale_among after g ≡ whole
 unfolding scale_among
 passed rest after s g whole t same is fails before =
     let here : reaches s g ≡ false = sym is ∙ fails in
@@ -23,7 +25,8 @@ pub none : (rest : List ℕ) (g whole : ℕ) → rest ≡ [] → scale_among res
 unfolding scale_among
 none rest g whole same before = sym (ap (λ (r : List ℕ). scale_among r g) same) ∙ before
 
-pub greatest_more : (rest after : List PidCurve) (e : PidCurve) (g x m whole : ℕ) → x ≡ greatest_in e → m ≡ max g x → rest ≡ e ∷ after → max g (greatest_value rest) ≡ whole →
+pub greatest_more : (rest after : List PidCurve) (e : PidCurve) (g x m whole : ℕ) → x ≡ greatest_in e → m ≡ max g x → rest ≡ e ∷ after →
+    max g (greatest_value rest) ≡ whole →
     max m (greatest_value after) ≡ whole
 unfolding greatest_value
 greatest_more rest after e g x m whole is more same before =

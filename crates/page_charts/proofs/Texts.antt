@@ -6,10 +6,12 @@ pub two : {V E : Type 0} (r : Result V E) (old one new a b : List ℕ) → one �
 two (Ok v) old one new a b first last = last ∙ ap (λ (t : List ℕ). t ++ b) first ∙ append_assoc old a b
 two (Err e) old one new a b first last = tt
 
-pub three : {V E : Type 0} (r : Result V E) (old one other new a b c : List ℕ) → one ≡ old ++ a → other ≡ one ++ b → OnOk r (new ≡ other ++ c) → OnOk r (new ≡ old ++ (a ++ (b ++ c)))
+pub three : {V E : Type 0} (r : Result V E) (old one other new a b c : List ℕ) → one ≡ old ++ a → other ≡ one ++ b → OnOk r (new ≡ other ++ c) →
+    OnOk r (new ≡ old ++ (a ++ (b ++ c)))
 three r old one other new a b c first second last = two r old one new a (b ++ c) first (two r one other new b c second last)
 
-pub four : {V E : Type 0} (r : Result V E) (old one other more new a b c d : List ℕ) → one ≡ old ++ a → other ≡ one ++ b → more ≡ other ++ c → OnOk r (new ≡ more ++ d) →
+pub four : {V E : Type 0} (r : Result V E) (old one other more new a b c d : List ℕ) → one ≡ old ++ a → other ≡ one ++ b → more ≡ other ++ c →
+    OnOk r (new ≡ more ++ d) →
     OnOk r (new ≡ old ++ (a ++ (b ++ (c ++ d))))
 four r old one other more new a b c d first second third last = two r old one new a (b ++ (c ++ d)) first (three r one other more new b c d second third last)
 

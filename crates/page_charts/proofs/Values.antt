@@ -1,5 +1,6 @@
 -- The values of a curve and the bounds of its slots.
-use Rattle.std.proofs.Common.{◌≡◌, ◌∙◌, ℕ, ◌/◌, ◌==◌, ◌<◌, ◌≤◌, ◌⊎◌, inl, inr, min, max, Bool, true, false, List, [], ◌∷◌, Option, Some, None, refl, sym, ap, subst, arith}
+use Rattle.std.proofs.Common.{◌≡◌, ◌∙◌, ℕ, ◌/◌, ◌==◌, ◌<◌, ◌≤◌, ◌⊎◌, inl, inr, min, max, Bool, true, false, List, [], ◌∷◌, Option, Some, None, refl, sym, ap}
+use Rattle.std.proofs.Common.{subst, arith}
 use Rattle.std.proofs.lemmas.Bool.Decides.{nat_tests}
 use Rattle.page_charts.specs.declared.bounds.Bounds.{Bounds}
 use Rattle.page_charts.specs.Bounds.{both, joined, one_value, value_if}
@@ -81,7 +82,8 @@ unfolding bounds_in joined
 taken_on span slot [] b e = absurd cc
 taken_on span slot (x ∷ xs) b e = by (λ c f. taken_on span slot xs c f) (x.number / span == slot) refl (bounds_in span slot xs) refl e
   where
-    by : ((c : Bounds) → bounds_in span slot xs ≡ Some c → Both xs span slot c) → (t : Bool) → (x.number / span == slot) ≡ t → (r : Option Bounds) → bounds_in span slot xs ≡ r → joined (value_if t x.value) r ≡ Some b → Both (x ∷ xs) span slot b
+    by : ((c : Bounds) → bounds_in span slot xs ≡ Some c → Both xs span slot c) → (t : Bool) → (x.number / span == slot) ≡ t → (r : Option Bounds) →
+        bounds_in span slot xs ≡ r → joined (value_if t x.value) r ≡ Some b → Both (x ∷ xs) span slot b
     by before false here r rest e =
         let old = before b (rest ∙ e) in
         (later x xs span slot b.least old.0, later x xs span slot b.greatest old.1)

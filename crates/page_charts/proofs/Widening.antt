@@ -1,5 +1,6 @@
 -- A curve whose slots come to stand for more windows, and to which a value comes.
-use Rattle.std.proofs.Common.{◌≡◌, ◌∙◌, ℕ, zero, suc, ◌+◌, ◌-◌, ◌*◌, ◌/◌, ◌^◌, ◌==◌, ◌<◌, ◌≤◌, ◌⊎◌, inl, inr, max, Bool, true, false, List, [], ◌∷◌, ◌++◌, length, get_or, set, take, Option, Some, None, refl, sym, ap, ap₂, subst, arith}
+use Rattle.std.proofs.Common.{◌≡◌, ◌∙◌, ℕ, zero, suc, ◌+◌, ◌-◌, ◌*◌, ◌/◌, ◌^◌, ◌==◌, ◌<◌, ◌≤◌, ◌⊎◌, inl, inr, max, Bool, true, false, List, [], ◌∷◌, ◌++◌}
+use Rattle.std.proofs.Common.{length, get_or, set, take, Option, Some, None, refl, sym, ap, ap₂, subst, arith}
 use Rattle.std.proofs.lemmas.List.{get_or_past, get_or-set_same, get_or-set_other, get_or-take, get_or_push, get_or_append_left}
 use Rattle.page_charts.specs.declared.bounds.Bounds.{Bounds}
 use Rattle.page_charts.specs.Bounds.{joined, one_value, value_if}
@@ -47,7 +48,8 @@ below n span pos few = grind (arith)
 pub beyond : (n span : ℕ) → 0 < span → 512 ≤ n / span → 512 * span < n + 1
 beyond n span pos many = grind (arith)
 
-pub widened : (curve : CurveView) (samples : List Sample) (number : ℕ) → Widens curve samples (max (number + 1) (next_of samples)) → 0 < curve.span → number / curve.span < 512 →
+pub widened : (curve : CurveView) (samples : List Sample) (number : ℕ) → Widens curve samples (max (number + 1) (next_of samples)) → 0 < curve.span →
+    number / curve.span < 512 →
     HasSlots curve samples (max (number + 1) (next_of samples))
 widened curve samples number w pos few = record {
   span = record { power = w.power; room = omega (arith, w.room, below number curve.span pos few); needed = w.needed };
@@ -67,8 +69,10 @@ put_slot slots s v x lt is i = by (s == i) refl
         (get_or-set_same slots s (joined (Some (one_value v)) x) None lt ∙ ap (joined (Some (one_value v))) is)
     by false e = get_or-set_other slots s i (joined (Some (one_value v)) x) None (λ same. unequal s i e (sym same))
 
-pub with_value : (old new : CurveView) (samples : List Sample) (number value slot : ℕ) → HasSlots old samples (max (number + 1) (next_of samples)) → slot ≡ number / old.span →
-    new.span ≡ old.span → ((i : ℕ) → slot_at new.slots i ≡ joined (value_if (slot == i) value) (slot_at old.slots i)) → IsCurve new (sample number value ∷ samples)
+pub with_value : (old new : CurveView) (samples : List Sample) (number value slot : ℕ) → HasSlots old samples (max (number + 1) (next_of samples)) →
+    slot ≡ number / old.span →
+    new.span ≡ old.span → ((i : ℕ) → slot_at new.slots i ≡ joined (value_if (slot == i) value) (slot_at old.slots i)) →
+    IsCurve new (sample number value ∷ samples)
 unfolding next_of bounds_in
 with_value old new samples number value slot has place span slots = record {
   span = subst (λ (n : ℕ). IsSpan n (max (number + 1) (next_of samples))) (sym span) has.span;

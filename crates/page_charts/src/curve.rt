@@ -9,7 +9,8 @@ use crate::slots::{MOST_SLOTS, greatest_of, join_neighbours, slot_at};
 use std::alloc::{AllocError, Global};
 use std::marker::Model;
 
-/// Values of windows: a slot has the bounds of `span` windows in a row, the first slot the bounds of the windows from 0 on.
+/// Values of windows: a slot has the bounds of `span` windows in a row, the first slot the bounds of the windows from 0
+/// on.
 ///
 /// After an `AllocError` it may have more slots, which have no values.
 #[derive(Drop)]

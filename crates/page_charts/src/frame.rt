@@ -1,6 +1,6 @@
 //! The scales of a picture.
-/// What a picture's values are: bit rates, in bits a second, where a window without a value has none of them; numbers of bytes; or times
-/// in microseconds. A window without a byte or a unit says nothing of these.
+/// What a picture's values are: bit rates, in bits a second, where a window without a value has none of them; numbers
+/// of bytes; or times in microseconds. A window without a byte or a unit says nothing of these.
 #[derive(Clone, Copy)]
 pub enum ChartUnit {
     BitRate,
@@ -8,7 +8,8 @@ pub enum ChartUnit {
     Time,
 }
 
-/// The scales of a picture: at most 2^38 windows of at most 2^22 milliseconds each, and values from 0 to `top`, 10^15 at most.
+/// The scales of a picture: at most 2^38 windows of at most 2^22 milliseconds each, and values from 0 to `top`, 10^15
+/// at most.
 #[derive(Clone, Copy)]
 pub struct Frame {
     pub unit: ChartUnit,

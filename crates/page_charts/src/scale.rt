@@ -81,7 +81,8 @@ fn scale_among(scales: &[u64], greatest: u64) -> u64
     GREATEST_VALUE
 }
 
-/// Where a scale ends on which values up to this one lie: the least of 10, 20, 50, 100, .. that is not less; 10^15 where none is.
+/// Where a scale ends on which values up to this one lie: the least of 10, 20, 50, 100, .. that is not less; 10^15
+/// where none is.
 pub(crate) fn scale_for(greatest: u64) -> u64
     ensures same { result ≡ spec.scale_for greatest }
     ensures bound { result ≤ 10 ^ 15 }

@@ -6,7 +6,8 @@ use Rattle.word_faults.specs.SortedWords.{are_taken}
 use Rattle.word_faults.specs.UsageReport.{AnswersWords}
 use Rattle.devices.specs.Devices.{Device, IsUntouched, Port, between}
 use Rattle.devices.specs.Files.{Files}
-use Rattle.tsjob_cli.specs.Command.{Answers, Commands, LacksWords, Outputs, PerformsWords, Saves, ToFile, WritesTo, explains_files, known_words, output_file, words_but_output}
+use Rattle.tsjob_cli.specs.Command.{Answers, Commands, LacksWords, Outputs, PerformsWords, Saves, ToFile, WritesTo, explains_files, known_words, output_file}
+use Rattle.tsjob_cli.specs.Command.{words_but_output}
 use Rattle.tsjob_cli.specs.Explaining.{ExplainsFiles}
 use Rattle.tsjob_cli.specs.FileWords.{file_words}
 use Rattle.tsjob_cli.specs.MadeJobs.{MakesJob}
@@ -15,24 +16,31 @@ use Rattle.tsjob_cli.specs.Options.{usage_text}
 both : (b : Bool) → b ≡ true → b ≡ false → ⊥
 both b is unlike = let clash : true ≡ false = sym is ∙ unlike in absurd cc
 
-pub to_file : (creates : Option Bool) (name : Text) (words : List Text) (files : Files) (input : Device) (before mid after : Port) (bytes : List ℕ) (made status : ℕ) →
-    MakesJob words files input (between before mid) bytes made → Saves creates name bytes made (between mid after) status → ToFile creates name words files input (between before after) status
-to_file creates name words files input before mid after bytes made status makes saves = record { bytes = bytes; made = made; told = mid; makes = makes; saves = saves }
+pub to_file : (creates : Option Bool) (name : Text) (words : List Text) (files : Files) (input : Device) (before mid after : Port) (bytes : List ℕ)
+    (made status : ℕ) →
+    MakesJob words files input (between before mid) bytes made → Saves creates name bytes made (between mid after) status →
+    ToFile creates name words files input (between before after) status
+to_file creates name words files input before mid after bytes made status makes saves =
+    record { bytes = bytes; made = made; told = mid; makes = makes; saves = saves }
 
 -- the name and the words are those that are asked for
-pub performed : (outputs : Outputs) (words job : List Text) (name : Option Text) (files : Files) (input output faults : Device) (status : ℕ) → name ≡ output_file words →
+pub performed : (outputs : Outputs) (words job : List Text) (name : Option Text) (files : Files) (input output faults : Device) (status : ℕ) →
+    name ≡ output_file words →
     job ≡ words_but_output words → WritesTo outputs name job files input output faults status → PerformsWords outputs words files input output faults status
 performed outputs words job name files input output faults status named is writes =
     inl (subst (λ (n : Option Text). WritesTo outputs n (words_but_output words) files input output faults status) named
     (subst (λ (ws : List Text). WritesTo outputs name ws files input output faults status) is writes))
 
-pub explained : (outputs : Outputs) (words : List Text) (files : Files) (input output faults : Device) (status : ℕ) → explains_files words ≡ true → IsUntouched input →
+pub explained : (outputs : Outputs) (words : List Text) (files : Files) (input output faults : Device) (status : ℕ) → explains_files words ≡ true →
+    IsUntouched input →
     ExplainsFiles files (file_words words) output faults status → Answers outputs words files input output faults status
-explained outputs words files input output faults status is unread e = record { explains = λ yes. (e, unread); performs = λ no. absurd (both (explains_files words) is no) }
+explained outputs words files input output faults status is unread e =
+    record { explains = λ yes. (e, unread); performs = λ no. absurd (both (explains_files words) is no) }
 
 pub not_explained : (outputs : Outputs) (words : List Text) (files : Files) (input output faults : Device) (status : ℕ) → explains_files words ≡ false →
     PerformsWords outputs words files input output faults status → Answers outputs words files input output faults status
-not_explained outputs words files input output faults status isnt p = record { explains = λ yes. absurd (both (explains_files words) yes isnt); performs = λ no. p }
+not_explained outputs words files input output faults status isnt p =
+    record { explains = λ yes. absurd (both (explains_files words) yes isnt); performs = λ no. p }
 
 -- words are sorted
 pub commanded : (outputs : Outputs) (shown sorted : List Text) (files : Files) (input output faults : Device) (status : ℕ) → shown ≡ sorted →

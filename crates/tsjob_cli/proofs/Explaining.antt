@@ -9,7 +9,7 @@ use Rattle.devices.specs.Runs.{Performs}
 use Rattle.devices.specs.WholeInput.{ReadsInput}
 use Rattle.devices.specs.declared.halt.Halt.TheVariants as halt
 use Rattle.devices.proofs.Performances.{no_room, performed, unwritten}
-use Rattle.diagnosis.specs.Explained.{IsExplained}
+use Rattle.explained_jobs.specs.JobWords.{IsJobExplained}
 use Rattle.named_files.specs.ReadFiles.{HaveBytes, StopsAtOne}
 use Rattle.tsjob_cli.specs.Explaining.{ExplainLeads, ExplainsFiles, status_of}
 use Rattle.job_run.specs.Outcomes.{IsWritten}
@@ -23,14 +23,16 @@ pub no_memory_left : (bytes : List ℕ) (input output faults : Device) (status :
     ReadsInput input (Ok bytes) → IsUntouched output → Reports faults (halt_line halt.Memory) → status ≡ 3 → Performs ExplainLeads input output faults status
 no_memory_left bytes input output faults status r u m s = no_room ExplainLeads bytes input output faults status r u m s
 
-pub leads : (bytes lines : List ℕ) (o : Outcome) (status : ℕ) → IsExplained bytes lines → status ≡ status_of lines → o ≡ record { output = lines; report = []; status = status } →
+pub leads : (bytes lines : List ℕ) (o : Outcome) (status : ℕ) → IsJobExplained bytes lines → status ≡ status_of lines →
+    o ≡ record { output = lines; report = []; status = status } →
     ExplainLeads bytes o
 leads bytes lines o status explained status_is is =
     record { lines = lines; explained = explained; is = is ∙ ap (λ (n : ℕ). record { output = lines; report = []; status = n }) status_is }
 
 -- of files
 
-pub files_explained : (files : Files) (names : List Text) (bytes shown : List ℕ) (o : Outcome) (output : Device) (before later after : Port) (status : ℕ) → HaveBytes files names bytes → shown ≡ bytes →
+pub files_explained : (files : Files) (names : List Text) (bytes shown : List ℕ) (o : Outcome) (output : Device) (before later after : Port) (status : ℕ) →
+    HaveBytes files names bytes → shown ≡ bytes →
     later ≡ before → ExplainLeads shown o → IsWritten o output (between later after) status → ExplainsFiles files names output (between before after) status
 files_explained files names bytes shown o output before later after status have are same l w =
     inl (record {
@@ -41,7 +43,8 @@ files_explained files names bytes shown o output before later after status have 
       written = subst (λ (p : Port). IsWritten o output (between p after) status) same w;
     })
 
-pub files_unread : (files : Files) (names : List Text) (output faults : Device) (status : ℕ) → IsUntouched output → StopsAtOne files names faults status → ExplainsFiles files names output faults status
+pub files_unread : (files : Files) (names : List Text) (output faults : Device) (status : ℕ) → IsUntouched output → StopsAtOne files names faults status →
+    ExplainsFiles files names output faults status
 files_unread files names output faults status unwritten why = inr (record { unwritten = unwritten; why = inl why; status_is = why.status_is })
 
 pub files_no_memory : (files : Files) (names : List Text) (output : Device) (before later after : Port) (status : ℕ) → IsUntouched output → later ≡ before →

@@ -16,7 +16,8 @@ use Rattle.job_run.specs.StreamFiles.{PerformsFiles}
 use Rattle.tsjob_cli.specs.FileMark.{is_mark}
 use Rattle.tsjob_cli.specs.NamedInputs.{ReadsFiles}
 
-pub files_asked : (x : Option JobArgumentsView) (a b : JobArgumentsView) (files : Files) (names shown : List Text) (input output faults : Device) (status : ℕ) → Some a ≡ x → x ≡ Some b → shown ≡ names →
+pub files_asked : (x : Option JobArgumentsView) (a b : JobArgumentsView) (files : Files) (names shown : List Text) (input output faults : Device) (status : ℕ) →
+    Some a ≡ x → x ≡ Some b → shown ≡ names →
     IsUntouched input → PerformsFiles a files shown output faults status → ReadsFiles b files names input output faults status
 files_asked x a b files names shown input output faults status e f same unread performs =
     let both : Some a ≡ Some b = e ∙ f in
@@ -27,9 +28,11 @@ files_asked x a b files names shown input output faults status e f same unread p
           (subst (λ (l : List Text). PerformsFiles a files l output faults status) same performs);
     }
 
-pub no_memory_for_files : (a : JobArgumentsView) (files : Files) (names : List Text) (input output faults : Device) (status : ℕ) → IsUntouched input → IsUntouched output →
+pub no_memory_for_files : (a : JobArgumentsView) (files : Files) (names : List Text) (input output faults : Device) (status : ℕ) → IsUntouched input →
+    IsUntouched output →
     Reports faults (halt_line halt.Memory) → status ≡ 3 → ReadsFiles a files names input output faults status
-no_memory_for_files a files names input output faults status i o r s = record { unread = i; performs = inr (record { unwritten = o; reports = r; status_is = s }) }
+no_memory_for_files a files names input output faults status i o r s =
+    record { unread = i; performs = inr (record { unwritten = o; reports = r; status_is = s }) }
 
 pub some_and_none : {A : Type 0} (x : Option A) (a : A) → x ≡ Some a → x ≡ None → ⊥
 some_and_none x a is none = let both : None ≡ Some a = sym none ∙ is in absurd cc
@@ -42,7 +45,8 @@ first_marked w ws mark = rw mark refl
 first_other : (w : Text) (ws : List Text) → is_mark w ≡ false → position_or_len is_mark (w ∷ ws) ≡ 1 + position_or_len is_mark ws
 first_other w ws other = rw other refl
 
-mapped_at : (words : List (Bor (List ℕ))) (k : ℕ) (d : Bor (List ℕ)) (e : List ℕ) → k < length words → (get_or words k d).now ≡ get_or (map (λ s. s.now) words) k e
+mapped_at : (words : List (Bor (List ℕ))) (k : ℕ) (d : Bor (List ℕ)) (e : List ℕ) → k < length words →
+    (get_or words k d).now ≡ get_or (map (λ s. s.now) words) k e
 mapped_at [] k d e within = absurd (let no : ⊥ = omega (arith, within) in no)
 mapped_at (w ∷ ws) zero d e within = refl
 mapped_at (w ∷ ws) (suc k) d e within = mapped_at ws k d e (let less : k < length ws = omega (arith, within) in less)
@@ -59,7 +63,8 @@ word_here words k d within =
     from_here (map (λ s. s.now) words) k name inside (mapped_at words k d name within)
 
 pub mark_found : (words : List (Bor (List ℕ))) (k : ℕ) (d : Bor (List ℕ)) → k < length words → is_mark (get_or words k d).now ≡ true →
-    position_or_len is_mark (map (λ s. s.now) words) ≡ k + position_or_len is_mark (drop k (map (λ s. s.now) words)) → k ≡ position_or_len is_mark (map (λ s. s.now) words)
+    position_or_len is_mark (map (λ s. s.now) words) ≡ k + position_or_len is_mark (drop k (map (λ s. s.now) words)) →
+    k ≡ position_or_len is_mark (map (λ s. s.now) words)
 mark_found words k d within mark so =
     let names = map (λ s. s.now) words in
     let here : position_or_len is_mark (drop k names) ≡ 0 =

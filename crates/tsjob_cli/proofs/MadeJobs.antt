@@ -6,6 +6,7 @@ use Rattle.devices.specs.Files.{Files}
 use Rattle.tsjob_cli.specs.MadeJobs.{MakesJob, RunsJob}
 
 -- the job is made
-pub made : (words : List Text) (files : Files) (input job faults : Device) (bytes : List ℕ) (status : ℕ) → job.before.bytes ≡ Some [] → job.after.bytes ≡ Some bytes →
+pub made : (words : List Text) (files : Files) (input job faults : Device) (bytes : List ℕ) (status : ℕ) → job.before.bytes ≡ Some [] →
+    job.after.bytes ≡ Some bytes →
     RunsJob words files input job faults status → MakesJob words files input faults bytes status
 made words files input job faults bytes status empty are runs = record { job = job; empty = empty; bytes_are = are; runs = runs }

@@ -1,5 +1,6 @@
 -- The streams of a description, and a stream that goes by it.
-use Rattle.std.proofs.Common.{◌≡◌, ◌∙◌, ◌<◌, ◌≤◌, ◌+◌, ◌++◌, ℕ, List, [], ◌∷◌, length, drop, get_or, Option, Some, None, true, Result, Ok, Err, refl, sym, ap, subst, add-one, inl, inr, arith}
+use Rattle.std.proofs.Common.{◌≡◌, ◌∙◌, ◌<◌, ◌≤◌, ◌+◌, ◌++◌, ℕ, List, [], ◌∷◌, length, drop, get_or, Option, Some, None, true, Result, Ok, Err, refl, sym, ap}
+use Rattle.std.proofs.Common.{subst, add-one, inl, inr, arith}
 use Rattle.std.specs.Prelude.{codes}
 use Rattle.std.proofs.Math.Seq.{drop-cons}
 use Rattle.std.proofs.lemmas.List.{append_assoc, append-nil, drop_all}
@@ -34,7 +35,8 @@ streams_step : (streams : List DescribedStream) (k : ℕ) (s : DescribedStream) 
 unfolding streams_from
 streams_step streams k s below at = rw (drop-cons streams k s below, add-one k, sym at) refl
 
-pub streams_more : (streams : List DescribedStream) (k : ℕ) (s : DescribedStream) (fed next all : List FedStreamView) → k < length streams → s ≡ get_or streams k s →
+pub streams_more : (streams : List DescribedStream) (k : ℕ) (s : DescribedStream) (fed next all : List FedStreamView) → k < length streams →
+    s ≡ get_or streams k s →
     next ≡ fed ++ (fed_stream k s.pid ∷ []) → fed ++ streams_from k (drop k streams) ≡ all → next ++ streams_from (k + 1) (drop (k + 1) streams) ≡ all
 streams_more streams k s fed next all below at grown so =
     let one : FedStreamView = fed_stream k s.pid in
@@ -46,14 +48,17 @@ no_streams : (k : ℕ) → streams_from k [] ≡ []
 unfolding streams_from
 no_streams k = refl
 
-pub streams_all : (streams : List DescribedStream) (k : ℕ) (fed all : List FedStreamView) → length streams ≤ k → fed ++ streams_from k (drop k streams) ≡ all → fed ≡ all
+pub streams_all : (streams : List DescribedStream) (k : ℕ) (fed all : List FedStreamView) → length streams ≤ k → fed ++ streams_from k (drop k streams) ≡ all →
+    fed ≡ all
 streams_all streams k fed all over so =
-    sym (append-nil fed) ∙ ap (λ (x : List FedStreamView). fed ++ x) (sym (ap (λ (ss : List DescribedStream). streams_from k ss) (drop_all k streams over) ∙ no_streams k)) ∙ so
+    sym (append-nil fed)
+    ∙ ap (λ (x : List FedStreamView). fed ++ x) (sym (ap (λ (ss : List DescribedStream). streams_from k ss) (drop_all k streams over) ∙ no_streams k)) ∙ so
 
 -- 2. A description in a file
 
 -- whose bytes are those that were read, where they are known
-pub of_text : (files : Files) (name text : List ℕ) (r : Result Described NoDescription) → IsOpened files name → ((xs : List ℕ) → files.contents name ≡ Some xs → text ≡ xs) → IsDescriptionIn text r →
+pub of_text : (files : Files) (name text : List ℕ) (r : Result Described NoDescription) → IsOpened files name →
+    ((xs : List ℕ) → files.contents name ≡ Some xs → text ≡ xs) → IsDescriptionIn text r →
     IsNamedDescription files name r
 of_text files name text (Ok d) opened same is = (opened, λ xs e. subst (λ (t : List ℕ). described t ≡ Ok d) (same xs e) is)
 of_text files name text (Err Unopened) opened same is = absurd is
@@ -69,7 +74,8 @@ of_text files name text (Err (Stopped halt.Memory)) opened same is = tt
 of_text files name text (Err (Refused f)) opened same is = (opened, λ xs e. subst (λ (t : List ℕ). described t ≡ Err (refused_by.Refused f)) (same xs e) is)
 
 -- or that were not read
-pub of_none : (files : Files) (name : List ℕ) (input : Device) (why : Halt) → IsOpened files name → input.before.bytes ≡ files.contents name → (files.never_fails ≡ true → HasFailed input → ⊥) →
+pub of_none : (files : Files) (name : List ℕ) (input : Device) (why : Halt) → IsOpened files name → input.before.bytes ≡ files.contents name →
+    (files.never_fails ≡ true → HasFailed input → ⊥) →
     ReadsInput input (Err why) → IsNamedDescription files name (Err (Stopped why))
 of_none files name input halt.Read opened same never read = is_unread files name input opened same never read
 of_none files name input halt.Write opened same never read = absurd read
@@ -82,21 +88,26 @@ pub no_memory_for_words : (Leads : List ℕ → Outcome → Type 0) (input outpu
 no_memory_for_words Leads input output faults status i o t s =
     inr (inr (inl (record { clean = ap (λ (p : Port). p.failed) i; unwritten = o; reports = t; status_is = s })))
 
-pub no_memory_for_stream : (w : JobOptionsView) (files : Files) (name : Text) (input output faults : Device) (status : ℕ) → IsUntouched input → IsUntouched output → Reports faults (halt_line halt.Memory) → status ≡ 3 →
+pub no_memory_for_stream : (w : JobOptionsView) (files : Files) (name : Text) (input output faults : Device) (status : ℕ) → IsUntouched input →
+    IsUntouched output → Reports faults (halt_line halt.Memory) → status ≡ 3 →
     StreamsUnits w files name input output faults status
 unfolding none_outcome
-no_memory_for_stream w files name input output faults status i o r s = inr (record { why = Stopped halt.Memory; is = tt; unread = i; unwritten = o; reports = r; status_is = s })
+no_memory_for_stream w files name input output faults status i o r s =
+    inr (record { why = Stopped halt.Memory; is = tt; unread = i; unwritten = o; reports = r; status_is = s })
 
 same_arguments : (x : Option JobArgumentsView) (a b : JobArgumentsView) → Some a ≡ x → x ≡ Some b → a ≡ b
 same_arguments x a b e f = let both : Some a ≡ Some b = e ∙ f in cc
 
-pub job_asked : (x : Option JobArgumentsView) (a b : JobArgumentsView) (input output faults : Device) (status : ℕ) → Some a ≡ x → x ≡ Some b → (a.stream ≡ None → Performs (Leads a) input output faults status) →
+pub job_asked : (x : Option JobArgumentsView) (a b : JobArgumentsView) (input output faults : Device) (status : ℕ) → Some a ≡ x → x ≡ Some b →
+    (a.stream ≡ None → Performs (Leads a) input output faults status) →
     b.stream ≡ None → Performs (Leads b) input output faults status
 job_asked x a b input output faults status e f p =
     subst (λ (v : JobArgumentsView). v.stream ≡ None → Performs (Leads v) input output faults status) (same_arguments x a b e f) p
 
-pub stream_asked : (x : Option JobArgumentsView) (a b : JobArgumentsView) (files : Files) (name : Text) (input output faults : Device) (status : ℕ) → Some a ≡ x → x ≡ Some b →
-    (a.stream ≡ Some name → StreamsUnits a.options files name input output faults status) → b.stream ≡ Some name → StreamsUnits b.options files name input output faults status
+pub stream_asked : (x : Option JobArgumentsView) (a b : JobArgumentsView) (files : Files) (name : Text) (input output faults : Device) (status : ℕ) →
+    Some a ≡ x → x ≡ Some b →
+    (a.stream ≡ Some name → StreamsUnits a.options files name input output faults status) → b.stream ≡ Some name →
+    StreamsUnits b.options files name input output faults status
 stream_asked x a b files name input output faults status e f p =
     subst (λ (v : JobArgumentsView). v.stream ≡ Some name → StreamsUnits v.options files name input output faults status) (same_arguments x a b e f) p
 
@@ -115,7 +126,9 @@ pub few_streams : (d : Described) (streams : List DescribedStream) → streams �
 few_streams d streams e r = let size : length streams ≡ length d.streams = ap (length {A = DescribedStream}) e in omega (arith, size, r.most_streams)
 
 -- the line of a refusal, by its numbers
-pub refused_reported : (faults : Device) (f : DescFault) (code item : ℕ) → code ≡ fault_code f → item ≡ fault_item f → Reports faults (line_text (codes "description") (code ∷ item ∷ [])) →
+pub refused_reported : (faults : Device) (f : DescFault) (code item : ℕ) → code ≡ fault_code f → item ≡ fault_item f →
+    Reports faults (line_text (codes "description") (code ∷ item ∷ [])) →
     Reports faults (refused_line f)
 refused_reported faults f code item c i r =
-    subst (λ (n : ℕ). Reports faults (line_text (codes "description") (n ∷ fault_item f ∷ []))) c (subst (λ (n : ℕ). Reports faults (line_text (codes "description") (code ∷ n ∷ []))) i r)
+    subst (λ (n : ℕ). Reports faults (line_text (codes "description") (n ∷ fault_item f ∷ []))) c
+    (subst (λ (n : ℕ). Reports faults (line_text (codes "description") (code ∷ n ∷ []))) i r)

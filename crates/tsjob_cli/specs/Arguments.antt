@@ -94,13 +94,16 @@ values_of rows =
     given (lead_in rows) (λ lead.
     given (declare_by_of (first_of (codes "declare") rows)) (λ declare_by.
     given (base_of (first_of (codes "base") rows)) (λ base.
-    Some (plain subcommand stream (reporting_in rows) rate start pcr_limit lead declare_by (is_given (first_of (codes "make-dts") rows)) (is_given (first_of (codes "mark-access") rows))
+    Some (plain subcommand stream (reporting_in rows) rate start pcr_limit lead declare_by (is_given (first_of (codes "make-dts") rows))
+    (is_given (first_of (codes "mark-access") rows))
     (is_given (first_of (codes "strict") rows)) base)))))))))
 
 -- with lists
 abbrev pub with_lists : List ℕ → List ℕ → List PidBuffers → Option NetworkNameView → List ServiceNameView → List ℕ → JobArgumentsView → JobArgumentsView
 with_lists programs without buffers network names aligned arguments =
-    record arguments { options = record arguments.options { programs = programs; without = without; buffers = buffers; network = network; names = names; aligned = aligned } }
+    record arguments {
+      options = record arguments.options { programs = programs; without = without; buffers = buffers; network = network; names = names; aligned = aligned };
+    }
 
 unfoldable pub arguments_of : List Row → Option JobArgumentsView
 arguments_of rows =

@@ -9,7 +9,7 @@ use Rattle.devices.specs.Outcomes.{Outcome, halt_line, printed}
 use Rattle.devices.specs.declared.halt.Halt.TheVariants.{Memory}
 use Rattle.job_run.specs.Outcomes.{IsWritten}
 use Rattle.named_files.specs.ReadFiles.{HaveBytes, StopsAtOne}
-use Rattle.diagnosis.specs.Explained.{IsExplained}
+use Rattle.explained_jobs.specs.JobWords.{IsJobExplained}
 
 -- the word alone
 unfoldable pub is_explain : List Text → Bool
@@ -22,7 +22,7 @@ status_of lines = if length lines == 0 then 0 else 1
 
 pub record ExplainLeads (bytes : List ℕ) (o : Outcome) : Type 0 where
   pub lines : List ℕ
-  pub explained : IsExplained bytes lines
+  pub explained : IsJobExplained bytes lines
   pub is : o ≡ printed lines (status_of lines)
 
 -- files were read, and the outcome for their bytes is written

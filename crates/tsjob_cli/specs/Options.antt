@@ -58,7 +58,7 @@ known_for words = known_words (takes_stream words)
 abbrev pub usage_front : Text
 usage_front =
     codes "usage: tsjob [describe|units|why] [OPTIONS] [FILE..|-] [-o OUT]\n"
-    ++ (codes "       tsjob units --stream DESCRIPTION < PACKETS > RECORDS\n" ++ codes "       tsjob explain [DESCRIPTION [PLAN]]\n")
+    ++ (codes "       tsjob units --stream DESCRIPTION < PACKETS > RECORDS\n" ++ codes "       tsjob explain [DESCRIPTION [PLAN [RECORDS]]]\n")
 
 -- and a line for each option
 abbrev pub usage_text : List ℕ

@@ -113,4 +113,5 @@ pub record HasNoDescription (files : Files) (name : List ℕ) (input output faul
   pub status_is : status ≡ (none_outcome why).status
 
 abbrev pub StreamsUnits : JobOptionsView → Files → List ℕ → Device → Device → Device → ℕ → Type 0
-StreamsUnits w files name input output faults status = GoesByFile w files name input output faults status ⊎ HasNoDescription files name input output faults status
+StreamsUnits w files name input output faults status =
+    GoesByFile w files name input output faults status ⊎ HasNoDescription files name input output faults status

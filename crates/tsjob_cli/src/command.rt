@@ -1,4 +1,5 @@
-//! The program for words as people type them: files without `--` before them, short names of options, a file that is written.
+//! The program for words as people type them: files without `--` before them, short names of options, a file that is
+//! written.
 ghost use Rattle.std.specs.Prelude.{◌≡◌, ◌⊎◌, IfOk, true, false, codes, map, option_map};
 ghost use Rattle.devices.specs.Devices.{reads, writes};
 ghost use Rattle.devices.specs.Files.{files_of};
@@ -225,8 +226,9 @@ fn run_sorted<F: NamedFiles + OutputFiles, R: Source, W: Sink, E: Sink>(
     }
 }
 
-/// Runs the program for words as people type them, and returns the status of `run`: words that are no options and no subcommand are
-/// names of files, `-` alone is the input; what is written goes to standard output, or to a file, whole or not at all.
+/// Runs the program for words as people type them, and returns the status of `run`: words that are no options and no
+/// subcommand are names of files, `-` alone is the input; what is written goes to standard output, or to a file, whole
+/// or not at all.
 pub fn run_command<F: NamedFiles + OutputFiles, R: Source, W: Sink, E: Sink>(
     alloc: Global,
     words: &[&str],

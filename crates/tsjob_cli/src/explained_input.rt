@@ -8,7 +8,7 @@ ghost use Rattle.tsjob_cli.specs.Explaining as spec;
 
 use counted_io::{Sink, Source};
 use devices::{Halt, NamedFiles, read_whole, report_halt};
-use diagnosis::explain;
+use explained_jobs::explain_job;
 use job_run::{JobOutcome, only_text, write_outcome};
 use named_files::read_files;
 use std::alloc::{AllocError, Global};
@@ -36,7 +36,7 @@ fn status_of(lines: &str) -> u8
 fn explained(alloc: Global, bytes: &[u8]) -> Result<JobOutcome, AllocError>
     ensures { IfOk result (λ o. spec.ExplainLeads bytes.now o) }
 {
-    let text = explain(alloc, bytes)?;
+    let text = explain_job(alloc, bytes)?;
     let status = status_of(text.as_str());
     Ok(JobOutcome {
         output: only_text(alloc, text),
@@ -45,7 +45,8 @@ fn explained(alloc: Global, bytes: &[u8]) -> Result<JobOutcome, AllocError>
     })
 }
 
-/// Writes what is wrong with the description or the plan in the files of these names, one after another, and returns the status.
+/// Writes what is wrong with the description or the plan in the files of these names, one after another, and returns
+/// the status.
 pub(crate) fn explain_files<F: NamedFiles, W: Sink, E: Sink>(
     alloc: Global,
     files: &F,

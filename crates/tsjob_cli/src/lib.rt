@@ -1,10 +1,11 @@
 //! What the program `tsjob` does, over any files, a reader and two writers (`run`).
 //!
-//! `options` is the table of options, with the usage; `arguments` reads the command line by it; `file_mark` finds `--`, and
-//! `file_words` has the names of files after it. What it asks for of streams is done by `job_run`. `streaming` writes the units of the streams of a
-//! description in a file while the stream arrives; `explained_input` explains the faults of a description.
-//! `program` is `run`, for options with `--` before names of files; `made_job` has what it writes in memory. `command` is
-//! `run_command`, for words as people type them (`specs/Command`). `rows` has the rows of options that `tsremux` shares.
+//! `options` is the table of options, with the usage; `arguments` reads the command line by it; `file_mark` finds `--`,
+//! and `file_words` has the names of files after it. What it asks for of streams is done by `job_run`. `streaming`
+//! writes the units of the streams of a description in a file while the stream arrives; `explained_input` explains the
+//! faults of a description. `program` is `run`, for options with `--` before names of files; `made_job` has what it
+//! writes in memory. `command` is `run_command`, for words as people type them (`specs/Command`). `rows` has the rows
+//! of options that `tsremux` shares.
 #![tactic(auto)]
 
 mod arguments;

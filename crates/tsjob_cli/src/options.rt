@@ -64,10 +64,11 @@ pub(crate) const OPTIONS: [OptionRow; 24] = [
 /// The options beside the word `explain`.
 pub(crate) const EXPLAIN_OPTIONS: [OptionRow; 2] = [VERSION, HELP];
 
-/// The usage, written to the first writer if the words ask for help, to the second on a usage error: a line for each option of the table.
+/// The usage, written to the first writer if the words ask for help, to the second on a usage error: a line for each
+/// option of the table.
 const USAGE: &str = "usage: tsjob [describe|units|why] [OPTIONS] [FILE..|-] [-o OUT]
        tsjob units --stream DESCRIPTION < PACKETS > RECORDS
-       tsjob explain [DESCRIPTION [PLAN]]
+       tsjob explain [DESCRIPTION [PLAN [RECORDS]]]
   --rate 100000..100000000       bits a second; else the first tried rate with a plan
   --program N,..                 the programs that are taken
   --without PID,..               PIDs that are left out

@@ -128,9 +128,9 @@ fn run_on_stream<F: NamedFiles, R: Source, W: Sink, E: Sink>(
     }
 }
 
-/// Runs the whole program: it reads the input, or files that are named, writes the output, writes warnings or the refusal to the second
-/// writer, and returns the exit status: 0 all is carried, or nothing is wrong; 1 refused, a warning of a loss, or a fault; 2 a usage error; 3
-/// a device failed or out of memory.
+/// Runs the whole program: it reads the input, or files that are named, writes the output, writes warnings or the
+/// refusal to the second writer, and returns the exit status: 0 all is carried, or nothing is wrong; 1 refused, a
+/// warning of a loss, or a fault; 2 a usage error; 3 a device failed or out of memory.
 pub fn run<F: NamedFiles, R: Source, W: Sink, E: Sink>(
     alloc: Global,
     words: &[&str],

@@ -265,8 +265,8 @@ fn stream_by<R: Source, W: Sink, E: Sink>(
     pass_stream(alloc, feed, &pids, input, output, faults)
 }
 
-/// Writes the units of the streams of a description while the stream comes, with the marks that options ask for; the description is
-/// in the file of a name. Returns the status.
+/// Writes the units of the streams of a description while the stream comes, with the marks that options ask for; the
+/// description is in the file of a name. Returns the status.
 pub(crate) fn stream_units<F: NamedFiles, R: Source, W: Sink, E: Sink>(
     alloc: Global,
     options: &JobOptions<'_>,

@@ -26,5 +26,6 @@ mod unit_list;
 
 pub use multiplexing::{rate_of, report_error, slots_of, write_packets};
 pub use mux_jobs::{MuxFault, MuxJob, MuxJobError, read_mux_job, report_mux_fault};
+pub use planning::make_plan;
 pub use program::{report_usage, run};
 pub use request::MuxOptions;

@@ -1,2 +1,3 @@
+mod ByHand
 mod Remuxed
 mod Written

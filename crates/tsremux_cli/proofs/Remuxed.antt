@@ -40,7 +40,8 @@ failed_then words files input packets before mid after bytes shown job_status st
 
 -- all are written
 pub whole : (words : List Text) (files : Files) (input packets : Device) (before mid after : Port) (bytes shown : List ℕ) (status : ℕ) (figures : Figures) →
-    MakesJob words files input (between before mid) bytes status → is_job bytes status ≡ true → shown ≡ bytes → MuxesBytes shown packets (between mid after) (Ok figures) →
+    MakesJob words files input (between before mid) bytes status → is_job bytes status ≡ true → shown ≡ bytes →
+    MuxesBytes shown packets (between mid after) (Ok figures) →
     Remuxes words files input packets (between before after) (Whole figures status)
 whole words files input packets before mid after bytes shown status figures makes is same muxed = record {
   bytes = bytes;

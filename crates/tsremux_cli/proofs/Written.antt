@@ -8,45 +8,58 @@ use Rattle.named_files.specs.Reports.{TellsOf, terminal_line, uncreated_text}
 use Rattle.tsremux_cli.specs.Outputs.{Concludes, Finishes, ToFile, ToOutput, WritesOutput, output_name}
 use Rattle.tsjob_cli.specs.Command.{Outputs, output_file}
 use Rattle.tsremux_cli.specs.Program.{Answers, WritesTo}
-use Rattle.tsremux_cli.specs.Remuxing.{Remuxes}
+use Rattle.tsremux_cli.specs.Packets.{WritesFor}
 use Rattle.tsremux_cli.specs.Words.{is_quiet, job_words}
 use Rattle.tsremux_cli.specs.declared.figures.Remuxed.{Remuxed}
 
-pub concluded : (words : List Text) (quiet : Bool) (files : Files) (input output : Device) (before mid after : Port) (result : Remuxed) (status : ℕ) → quiet ≡ is_quiet words →
-    Remuxes words files input output (between before mid) result → Concludes quiet output_name result (between mid after) status →
+pub concluded : (words : List Text) (quiet : Bool) (files : Files) (input output : Device) (before mid after : Port) (result : Remuxed) (status : ℕ) →
+    quiet ≡ is_quiet words →
+    WritesFor words files input output (between before mid) result → Concludes quiet output_name result (between mid after) status →
     WritesOutput words files input output (between before after) status
-concluded words quiet files input output before mid after result status is remuxes concludes =
-    record { result = result; told = mid; remuxes = remuxes; concludes = subst (λ (b : Bool). Concludes b output_name result (between mid after) status) is concludes }
+concluded words quiet files input output before mid after result status is makes concludes =
+    record {
+      result = result;
+      told = mid;
+      makes = makes;
+      concludes =
+          subst (λ (b : Bool). Concludes b output_name result (between mid after) status) is concludes;
+    }
 
-pub to_terminal : (shows : Option Bool) (shown : Bool) (words : List Text) (files : Files) (input output faults : Device) (status : ℕ) → IsAsKnown shows shown → shown ≡ true →
+pub to_terminal : (shows : Option Bool) (shown : Bool) (words : List Text) (files : Files) (input output faults : Device) (status : ℕ) → IsAsKnown shows shown →
+    shown ≡ true →
     IsUntouched input → IsUntouched output → Reports faults terminal_line → status ≡ 2 → ToOutput shows words files input output faults status
 to_terminal shows shown words files input output faults status known is unread unwritten reports status_is =
     inl (record { shown = subst (λ (b : Bool). IsAsKnown shows b) is known; unread = unread; unwritten = unwritten; reports = reports; status_is = status_is })
 
-pub to_output : (shows : Option Bool) (shown : Bool) (words : List Text) (files : Files) (input output faults : Device) (status : ℕ) → IsAsKnown shows shown → shown ≡ false →
+pub to_output : (shows : Option Bool) (shown : Bool) (words : List Text) (files : Files) (input output faults : Device) (status : ℕ) → IsAsKnown shows shown →
+    shown ≡ false →
     WritesOutput words files input output faults status → ToOutput shows words files input output faults status
 to_output shows shown words files input output faults status known is writes = inr (subst (λ (b : Bool). IsAsKnown shows b) is known, writes)
 
-pub to_file : (creates : Option Bool) (name : Text) (words : List Text) (quiet : Bool) (files : Files) (input file : Device) (before mid after : Port) (result : Remuxed) (status : ℕ) →
-    IsAsKnown creates true → ((bytes : List ℕ) → file.before.bytes ≡ Some bytes → bytes ≡ []) → Remuxes words files input file (between before mid) result →
+pub to_file : (creates : Option Bool) (name : Text) (words : List Text) (quiet : Bool) (files : Files) (input file : Device) (before mid after : Port)
+    (result : Remuxed) (status : ℕ) →
+    IsAsKnown creates true → ((bytes : List ℕ) → file.before.bytes ≡ Some bytes → bytes ≡ []) → WritesFor words files input file (between before mid) result →
     quiet ≡ is_quiet words → Finishes quiet name result (between mid after) status → ToFile creates name words files input (between before after) status
-to_file creates name words quiet files input file before mid after result status created empty remuxes is finishes =
+to_file creates name words quiet files input file before mid after result status created empty makes is finishes =
     inl (record {
       created = created;
       file = file;
       empty = empty;
       result = result;
       told = mid;
-      remuxes = remuxes;
+      makes = makes;
       finishes = subst (λ (b : Bool). Finishes b name result (between mid after) status) is finishes;
     })
 
-pub to_none : (creates : Option Bool) (name : Text) (words : List Text) (files : Files) (input faults : Device) (status : ℕ) → IsAsKnown creates false → IsUntouched input →
+pub to_none : (creates : Option Bool) (name : Text) (words : List Text) (files : Files) (input faults : Device) (status : ℕ) → IsAsKnown creates false →
+    IsUntouched input →
     TellsOf name uncreated_text faults → status ≡ 3 → ToFile creates name words files input faults status
-to_none creates name words files input faults status uncreated unread tells is = inr (record { uncreated = uncreated; unread = unread; tells = tells; status_is = is })
+to_none creates name words files input faults status uncreated unread tells is =
+    inr (record { uncreated = uncreated; unread = unread; tells = tells; status_is = is })
 
 -- the name and the words are those that are asked for
-pub answered : (outputs : Outputs) (words job : List Text) (name : Option Text) (files : Files) (input output faults : Device) (status : ℕ) → name ≡ output_file words →
+pub answered : (outputs : Outputs) (words job : List Text) (name : Option Text) (files : Files) (input output faults : Device) (status : ℕ) →
+    name ≡ output_file words →
     job ≡ job_words words → WritesTo outputs name job files input output faults status → Answers outputs words files input output faults status
 answered outputs words job name files input output faults status named is writes =
     inl (subst (λ (n : Option Text). WritesTo outputs n (job_words words) files input output faults status) named

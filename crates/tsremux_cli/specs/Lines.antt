@@ -15,7 +15,8 @@ abbrev pub time_text : ℕ → Text
 time_text tenths = decimal (tenths / 10) ++ (codes "." ++ (decimal (tenths % 10) ++ codes " s, "))
 
 abbrev pub figures_text : Figures → Text
-figures_text figures = codes ": " ++ (decimal figures.rate ++ (codes " bit/s, " ++ (time_text (tenths_of figures) ++ (decimal figures.packets ++ codes " packets"))))
+figures_text figures =
+    codes ": " ++ (decimal figures.rate ++ (codes " bit/s, " ++ (time_text (tenths_of figures) ++ (decimal figures.packets ++ codes " packets"))))
 
 abbrev pub held_text : Text
 held_text = codes ": every accepted unit by its DTS, no buffer over its size\n"

@@ -6,7 +6,7 @@ use Rattle.devices.specs.Files.{Files, IsAsKnown}
 use Rattle.devices.specs.Lines.{Reports}
 use Rattle.tsremux_cli.specs.Lines.{TellsHeld}
 use Rattle.named_files.specs.Reports.{TellsOf, terminal_line, uncreated_text, unnamed_text}
-use Rattle.tsremux_cli.specs.Remuxing.{Remuxes}
+use Rattle.tsremux_cli.specs.Packets.{WritesFor}
 use Rattle.tsremux_cli.specs.Words.{is_quiet}
 use Rattle.tsremux_cli.specs.declared.figures.Remuxed.{Remuxed}
 use Rattle.tsremux_cli.specs.declared.figures.Remuxed.TheVariants.{Whole, Ended}
@@ -24,7 +24,7 @@ output_name = codes "standard output"
 pub record WritesOutput (words : List Text) (files : Files) (input output faults : Device) (status : ℕ) : Type 0 where
   pub result : Remuxed
   pub told : Port
-  pub remuxes : Remuxes words files input output (between faults.before told) result
+  pub makes : WritesFor words files input output (between faults.before told) result
   pub concludes : Concludes (is_quiet words) output_name result (between told faults.after) status
 
 -- no packets go to a terminal
@@ -54,7 +54,7 @@ pub record WritesFile (creates : Option Bool) (name : Text) (words : List Text) 
   pub empty : (bytes : List ℕ) → file.before.bytes ≡ Some bytes → bytes ≡ []
   pub result : Remuxed
   pub told : Port
-  pub remuxes : Remuxes words files input file (between faults.before told) result
+  pub makes : WritesFor words files input file (between faults.before told) result
   pub finishes : Finishes (is_quiet words) name result (between told faults.after) status
 
 -- it can't be created: nothing is read

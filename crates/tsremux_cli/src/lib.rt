@@ -1,15 +1,20 @@
-//! What the program `tsremux` does, over any files, a reader and two writers (`run`): `tsjob` and `tsmux mux` in one step.
+//! What the program `tsremux` does, over any files, a reader and two writers (`run`): `tsjob` and `tsmux mux` in one
+//! step.
 //!
-//! `options` is the table of options, with the usage; `words` sorts the words of the command line, and has the words for `tsjob` and the
-//! name of the file that is written. `remuxing` runs `tsjob` into memory and writes the packets of its job, by `muxing`; `outputs` writes
-//! them to standard output or to a file, and reports by `lines` what holds of them. `program` is `run`.
+//! `options` is the table of options, with the usage; `words` sorts the words of the command line, and has the words
+//! for `tsjob` and the name of the file that is written. `remuxing` runs `tsjob` into memory and writes the packets of
+//! its job, by `muxing`; `by_hand` does so for a description, a plan and records in files. `packets` does what the
+//! words ask for; `outputs` writes to standard output or to a file, and reports by `lines` what holds of the packets.
+//! `program` is `run`.
 #![tactic(auto)]
 
+mod by_hand;
 mod figures;
 mod lines;
 mod muxing;
 mod options;
 mod outputs;
+mod packets;
 mod program;
 mod remuxing;
 mod words;

@@ -7,10 +7,40 @@ use tsjob_cli::rows::{
     ALIGNED, BASE, BUFFERS, DECLARE, HELP, LEAD, MAKE_DTS, MARK_ACCESS, NAME, NETWORK, OUTPUT, PCR,
     PROGRAM, PROGRESS, QUIET, RATE, START, STRICT, VERBOSE, VERSION, WITHOUT,
 };
-use word_faults::{KnownWords, OptionRow};
+use word_faults::{KnownWords, OptionRow, ValueKind};
+
+/// The description of a service by hand.
+const DESCRIPTION: OptionRow = OptionRow {
+    name: "description",
+    value: ValueKind::File,
+    form: "FILE",
+    unit: "",
+    apart: "",
+    help: "a service by hand: its description; beside it --plan, --records, -o and -q",
+};
+
+/// The plan of a service by hand.
+const PLAN: OptionRow = OptionRow {
+    name: "plan",
+    value: ValueKind::File,
+    form: "FILE",
+    unit: "",
+    apart: "",
+    help: "with --description: its plan; else a plan is made",
+};
+
+/// The access units of a service by hand.
+const RECORDS: OptionRow = OptionRow {
+    name: "records",
+    value: ValueKind::File,
+    form: "FILE",
+    unit: "",
+    apart: "",
+    help: "with --description: the records of its access units; else they are the input",
+};
 
 /// The options. Which word is a fault, and the usage, follow these rows.
-pub(crate) const OPTIONS: [OptionRow; 21] = [
+pub(crate) const OPTIONS: [OptionRow; 24] = [
     RATE,
     PROGRAM,
     WITHOUT,
@@ -26,6 +56,9 @@ pub(crate) const OPTIONS: [OptionRow; 21] = [
     MARK_ACCESS,
     ALIGNED,
     STRICT,
+    DESCRIPTION,
+    PLAN,
+    RECORDS,
     OUTPUT,
     QUIET,
     VERBOSE,
@@ -34,9 +67,23 @@ pub(crate) const OPTIONS: [OptionRow; 21] = [
     HELP,
 ];
 
-/// The usage, written to the first writer if the words ask for help, to the second on a usage error: a line for each option of the table.
+/// The options of a service by hand.
+pub(crate) const HAND_OPTIONS: [OptionRow; 8] = [
+    DESCRIPTION,
+    PLAN,
+    RECORDS,
+    OUTPUT,
+    QUIET,
+    PROGRESS,
+    VERSION,
+    HELP,
+];
+
+/// The usage, written to the first writer if the words ask for help, to the second on a usage error: a line for each
+/// option of the table.
 const USAGE: &str = "usage: tsremux [OPTIONS] [FILE..|-] -o OUT
        tsremux [OPTIONS] [FILE..|-] > OUT
+       tsremux --description FILE [--plan FILE] [--records FILE] -o OUT
   --rate 100000..100000000       bits a second; else the first tried rate with a plan
   --program N,..                 the programs that are taken
   --without PID,..               PIDs that are left out
@@ -52,6 +99,9 @@ const USAGE: &str = "usage: tsremux [OPTIONS] [FILE..|-] -o OUT
   --mark-access                  units at which a decoder may begin have random_access_indicator
   --aligned PID,..               PIDs whose units have data_alignment_indicator
   --strict                       a stream that cannot be carried refuses the input; else it is left out
+  --description FILE             a service by hand: its description; beside it --plan, --records, -o and -q
+  --plan FILE                    with --description: its plan; else a plan is made
+  --records FILE                 with --description: the records of its access units; else they are the input
   --output FILE                  or -o: the file that is written; else standard output
   --quiet                        or -q: report only why nothing is written
   --verbose                      or -v: report also what is left out without a loss
@@ -77,6 +127,20 @@ pub(crate) fn known_words() -> KnownWords
         names: false,
         alone: &["-V"],
         required: None,
+        barred: None,
+    }
+}
+
+/// Returns what the program knows of the words for a service by hand.
+pub(crate) fn hand_words() -> KnownWords
+    ensures { known_of result ≡ spec.hand_words }
+{
+    KnownWords {
+        options: &HAND_OPTIONS,
+        words: &[],
+        names: false,
+        alone: &["-V"],
+        required: Some("--description"),
         barred: None,
     }
 }

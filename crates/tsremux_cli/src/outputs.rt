@@ -6,7 +6,7 @@ ghost use Rattle.tsremux_cli.specs.Outputs as spec;
 
 use crate::figures::Remuxed;
 use crate::lines::report_held;
-use crate::remuxing::remux;
+use crate::packets::write_packets_for;
 use crate::words::is_quiet;
 use counted_io::{Sink, Source};
 use devices::{NamedFiles, OutputFiles, report_text};
@@ -40,7 +40,7 @@ fn write_output<F: NamedFiles, R: Source, W: Sink, E: Sink>(
         (reads R.Source input.old input.new) (writes W.Sink output.old output.new)
         (writes E.Sink faults.old faults.new) result }
 {
-    let remuxed = remux(alloc, words, files, input, output, faults);
+    let remuxed = write_packets_for(alloc, words, files, input, output, faults);
     conclude(alloc, is_quiet(words), remuxed, faults)
 }
 
@@ -111,6 +111,6 @@ pub(crate) fn remux_to_file<F: NamedFiles + OutputFiles, R: Source, E: Sink>(
         report_of(name, ": can't be created\n", faults);
         return 3;
     };
-    let remuxed = remux(alloc, words, files, input, &mut file, faults);
+    let remuxed = write_packets_for(alloc, words, files, input, &mut file, faults);
     finish(alloc, is_quiet(words), remuxed, name, files, file, faults)
 }

@@ -4,14 +4,14 @@ ghost use Rattle.devices.specs.Devices.{reads, writes};
 ghost use Rattle.devices.specs.Files.{files_of};
 ghost use Rattle.devices.specs.Lines.{Reports};
 ghost use Rattle.tsjob_cli.specs.Command.{outputs_of};
-ghost use Rattle.tsremux_cli.specs.Options.{known_words, usage_text};
+ghost use Rattle.tsremux_cli.specs.Options.{usage_text};
 ghost use Rattle.tsremux_cli.specs.Program as spec;
-ghost use Rattle.tsremux_cli.specs.Words.{are_taken, sorted_words};
+ghost use Rattle.tsremux_cli.specs.Words.{are_taken, known_for, sorted_words};
 ghost use Rattle.word_faults.specs.UsageReport.{AnswersWords};
 
-use crate::options::{known_words, usage};
+use crate::options::usage;
 use crate::outputs::{remux_to_file, remux_to_output};
-use crate::words::{all_taken, job_words, sorted_words};
+use crate::words::{all_taken, job_words, known_for, sorted_words};
 use counted_io::{Sink, Source};
 use devices::{Halt, NamedFiles, OutputFiles, report_halt, report_text};
 use std::alloc::Global;
@@ -92,23 +92,23 @@ fn run_sorted<F: NamedFiles + OutputFiles, R: Source, W: Sink, E: Sink>(
         (reads R.Source input.old input.new) (writes W.Sink output.old output.new)
         (writes E.Sink faults.old faults.new) result }
     ensures other { are_taken (map (λ s. s.now) words.now) ≡ false →
-        AnswersWords (codes "tsremux") known_words (map (λ s. s.now) words.now) usage_text
+        AnswersWords (codes "tsremux") (known_for (map (λ s. s.now) words.now)) (map (λ s. s.now) words.now) usage_text
         (reads R.Source input.old input.new) (writes W.Sink output.old output.new)
         (writes E.Sink faults.old faults.new) result }
 {
     match all_taken(alloc, words) {
         Ok(true) => answer(alloc, words, files, input, output, faults),
         Ok(false) => {
-            let known = known_words();
+            let known = known_for(words);
             answer_words(alloc, "tsremux", known, words, usage(), output, faults)
         }
         Err(_) => report_halt(faults, Halt::Memory),
     }
 }
 
-/// Runs the whole program: it reads the input, or files that are named, writes the packets of one job of these streams to the output or to a
-/// file, reports what `tsjob` reports and what holds of the packets, and returns the exit status: 0 all is carried, 1 refused or a warning of
-/// a loss, 2 a usage error, 3 a device failed or out of memory.
+/// Runs the whole program: it reads the input, or files that are named, writes the packets of one job of these streams
+/// to the output or to a file, reports what `tsjob` reports and what holds of the packets, and returns the exit status:
+/// 0 all is carried, 1 refused or a warning of a loss, 2 a usage error, 3 a device failed or out of memory.
 pub fn run<F: NamedFiles + OutputFiles, R: Source, W: Sink, E: Sink>(
     alloc: Global,
     words: &[&str],
@@ -117,7 +117,8 @@ pub fn run<F: NamedFiles + OutputFiles, R: Source, W: Sink, E: Sink>(
     output: &mut W,
     faults: &mut E,
 ) -> u8
-    // Words that can be taken: what `tsmux mux` writes of the job that `tsjob` writes for them.
+    // Words that can be taken: what `tsmux mux` writes of the job that `tsjob` writes for them, or of the files of a
+    // service by hand.
     ensures remux { are_taken (sorted_words (map (λ s. s.now) words.now)) ≡ true →
         spec.Answers (outputs_of (F.creates files.now) (F.shows files.now)) (sorted_words (map (λ s. s.now) words.now))
         (files_of (F.contents_of files.now) (F.opens files.now) F.never_fails)
@@ -125,7 +126,8 @@ pub fn run<F: NamedFiles + OutputFiles, R: Source, W: Sink, E: Sink>(
         (writes E.Sink faults.old faults.new) result }
     // Anything else: `--version`, `--help`, or a word that cannot be taken.
     ensures other { are_taken (sorted_words (map (λ s. s.now) words.now)) ≡ false →
-        AnswersWords (codes "tsremux") known_words (sorted_words (map (λ s. s.now) words.now)) usage_text
+        AnswersWords (codes "tsremux") (known_for (sorted_words (map (λ s. s.now) words.now)))
+        (sorted_words (map (λ s. s.now) words.now)) usage_text
         (reads R.Source input.old input.new) (writes W.Sink output.old output.new)
         (writes E.Sink faults.old faults.new) result }
 {

@@ -1,5 +1,6 @@
 -- Parts of a capture that are viewed one after another.
-use Rattle.std.proofs.Common.{◌≡◌, ◌<◌, ℕ, Bool, List, [], ◌∷◌, ◌++◌, length, map, refl, sym, ap, ap₂, subst, ◌∙◌, arith, append_assoc, append-nil, Option, Some, None, Result, Ok, Err}
+use Rattle.std.proofs.Common.{◌≡◌, ◌<◌, ℕ, Bool, List, [], ◌∷◌, ◌++◌, length, map, refl, sym, ap, ap₂, subst, ◌∙◌, arith, append_assoc, append-nil, Option}
+use Rattle.std.proofs.Common.{Some, None, Result, Ok, Err}
 use Rattle.std.specs.Prelude.{OnOk, IfOk}
 use Rattle.capture.specs.Captures.{Capture, IsPacket, IsSize, IsSlip, Part, capture_of, with_parts}
 use Rattle.capture.specs.Reading.{ReaderView, Takes, TakesLast, capture_by, capture_left, no_bytes}
@@ -11,7 +12,8 @@ use Rattle.analysis.specs.Analysis.{AnalysisState, IsAnalysed, after_all, after_
 use Rattle.analysis.specs.declared.analyser.Analyser.{Analyser}
 use Rattle.packet_sync.specs.declared.packet_sizes.OtherPackets.{OtherPackets}
 use Rattle.packet_sync.specs.declared.slip.Slip.{Slip}
-use Rattle.tsview_cli.specs.CapturedStreams.{HasParts, IsEnded, IsMore, IsSoFar, TakesParts, after_part, after_parts, events_of, is_whole, last_events, left_in, part_events, parts_in, size_event, slip_event}
+use Rattle.tsview_cli.specs.CapturedStreams.{HasParts, IsEnded, IsMore, IsSoFar, TakesParts, after_part, after_parts, events_of, is_whole, last_events, left_in}
+use Rattle.tsview_cli.specs.CapturedStreams.{part_events, parts_in, size_event, slip_event}
 use Rattle.tsview_cli.specs.declared.captured.CapturedView.{CapturedView}
 use Rattle.tsview_cli.specs.declared.captured.ViewedParts.{ViewedParts}
 
@@ -43,7 +45,8 @@ events_of_packets s (packet ∷ packets) = ap (λ (l : List TimedEvent). events_
 -- 2. More parts are taken
 
 -- a view after these parts has some more
-pub has_more : (first before now : ViewedParts) (s : AnalysisState) (parts more : List Part) → HasParts first before s parts → IsAnalysed now.view (after_parts (after_parts s parts) more) →
+pub has_more : (first before now : ViewedParts) (s : AnalysisState) (parts more : List Part) → HasParts first before s parts →
+    IsAnalysed now.view (after_parts (after_parts s parts) more) →
     now.events.items ≡ before.events.items ++ events_of (after_parts s parts) more → HasParts first now s (parts ++ more)
 has_more first before now s parts more h view events = record {
   view = subst (IsAnalysed now.view) (sym (after_both s parts more)) view;
@@ -52,7 +55,8 @@ has_more first before now s parts more h view events = record {
       ∙ ap (λ (l : List TimedEvent). first.events.items ++ l) (sym (events_both s parts more));
 }
 
-pub packets_more : (first before now : ViewedParts) (s : AnalysisState) (parts : List Part) (packets : List (List ℕ)) → HasParts first before s parts → IsAnalysed now.view (after_all (after_parts s parts) packets) →
+pub packets_more : (first before now : ViewedParts) (s : AnalysisState) (parts : List Part) (packets : List (List ℕ)) → HasParts first before s parts →
+    IsAnalysed now.view (after_all (after_parts s parts) packets) →
     now.events.items ≡ before.events.items ++ events_all (after_parts s parts) packets → HasParts first now s (parts ++ map IsPacket packets)
 packets_more first before now s parts packets h view events =
     has_more first before now s parts (map IsPacket packets) h (subst (IsAnalysed now.view) (sym (after_packets (after_parts s parts) packets)) view)
@@ -75,20 +79,26 @@ unfolding events_of part_events
 size_events s other = append-nil (timed s (size_event other))
 
 -- an event of the input
-event_more : (first before now : ViewedParts) (s : AnalysisState) (parts : List Part) (part : Part) (event : Event) → after_parts (after_parts s parts) (part ∷ []) ≡ with_event (after_parts s parts) event →
-    events_of (after_parts s parts) (part ∷ []) ≡ timed (after_parts s parts) event → HasParts first before s parts → IsAnalysed now.view (with_event (after_parts s parts) event) →
+event_more : (first before now : ViewedParts) (s : AnalysisState) (parts : List Part) (part : Part) (event : Event) →
+    after_parts (after_parts s parts) (part ∷ []) ≡ with_event (after_parts s parts) event →
+    events_of (after_parts s parts) (part ∷ []) ≡ timed (after_parts s parts) event → HasParts first before s parts →
+    IsAnalysed now.view (with_event (after_parts s parts) event) →
     now.events.items ≡ before.events.items ++ timed (after_parts s parts) event → HasParts first now s (parts ++ part ∷ [])
 event_more first before now s parts part event state settles h view events =
     has_more first before now s parts (part ∷ []) h (subst (IsAnalysed now.view) (sym state) view)
     (events ∙ ap (λ (l : List TimedEvent). before.events.items ++ l) (sym settles))
 
-pub slip_more : (first before now : ViewedParts) (s : AnalysisState) (parts : List Part) (slip : Slip) → HasParts first before s parts → IsAnalysed now.view (with_event (after_parts s parts) (slip_event slip)) →
+pub slip_more : (first before now : ViewedParts) (s : AnalysisState) (parts : List Part) (slip : Slip) → HasParts first before s parts →
+    IsAnalysed now.view (with_event (after_parts s parts) (slip_event slip)) →
     now.events.items ≡ before.events.items ++ timed (after_parts s parts) (slip_event slip) → HasParts first now s (parts ++ IsSlip slip ∷ [])
-slip_more first before now s parts slip = event_more first before now s parts (IsSlip slip) (slip_event slip) (slip_state (after_parts s parts) slip) (slip_events (after_parts s parts) slip)
+slip_more first before now s parts slip =
+    event_more first before now s parts (IsSlip slip) (slip_event slip) (slip_state (after_parts s parts) slip) (slip_events (after_parts s parts) slip)
 
-pub size_more : (first before now : ViewedParts) (s : AnalysisState) (parts : List Part) (other : OtherPackets) → HasParts first before s parts → IsAnalysed now.view (with_event (after_parts s parts) (size_event other)) →
+pub size_more : (first before now : ViewedParts) (s : AnalysisState) (parts : List Part) (other : OtherPackets) → HasParts first before s parts →
+    IsAnalysed now.view (with_event (after_parts s parts) (size_event other)) →
     now.events.items ≡ before.events.items ++ timed (after_parts s parts) (size_event other) → HasParts first now s (parts ++ IsSize other ∷ [])
-size_more first before now s parts other = event_more first before now s parts (IsSize other) (size_event other) (size_state (after_parts s parts) other) (size_events (after_parts s parts) other)
+size_more first before now s parts other =
+    event_more first before now s parts (IsSize other) (size_event other) (size_state (after_parts s parts) other) (size_events (after_parts s parts) other)
 
 pub takes_none : (parts : ViewedParts) → TakesParts [] parts parts
 unfolding after_parts events_of
@@ -106,7 +116,8 @@ so_far_none now s reader view = record {
 }
 
 -- more bytes were taken, before which no event waited
-pub is_more : (first : AnalysisState) (before now : CapturedView) (start : ViewedParts) (bytes piece : List ℕ) (found : List Part) → IsSoFar first before bytes found →
+pub is_more : (first : AnalysisState) (before now : CapturedView) (start : ViewedParts) (bytes piece : List ℕ) (found : List Part) →
+    IsSoFar first before bytes found →
     start.view ≡ before.parts.view → start.events.items ≡ [] → length now.reader.kept < 1128 →
     Takes (λ more. TakesParts ([] ++ more) start now.parts) before.reader piece now.reader → IsMore first now (bytes ++ piece) found
 is_more first before now start bytes piece found s view none few t =
@@ -125,7 +136,8 @@ is_more first before now start bytes piece found s view none few t =
     }
 
 -- what is left of it, and its end
-pub is_ended : (rate : Option ℕ) (first : AnalysisState) (before : CapturedView) (mid : ViewedParts) (now : CapturedView) (start : ViewedParts) (bytes : List ℕ) (found : List Part) (end : CaptureEnd) (good : Bool) → IsSoFar first before bytes found →
+pub is_ended : (rate : Option ℕ) (first : AnalysisState) (before : CapturedView) (mid : ViewedParts) (now : CapturedView) (start : ViewedParts) (bytes : List ℕ)
+    (found : List Part) (end : CaptureEnd) (good : Bool) → IsSoFar first before bytes found →
     start.view ≡ before.parts.view → start.events.items ≡ [] →
     TakesLast (λ more. TakesParts ([] ++ more) start mid) (capture_left before.reader []) end →
     ((s : AnalysisState) → IsAnalysed mid.view s → now.parts.events.items ≡ mid.events.items ++ last_events rate end.form s end.left) →
@@ -141,7 +153,8 @@ is_ended rate first before mid now start bytes found end good s view none t even
     let whole_state : after_parts (after_parts first found) c.parts ≡ after_parts first (parts_in bytes) =
     sym (after_both first found c.parts) ∙ ap (after_parts first) (sym parts_are) in
     let kept : IsAnalysed mid.view (after_parts first (parts_in bytes)) = subst (IsAnalysed mid.view) whole_state h.view in
-    let before_end : mid.events.items ≡ events_of (after_parts first found) c.parts = h.events ∙ ap (λ (l : List TimedEvent). l ++ events_of (after_parts first found) c.parts) none in
+    let before_end : mid.events.items ≡ events_of (after_parts first found) c.parts =
+    h.events ∙ ap (λ (l : List TimedEvent). l ++ events_of (after_parts first found) c.parts) none in
     record {
       more = c.parts;
       parts_are = parts_are;
@@ -153,7 +166,8 @@ is_ended rate first before mid now start bytes found end good s view none t even
     }
 
 -- if there is memory for it
-pub ended_by : {E : Type 0} (r : Result Bool E) (rate : Option ℕ) (first : AnalysisState) (before : CapturedView) (mid : ViewedParts) (now : CapturedView) (start : ViewedParts) (bytes : List ℕ) (found : List Part) (end : CaptureEnd) →
+pub ended_by : {E : Type 0} (r : Result Bool E) (rate : Option ℕ) (first : AnalysisState) (before : CapturedView) (mid : ViewedParts) (now : CapturedView)
+    (start : ViewedParts) (bytes : List ℕ) (found : List Part) (end : CaptureEnd) →
     IsSoFar first before bytes found → start.view ≡ before.parts.view → start.events.items ≡ [] →
     TakesLast (λ more. TakesParts ([] ++ more) start mid) (capture_left before.reader []) end →
     ((s : AnalysisState) → IsAnalysed mid.view s → OnOk r (now.parts.events.items ≡ mid.events.items ++ last_events rate end.form s end.left)) →

@@ -26,12 +26,14 @@ unfolding after_events
 page_both p [] more = refl
 page_both p (event ∷ found) more = page_both (after_event p event.event) found more
 
-pub drawn_none : (stream : CapturedView) (page : Page) (s : AnalysisState) (p : PageState) → IsSoFar s stream [] [] → IsPage page p → IsDrawn (record { stream = stream; page = page }) s p []
+pub drawn_none : (stream : CapturedView) (page : Page) (s : AnalysisState) (p : PageState) → IsSoFar s stream [] [] → IsPage page p →
+    IsDrawn (record { stream = stream; page = page }) s p []
 unfolding after_events events_of
 drawn_none stream page s p so_far is = record { found = []; so_far = so_far; page = is }
 
 -- the page takes the events that more bytes settle
-pub drawn_more : (s : AnalysisState) (p : PageState) (stream : CapturedView) (page : Page) (bytes : List ℕ) (found : List Part) (events : List TimedEvent) → IsMore s stream bytes found → events ≡ stream.parts.events.items →
+pub drawn_more : (s : AnalysisState) (p : PageState) (stream : CapturedView) (page : Page) (bytes : List ℕ) (found : List Part) (events : List TimedEvent) →
+    IsMore s stream bytes found → events ≡ stream.parts.events.items →
     IsPage page (after_events (after_events p (events_of s found)) events) → IsDrawn (record { stream = stream; page = page }) s p bytes
 drawn_more s p stream page bytes found events m is taken = record {
   found = found ++ m.more;
@@ -43,8 +45,10 @@ drawn_more s p stream page bytes found events m is taken = record {
       taken;
 }
 
-pub drawn_end : (rate : Option ℕ) (s : AnalysisState) (p : PageState) (stream : CapturedView) (page : Page) (bytes : List ℕ) (found : List Part) (events : List TimedEvent) (good : Bool) →
-    IsEnded rate s stream bytes found good → events ≡ stream.parts.events.items → IsPage page (after_events (after_events p (events_of s found)) events) → EndsDrawn rate page s p bytes good
+pub drawn_end : (rate : Option ℕ) (s : AnalysisState) (p : PageState) (stream : CapturedView) (page : Page) (bytes : List ℕ) (found : List Part)
+    (events : List TimedEvent) (good : Bool) →
+    IsEnded rate s stream bytes found good → events ≡ stream.parts.events.items → IsPage page (after_events (after_events p (events_of s found)) events) →
+    EndsDrawn rate page s p bytes good
 drawn_end rate s p stream page bytes found events good e is taken =
     let last = last_events rate (capture_of bytes).form (after_parts s (parts_in bytes)) (left_in bytes) in
     let before = events_of s found in
@@ -53,7 +57,9 @@ drawn_end rate s p stream page bytes found events good e is taken =
       is = subst (IsPage page)
           (ap (after_events (after_events p before)) (is ∙ e.events)
           ∙ sym (page_both p before (more ++ last))
-          ∙ ap (after_events p) (sym (append_assoc before more last) ∙ ap (λ (l : List TimedEvent). l ++ last) (sym (events_both s found e.more) ∙ ap (events_of s) (sym e.parts_are))))
+          ∙ ap (after_events p)
+          (sym (append_assoc before more last)
+          ∙ ap (λ (l : List TimedEvent). l ++ last) (sym (events_both s found e.more) ∙ ap (events_of s) (sym e.parts_are))))
           taken;
       good_is = e.good_is;
     }
@@ -63,9 +69,11 @@ takes_none drawing s p d = d
 
 -- 2. The page of the whole input
 
-pub all_drawn : (request : RequestView) (input : Device) (first now : Drawing) (size : ℕ) (result : Result DrawnPage Halt) (rate : Option ℕ) → IsDrawn first (start request) (first_page request) [] → rate ≡ rate_in request →
+pub all_drawn : (request : RequestView) (input : Device) (first now : Drawing) (size : ℕ) (result : Result DrawnPage Halt) (rate : Option ℕ) →
+    IsDrawn first (start request) (first_page request) [] → rate ≡ rate_in request →
     TakesAll (λ bytes. TakesBytes bytes first now) input size →
-    ((s : AnalysisState) (p : PageState) (bytes : List ℕ) → IsDrawn now s p bytes → IfOk result (IsWritten rate s p bytes)) → IfErr result (λ halt. halt ≡ Memory) → Draws request input result
+    ((s : AnalysisState) (p : PageState) (bytes : List ℕ) → IsDrawn now s p bytes → IfOk result (IsWritten rate s p bytes)) →
+    IfErr result (λ halt. halt ≡ Memory) → Draws request input result
 all_drawn request input first now size (Ok page) rate d is t written memory = record {
   bytes = t.bytes;
   read = t.read;

@@ -1,5 +1,6 @@
 -- A stream that is viewed piece by piece.
-use Rattle.std.proofs.Common.{◌≡◌, ℕ, zero, suc, ◌+◌, ◌*◌, ◌%◌, ◌<◌, min, Bool, true, List, [], ◌∷◌, ◌++◌, length, take, drop, refl, sym, ap, subst, ◌∙◌, arith, append_assoc, length-append, Option, Some, None, Result, Ok, Err, inl, inr}
+use Rattle.std.proofs.Common.{◌≡◌, ℕ, zero, suc, ◌+◌, ◌*◌, ◌%◌, ◌<◌, min, Bool, true, List, [], ◌∷◌, ◌++◌, length, take, drop, refl, sym, ap, subst, ◌∙◌, arith}
+use Rattle.std.proofs.Common.{append_assoc, length-append, Option, Some, None, Result, Ok, Err, inl, inr}
 use Rattle.std.proofs.KnownBytes.{Appends-nil, Appends-trans}
 use Rattle.std.proofs.lemmas.Grind.{flat_map-append}
 use Rattle.std.proofs.lemmas.List.{take-append-drop}
@@ -70,7 +71,8 @@ begins : (old mid : Port) (bytes : List ℕ) → IsAfter old mid bytes → Begin
 begins old mid bytes after xs e = let h = after xs e in (h.0, h.1)
 
 -- the reader failed
-pub read_failed : (json : Bool) (first : AnalysisState) (before : CapturedView) (old mid new : Port) (output : Device) (size : ℕ) → TakesFront (Seen json first output before) 188 old mid size →
+pub read_failed : (json : Bool) (first : AnalysisState) (before : CapturedView) (old mid new : Port) (output : Device) (size : ℕ) →
+    TakesFront (Seen json first output before) 188 old mid size →
     Failed mid.failed new.failed → Breaks json first (between old new) output Read
 read_failed json first before old mid new output size f failed = record {
   bytes = f.bytes;
@@ -81,7 +83,8 @@ read_failed json first before old mid new output size f failed = record {
 }
 
 -- there was no memory for the lines of a piece
-pub no_memory : (json : Bool) (first : AnalysisState) (before : CapturedView) (old mid new : Port) (output : Device) (size : ℕ) → TakesFront (Seen json first output before) 188 old mid size →
+pub no_memory : (json : Bool) (first : AnalysisState) (before : CapturedView) (old mid new : Port) (output : Device) (size : ℕ) →
+    TakesFront (Seen json first output before) 188 old mid size →
     new.failed ≡ mid.failed → Breaks json first (between old new) output Memory
 no_memory json first before old mid new output size f clean = record {
   bytes = f.bytes;
@@ -99,14 +102,16 @@ next_stopped json first before old mid new output size Write f never = absurd ne
 next_stopped json first before old mid new output size Memory f clean = no_memory json first before old mid new output size f clean
 
 -- the input is too long
-long_if : (known : Option (List ℕ)) (bytes : List ℕ) → longest_input < length bytes → ((xs : List ℕ) → known ≡ Some xs → (left : List ℕ) × (xs ≡ bytes ++ left)) → IsLong known
+long_if : (known : Option (List ℕ)) (bytes : List ℕ) → longest_input < length bytes →
+    ((xs : List ℕ) → known ≡ Some xs → (left : List ℕ) × (xs ≡ bytes ++ left)) → IsLong known
 long_if None bytes s h = tt
 long_if (Some xs) bytes s h =
     let k = h xs refl in
     let all : length xs ≡ length bytes + length k.0 = ap length k.1 ∙ length-append bytes k.0 in
     omega (arith, all, s)
 
-pub too_long : (json : Bool) (first : AnalysisState) (before : CapturedView) (old mid : Port) (output : Device) (size : ℕ) → TakesFront (Seen json first output before) 188 old mid size → longest_input < size →
+pub too_long : (json : Bool) (first : AnalysisState) (before : CapturedView) (old mid : Port) (output : Device) (size : ℕ) →
+    TakesFront (Seen json first output before) 188 old mid size → longest_input < size →
     Breaks json first (between old mid) output Read
 too_long json first before old mid output size f long = record {
   bytes = f.bytes;
@@ -117,7 +122,8 @@ too_long json first before old mid output size f long = record {
 }
 
 -- and within its last piece
-pub too_long_then : (json : Bool) (first : AnalysisState) (now : CapturedView) (old mid new : Port) (output : Device) (bytes piece : List ℕ) (n : ℕ) → IsAfter old mid bytes → ReadsFront (between mid new) piece n →
+pub too_long_then : (json : Bool) (first : AnalysisState) (now : CapturedView) (old mid new : Port) (output : Device) (bytes piece : List ℕ) (n : ℕ) →
+    IsAfter old mid bytes → ReadsFront (between mid new) piece n →
     Seen json first output now (bytes ++ take n piece) → ReadsInput (between old new) (Err Read) → Breaks json first (between old new) output Read
 too_long_then json first now old mid new output bytes piece n known r s why = record {
   bytes = bytes ++ take n piece;
@@ -134,9 +140,11 @@ take_past (x ∷ xs) ys n =
     let e : length (x ∷ xs) + n ≡ suc (length xs + n) = omega arith in
     rw e (ap (λ (l : List ℕ). x ∷ l) (take_past xs ys n))
 
-pub write_failed : (json : Bool) (first : AnalysisState) (before now : CapturedView) (old mid new : Port) (begin middle end : Port) (size n : ℕ) (text piece : List ℕ) →
+pub write_failed : (json : Bool) (first : AnalysisState) (before now : CapturedView) (old mid new : Port) (begin middle end : Port) (size n : ℕ)
+    (text piece : List ℕ) →
     TakesFront (Seen json first (between begin middle) before) 188 old mid size → ReadsFront (between mid new) piece n →
-    ((bytes : List ℕ) (found : List Part) → IsSoFar first before bytes found → Shows json first now (bytes ++ take n piece) found text) → Stopped text (between middle end) → Failed middle.failed end.failed →
+    ((bytes : List ℕ) (found : List Part) → IsSoFar first before bytes found → Shows json first now (bytes ++ take n piece) found text) →
+    Stopped text (between middle end) → Failed middle.failed end.failed →
     Breaks json first (between old new) (between begin end) Write
 write_failed json first before now old mid new begin middle end size n text piece f r shows stopped failed =
     let bytes = f.bytes ++ take n piece in
@@ -154,13 +162,15 @@ write_failed json first before now old mid new begin middle end size n text piec
       at = (
         record {
           taken = length a + stopped.taken;
-          appends = subst (Appends begin.bytes end.bytes) front (Appends-trans begin.bytes middle.bytes end.bytes a (take stopped.taken text) f.taken.written stopped.appends);
+          appends = subst (Appends begin.bytes end.bytes) front
+              (Appends-trans begin.bytes middle.bytes end.bytes a (take stopped.taken text) f.taken.written stopped.appends);
         },
         subst (λ (k : ℕ). Failed k end.failed) f.taken.clean failed,
       );
     }
 
-pub write_stopped : (V : Type 0) (json : Bool) (first : AnalysisState) (before now : CapturedView) (old mid new begin middle end : Port) (size n : ℕ) (text piece : List ℕ) (halt : Halt) →
+pub write_stopped : (V : Type 0) (json : Bool) (first : AnalysisState) (before now : CapturedView) (old mid new begin middle end : Port) (size n : ℕ)
+    (text piece : List ℕ) (halt : Halt) →
     TakesFront (Seen json first (between begin middle) before) 188 old mid size → ReadsFront (between mid new) piece n →
     ((bytes : List ℕ) (found : List Part) → IsSoFar first before bytes found → Shows json first now (bytes ++ take n piece) found text) →
     WritesLine {V = V} text (between middle end) (Err halt) → Breaks json first (between old new) (between begin end) halt
@@ -171,27 +181,33 @@ write_stopped V json first before now old mid new begin middle end size n text p
 
 -- 4. The end of the input
 
-pub if_ok : (HasTaken : List ℕ → Type 0) (input : Device) (r : Result ℕ Halt) → TakesInput HasTaken input r → IfOk r (λ size. TakesInput HasTaken input (Ok size))
+pub if_ok : (HasTaken : List ℕ → Type 0) (input : Device) (r : Result ℕ Halt) → TakesInput HasTaken input r →
+    IfOk r (λ size. TakesInput HasTaken input (Ok size))
 if_ok HasTaken input (Ok size) t = t
 if_ok HasTaken input (Err halt) t = tt
 
-pub if_err : (HasTaken : List ℕ → Type 0) (json : Bool) (first : AnalysisState) (now : CapturedView) (old mid new : Port) (output : Device) (size n : ℕ) (piece : List ℕ) (before : CapturedView) (middle : Device) (r : Result ℕ Halt) →
+pub if_err : (HasTaken : List ℕ → Type 0) (json : Bool) (first : AnalysisState) (now : CapturedView) (old mid new : Port) (output : Device) (size n : ℕ)
+    (piece : List ℕ) (before : CapturedView) (middle : Device) (r : Result ℕ Halt) →
     TakesFront (Seen json first middle before) 188 old mid size → ReadsFront (between mid new) piece n →
     ((bytes : List ℕ) → length bytes % 188 ≡ 0 → Seen json first middle before bytes → Seen json first output now (bytes ++ take n piece)) →
-    IfErr r (λ halt. (halt ≡ Read) × (longest_input < size + n)) → TakesInput HasTaken (between old new) r → IfErr r (Breaks json first (between old new) output)
+    IfErr r (λ halt. (halt ≡ Read) × (longest_input < size + n)) → TakesInput HasTaken (between old new) r →
+    IfErr r (Breaks json first (between old new) output)
 if_err HasTaken json first now old mid new output size n piece before middle (Ok whole) f r t e takes = tt
 if_err HasTaken json first now old mid new output size n piece before middle (Err halt) f r t e takes =
     subst (Breaks json first (between old new) output) (sym e.0)
-    (too_long_then json first now old mid new output f.bytes piece n f.known r (t f.bytes f.whole f.taken) (subst (λ (h : Halt). ReadsInput (between old new) (Err h)) e.0 takes))
+    (too_long_then json first now old mid new output f.bytes piece n f.known r (t f.bytes f.whole f.taken)
+    (subst (λ (h : Halt). ReadsInput (between old new) (Err h)) e.0 takes))
 
 -- 5. All of it, or a front after which so many units of a stream wait that no more is viewed
 
-pub if_whole : (json : Bool) (first : AnalysisState) (input output : Device) (now : CapturedView) (r : Result ℕ Halt) → IfOk r (λ size. TakesInput (Seen json first output now) input (Ok size)) →
+pub if_whole : (json : Bool) (first : AnalysisState) (input output : Device) (now : CapturedView) (r : Result ℕ Halt) →
+    IfOk r (λ size. TakesInput (Seen json first output now) input (Ok size)) →
     IfOk r (Reaches json first input output now)
 if_whole json first input output now (Ok size) t = inl t
 if_whole json first input output now (Err halt) t = tt
 
-pub crowds : (json : Bool) (first : AnalysisState) (now : CapturedView) (old new : Port) (output : Device) (size : ℕ) → TakesFront (Seen json first output now) 188 old new size → is_crowded now.parts.view ≡ true →
+pub crowds : (json : Bool) (first : AnalysisState) (now : CapturedView) (old new : Port) (output : Device) (size : ℕ) →
+    TakesFront (Seen json first output now) 188 old new size → is_crowded now.parts.view ≡ true →
     Reaches json first (between old new) output now size
 crowds json first now old new output size f crowded =
     inr (record { bytes = f.bytes; size_is = f.size_is; front = begins old new f.bytes f.known; seen = f.taken; clean = f.clean; crowded = crowded })

@@ -27,16 +27,19 @@ pub page_written : (bytes text : List ℕ) (input output faults : Device) (statu
 page_written bytes text input output faults status r is w c u s =
     performed DrawsPlan bytes (printed text 0) input output faults status r (drawn_page (job_of false bytes) text is) w c (reports_none faults u) s
 
-pub page_unwritten : (bytes text : List ℕ) (input output faults : Device) (status : ℕ) (halt : Halt) → ReadsInput input (Ok bytes) → IsPageOf (job_of false bytes) text →
+pub page_unwritten : (bytes text : List ℕ) (input output faults : Device) (status : ℕ) (halt : Halt) → ReadsInput input (Ok bytes) →
+    IsPageOf (job_of false bytes) text →
     WritesLine {V = Unit {0}} text output (Err halt) → Reports faults (halt_line halt) → status ≡ 3 → Performs DrawsPlan input output faults status
 page_unwritten bytes text input output faults status halt r is w t s =
     text_unwritten (Unit {0}) DrawsPlan bytes text (printed text 0) input output faults status halt r (drawn_page (job_of false bytes) text is) refl w t s
 
-pub fault_reported : (bytes : List ℕ) (fault : JobFaultView) (input output faults : Device) (status : ℕ) → ReadsInput input (Ok bytes) → Err fault ≡ job_of false bytes →
+pub fault_reported : (bytes : List ℕ) (fault : JobFaultView) (input output faults : Device) (status : ℕ) → ReadsInput input (Ok bytes) →
+    Err fault ≡ job_of false bytes →
     IsUntouched output → Reports faults (fault_line fault) → status ≡ 1 → Performs DrawsPlan input output faults status
 fault_reported bytes fault input output faults status r is u t s =
     reported_only DrawsPlan bytes (fault_line fault) input output faults status r (faulty_job (job_of false bytes) fault is) u t s
 
-pub no_memory_left : (bytes : List ℕ) (input output faults : Device) (status : ℕ) → ReadsInput input (Ok bytes) → IsUntouched output → Reports faults (halt_line Memory) →
+pub no_memory_left : (bytes : List ℕ) (input output faults : Device) (status : ℕ) → ReadsInput input (Ok bytes) → IsUntouched output →
+    Reports faults (halt_line Memory) →
     status ≡ 3 → Performs DrawsPlan input output faults status
 no_memory_left bytes input output faults status r u t s = no_room DrawsPlan bytes input output faults status r u t s

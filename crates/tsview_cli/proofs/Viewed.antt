@@ -1,5 +1,6 @@
 -- All lines of an input, or those of a front of it.
-use Rattle.std.proofs.Common.{◌≡◌, ℕ, ◌+◌, ◌%◌, Bool, true, false, cond, List, [], ◌++◌, length, take, refl, sym, ap, subst, ◌∙◌, inl, inr, append-nil, append_assoc, Option, Some, None, Ok, Err, arith}
+use Rattle.std.proofs.Common.{◌≡◌, ℕ, ◌+◌, ◌%◌, Bool, true, false, cond, List, [], ◌++◌, length, take, refl, sym, ap, subst, ◌∙◌, inl, inr, append-nil}
+use Rattle.std.proofs.Common.{append_assoc, Option, Some, None, Ok, Err, arith}
 use Rattle.std.proofs.KnownBytes.{Appends-nil, Appends-trans}
 use Rattle.std.proofs.lemmas.Grind.{flat_map-append}
 use Rattle.std.specs.Io.KnownBytes.{Appends}
@@ -22,14 +23,16 @@ use Rattle.tsview_cli.specs.CapturedStreams.{IsSoFar, after_parts, events_last, 
 use Rattle.tsview_cli.specs.declared.captured.CapturedView.{CapturedView}
 use Rattle.tsview_cli.specs.declared.viewing.Viewed.{Viewed}
 use Rattle.tsview_cli.specs.declared.viewing.Viewed.TheVariants.{Whole, Crowded}
-use Rattle.tsview_cli.specs.Viewing.{AreSettled, AreViewed, BeginsWith, Breaks, BreaksOff, Concludes, EndShows, Reaches, Seen, Sees, SeesAll, Views, all_lines, as_viewed, lines_all, settled, viewed}
+use Rattle.tsview_cli.specs.Viewing.{AreSettled, AreViewed, BeginsWith, Breaks, BreaksOff, Concludes, EndShows, Reaches, Seen, Sees, SeesAll, Views, all_lines}
+use Rattle.tsview_cli.specs.Viewing.{as_viewed, lines_all, settled, viewed}
 
 -- before the first byte
 none_settled : AreSettled [] []
 unfolding capture_by
 none_settled = record { reader = no_bytes; left = λ more. refl; few = omega arith }
 
-pub none_seen : (request : RequestView) (json : Bool) (input output : Port) (halt : Halt) → halt ≡ Memory → BreaksOff request json (between input input) (between output output) halt
+pub none_seen : (request : RequestView) (json : Bool) (input output : Port) (halt : Halt) → halt ≡ Memory →
+    BreaksOff request json (between input input) (between output output) halt
 unfolding events_of
 none_seen request json input output halt is = subst (BreaksOff request json (between input input) (between output output)) (sym is) (record {
   bytes = [];
@@ -40,7 +43,8 @@ none_seen request json input output halt is = subst (BreaksOff request json (bet
 })
 
 -- within the stream
-pub broken : (request : RequestView) (json : Bool) (input output : Device) (halt : Halt) → Breaks json (start request) input output halt → BreaksOff request json input output halt
+pub broken : (request : RequestView) (json : Bool) (input output : Device) (halt : Halt) → Breaks json (start request) input output halt →
+    BreaksOff request json input output halt
 broken request json input output halt b = record {
   bytes = b.bytes;
   front = b.front;
@@ -61,7 +65,8 @@ record Reached (request : RequestView) (json : Bool) (input output : Device) (no
   pub clean : IsClean input
   pub all : ((later : List Part) → parts_in bytes ≡ seen.found ++ later → AreViewed request input bytes)
 
-reached : (request : RequestView) (json : Bool) (input output : Device) (now : CapturedView) (size : ℕ) → Reaches json (start request) input output now size → Reached request json input output now size
+reached : (request : RequestView) (json : Bool) (input output : Device) (now : CapturedView) (size : ℕ) → Reaches json (start request) input output now size →
+    Reached request json input output now size
 reached request json input output now size (inl t) = record {
   bytes = t.bytes;
   front = whole_front input.before.bytes t.bytes t.read.0;
@@ -78,7 +83,8 @@ reached request json input output now size (inr c) = record {
 }
 
 -- before its last lines
-pub no_end : (request : RequestView) (json : Bool) (input output : Device) (now : CapturedView) (size : ℕ) (halt : Halt) → halt ≡ Memory → Reaches json (start request) input output now size →
+pub no_end : (request : RequestView) (json : Bool) (input output : Device) (now : CapturedView) (size : ℕ) (halt : Halt) → halt ≡ Memory →
+    Reaches json (start request) input output now size →
     BreaksOff request json input output halt
 no_end request json input output now size halt is t =
     let r : Reached request json input output now size = reached request json input output now size t in
@@ -92,22 +98,26 @@ no_end request json input output now size halt is t =
 
 -- the last lines, whatever was viewed before
 abbrev pub EndsWith : Option ℕ → Bool → CapturedView → List ℕ → Bool → Type 0
-EndsWith rate json now text good = (first : AnalysisState) (bytes : List ℕ) (found : List Part) → IsSoFar first now bytes found → EndShows rate json first bytes found text good
+EndsWith rate json now text good = (first : AnalysisState) (bytes : List ℕ) (found : List Part) → IsSoFar first now bytes found →
+    EndShows rate json first bytes found text good
 
-last_lines : (request : RequestView) (json : Bool) (bytes : List ℕ) (found : List Part) (text : List ℕ) (rate : Option ℕ) (good : Bool) → rate ≡ rate_in request → EndShows rate json (start request) bytes found text good →
+last_lines : (request : RequestView) (json : Bool) (bytes : List ℕ) (found : List Part) (text : List ℕ) (rate : Option ℕ) (good : Bool) →
+    rate ≡ rate_in request → EndShows rate json (start request) bytes found text good →
     settled request json found ++ text ≡ all_lines request json bytes
 last_lines request json bytes found text rate good is e =
     let s = start request in
     let more = events_of (after_parts s found) e.more in
     let last = last_events rate (capture_of bytes).form (after_parts s (parts_in bytes)) (left_in bytes) in
-    let same : last ≡ events_last request bytes = ap (λ (r : Option ℕ). last_events r (capture_of bytes).form (after_parts s (parts_in bytes)) (left_in bytes)) is in
+    let same : last ≡ events_last request bytes =
+    ap (λ (r : Option ℕ). last_events r (capture_of bytes).form (after_parts s (parts_in bytes)) (left_in bytes)) is in
     ap (λ (t : List ℕ). settled request json found ++ t) (e.text_is ∙ flat_map-append (timed_line json) more last)
     ∙ sym (append_assoc (settled request json found) (lines_of json more) (lines_of json last))
     ∙ ap (λ (t : List ℕ). t ++ lines_of json last) (sym (lines_both json s found e.more) ∙ ap (λ (p : List Part). lines_all json s p) (sym e.parts_are))
     ∙ ap (λ (l : List TimedEvent). lines_all json s (parts_in bytes) ++ lines_of json l) same
 
 -- within them
-pub not_ended : (V : Type 0) (request : RequestView) (json : Bool) (input : Device) (begin mid end : Port) (now : CapturedView) (size : ℕ) (text : List ℕ) (halt : Halt) (rate : Option ℕ) (good : Bool) → rate ≡ rate_in request →
+pub not_ended : (V : Type 0) (request : RequestView) (json : Bool) (input : Device) (begin mid end : Port) (now : CapturedView) (size : ℕ) (text : List ℕ)
+    (halt : Halt) (rate : Option ℕ) (good : Bool) → rate ≡ rate_in request →
     Reaches json (start request) input (between begin mid) now size → EndsWith rate json now text good → WritesLine {V = V} text (between mid end) (Err halt) →
     BreaksOff request json input (between begin end) halt
 not_ended V request json input begin mid end now size text Read rate good same t is w = absurd w
@@ -126,7 +136,8 @@ not_ended V request json input begin mid end now size text Write rate good same 
       at = (
         record {
           taken = length a + stopped.taken;
-          appends = subst (Appends begin.bytes end.bytes) front (Appends-trans begin.bytes mid.bytes end.bytes a (take stopped.taken text) r.seen.written stopped.appends);
+          appends = subst (Appends begin.bytes end.bytes) front
+              (Appends-trans begin.bytes mid.bytes end.bytes a (take stopped.taken text) r.seen.written stopped.appends);
         },
         subst (λ (k : ℕ). Failed k end.failed) r.seen.clean w.1,
       );
@@ -134,19 +145,23 @@ not_ended V request json input begin mid end now size text Write rate good same 
 not_ended V request json input begin mid end now size text Memory rate good same t is w = absurd w
 
 -- to its end
-all_written : (request : RequestView) (json : Bool) (begin mid end : Port) (now : CapturedView) (text bytes : List ℕ) (rate : Option ℕ) (good : Bool) → rate ≡ rate_in request →
-    (seen : Seen json (start request) (between begin mid) now bytes) → EndShows rate json (start request) bytes seen.found text good → Appends mid.bytes end.bytes text →
+all_written : (request : RequestView) (json : Bool) (begin mid end : Port) (now : CapturedView) (text bytes : List ℕ) (rate : Option ℕ) (good : Bool) →
+    rate ≡ rate_in request →
+    (seen : Seen json (start request) (between begin mid) now bytes) → EndShows rate json (start request) bytes seen.found text good →
+    Appends mid.bytes end.bytes text →
     Appends begin.bytes end.bytes (all_lines request json bytes)
 all_written request json begin mid end now text bytes rate good same seen e written =
     subst (Appends begin.bytes end.bytes) (last_lines request json bytes seen.found text rate good same e)
     (Appends-trans begin.bytes mid.bytes end.bytes (settled request json seen.found) text seen.written written)
 
-good_is : (request : RequestView) (json : Bool) (bytes : List ℕ) (found : List Part) (text : List ℕ) (rate : Option ℕ) (good : Bool) → rate ≡ rate_in request → EndShows rate json (start request) bytes found text good →
+good_is : (request : RequestView) (json : Bool) (bytes : List ℕ) (found : List Part) (text : List ℕ) (rate : Option ℕ) (good : Bool) → rate ≡ rate_in request →
+    EndShows rate json (start request) bytes found text good →
     good ≡ is_good_input request bytes
 good_is request json bytes found text rate good same e =
     e.good_is ∙ ap (λ (r : Option ℕ). is_whole r (capture_of bytes).form (after_parts (start request) (parts_in bytes)) (left_in bytes)) same
 
-all_seen : (request : RequestView) (json : Bool) (input : Device) (begin mid end : Port) (now : CapturedView) (size : ℕ) (text : List ℕ) (rate : Option ℕ) (good : Bool) → rate ≡ rate_in request →
+all_seen : (request : RequestView) (json : Bool) (input : Device) (begin mid end : Port) (now : CapturedView) (size : ℕ) (text : List ℕ) (rate : Option ℕ)
+    (good : Bool) → rate ≡ rate_in request →
     TakesAll (Seen json (start request) (between begin mid) now) input size → EndsWith rate json now text good → Appends mid.bytes end.bytes text →
     end.failed ≡ mid.failed → SeesAll request json input (between begin end) good
 all_seen request json input begin mid end now size text rate good same t is written clean =
@@ -163,8 +178,10 @@ not_both : (b : Bool) → b ≡ true → b ≡ false → ⊥
 not_both b e f = let both : true ≡ false = sym e ∙ f in absurd cc
 
 -- or to where the view is crowded
-pub viewed_so : (request : RequestView) (json : Bool) (input : Device) (begin mid end : Port) (now : CapturedView) (size : ℕ) (text : List ℕ) (rate : Option ℕ) (crowded good : Bool) → rate ≡ rate_in request →
-    crowded ≡ is_crowded now.parts.view → Reaches json (start request) input (between begin mid) now size → EndsWith rate json now text good → Appends mid.bytes end.bytes text →
+pub viewed_so : (request : RequestView) (json : Bool) (input : Device) (begin mid end : Port) (now : CapturedView) (size : ℕ) (text : List ℕ) (rate : Option ℕ)
+    (crowded good : Bool) → rate ≡ rate_in request →
+    crowded ≡ is_crowded now.parts.view → Reaches json (start request) input (between begin mid) now size → EndsWith rate json now text good →
+    Appends mid.bytes end.bytes text →
     end.failed ≡ mid.failed → Sees request json input (between begin end) (Ok (as_viewed crowded good))
 viewed_so request json input begin mid end now size text rate true good same so t is written clean =
     let r : Reached request json input (between begin mid) now size = reached request json input (between begin mid) now size t in
@@ -179,13 +196,15 @@ viewed_so request json input begin mid end now size text rate true good same so 
     }
 viewed_so request json input begin mid end now size text rate false good same so (inl t) is written clean =
     all_seen request json input begin mid end now size text rate good same t is written clean
-viewed_so request json input begin mid end now size text rate false good same so (inr c) is written clean = absurd (not_both (is_crowded now.parts.view) c.crowded (sym so))
+viewed_so request json input begin mid end now size text rate false good same so (inr c) is written clean =
+    absurd (not_both (is_crowded now.parts.view) c.crowded (sym so))
 
 whole_is : (bytes : Option (List ℕ)) (read xs : List ℕ) → IsWhole bytes read → bytes ≡ Some xs → read ≡ xs
 whole_is None read xs w e = absurd cc
 whole_is (Some ys) read xs w e = w ∙ (let same : ys ≡ xs = cc in same)
 
-ended : (request : RequestView) (json : Bool) (input output faults : Device) (good : Bool) (status : ℕ) → SeesAll request json input output good → IsUntouched faults → status ≡ cond good 0 1 →
+ended : (request : RequestView) (json : Bool) (input output faults : Device) (good : Bool) (status : ℕ) → SeesAll request json input output good →
+    IsUntouched faults → status ≡ cond good 0 1 →
     Views request json input output faults status
 ended request json input output faults good status s untouched is = inl (record {
   outcome = viewed request json s.bytes;
@@ -197,7 +216,8 @@ ended request json input output faults good status s untouched is = inl (record 
   status_is = is ∙ ap (λ (b : Bool). cond b 0 1) s.good_is;
 })
 
-pub concluded : (request : RequestView) (json : Bool) (input output faults : Device) (v : Viewed) (status : ℕ) → Sees request json input output (Ok v) → Concludes v faults status →
+pub concluded : (request : RequestView) (json : Bool) (input output faults : Device) (v : Viewed) (status : ℕ) → Sees request json input output (Ok v) →
+    Concludes v faults status →
     Views request json input output faults status
 concluded request json input output faults (Whole good) status s c = ended request json input output faults good status s c.0 c.1
 concluded request json input output faults Crowded status s c = inr (inr (record { sees = s; reports = c.0; status_is = c.1 }))

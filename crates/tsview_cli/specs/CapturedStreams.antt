@@ -1,5 +1,6 @@
 -- A capture that is viewed: its packets are viewed one after another, and each slip among them is an event.
-use Rattle.std.specs.Prelude.{◌≡◌, ◌<◌, ℕ, ◌+◌, ◌-◌, ◌/◌, ◌==◌, ◌&&◌, ◌||◌, not, nat_lt, Bool, if◌then◌else◌, List, [], ◌∷◌, ◌++◌, length, flat_map, Option, Some, None}
+use Rattle.std.specs.Prelude.{◌≡◌, ◌<◌, ℕ, ◌+◌, ◌-◌, ◌/◌, ◌==◌, ◌&&◌, ◌||◌, not, nat_lt, Bool, if◌then◌else◌, List, [], ◌∷◌, ◌++◌, length, flat_map, Option}
+use Rattle.std.specs.Prelude.{Some, None}
 use Rattle.arrival.specs.declared.arrival.Arrival.{Arrival}
 use Rattle.arrival.specs.declared.arrival.Arrival.TheVariants.{Unknown, AtRate, OnLines}
 use Rattle.capture.specs.Captures.{Capture, IsPacket, IsSize, IsSlip, Part, capture_of, size_of, with_parts}
@@ -15,7 +16,8 @@ use Rattle.events.specs.declared.input_event.InputEvent.{InputEvent}
 use Rattle.events.specs.declared.input_event.InputEvent.TheVariants as inputs
 use Rattle.events.specs.declared.timed_event.TimedEvent.{TimedEvent}
 use Rattle.ts_watch.specs.Choices.{RequestView}
-use Rattle.analysis.specs.Analysis.{AnalysisState, IsAnalysed, after_packet, all_timed, conclusion, ended, events_at, is_faultless, is_good, start, timed, with_event, with_events}
+use Rattle.analysis.specs.Analysis.{AnalysisState, IsAnalysed, after_packet, all_timed, conclusion, ended, events_at, is_faultless, is_good, start, timed}
+use Rattle.analysis.specs.Analysis.{with_event, with_events}
 use Rattle.analysis.specs.Analysis as ending
 use Rattle.tsview_cli.specs.declared.captured.CapturedView.{CapturedView}
 use Rattle.tsview_cli.specs.declared.captured.ViewedParts.{ViewedParts}

@@ -11,7 +11,8 @@ use Rattle.events.specs.declared.timed_event.TimedEvent.{TimedEvent}
 use Rattle.devices.specs.Outcomes.{Outcome, printed}
 use Rattle.devices.specs.WholeInput.{ReadsInput}
 use Rattle.devices.specs.declared.halt.Halt.{Halt}
-use Rattle.tsview_cli.specs.CapturedStreams.{IsSoFar, after_parts, events_before, events_last, events_of, is_good_input, is_whole, last_events, left_in, parts_in, rate_in}
+use Rattle.tsview_cli.specs.CapturedStreams.{IsSoFar, after_parts, events_before, events_last, events_of, is_good_input, is_whole, last_events, left_in}
+use Rattle.tsview_cli.specs.CapturedStreams.{parts_in, rate_in}
 use Rattle.tsview_cli.specs.declared.drawing.Drawing.{Drawing}
 use Rattle.tsview_cli.specs.declared.drawing.DrawnPage.{DrawnPage}
 

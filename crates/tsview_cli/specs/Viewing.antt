@@ -185,4 +185,5 @@ pub record EndsCrowded (request : RequestView) (json : Bool) (input output fault
 
 abbrev pub Views : RequestView → Bool → Device → Device → Device → ℕ → Type 0
 Views request json input output faults status =
-    Ends (Leads request json) input output faults status ⊎ (EndsEarly request json input output faults status ⊎ EndsCrowded request json input output faults status)
+    Ends (Leads request json) input output faults status ⊎
+    (EndsEarly request json input output faults status ⊎ EndsCrowded request json input output faults status)

@@ -171,8 +171,8 @@ fn push_notes(
 }
 
 impl ViewedParts {
-    // Appends the last events, before them what they show of the input, and after them what all events come to. Returns whether nothing
-    // is wrong in it.
+    // Appends the last events, before them what they show of the input, and after them what all events come to. Returns
+    // whether nothing is wrong in it.
     fn push_last(
         &mut self,
         alloc: Global,
@@ -228,8 +228,8 @@ impl CapturedView {
         self.parts.view.is_crowded()
     }
 
-    /// Ends the input: the last events are there afterwards, and no others. Returns whether nothing is wrong in it; `rate`: the rate
-    /// that is given.
+    /// Ends the input: the last events are there afterwards, and no others. Returns whether nothing is wrong in it;
+    /// `rate`: the rate that is given.
     pub fn end(&mut self, rate: Option<u64>) -> Result<bool, AllocError>
         ensures { (first : AnalysisState) (bytes : List ℕ) (found : List Part) → IsSoFar first self.old bytes found →
             IfOk result (IsEnded rate first self.new bytes found) }

@@ -15,7 +15,8 @@ use std::alloc::{AllocError, Global};
 use ts_report::ViewRequest;
 use view_page::Page;
 
-/// The size of a piece in bytes: 349 packets, somewhat more than 64 KiB, so that it is read past the buffer of standard input.
+/// The size of a piece in bytes: 349 packets, somewhat more than 64 KiB, so that it is read past the buffer of standard
+/// input.
 const PIECE: usize = 349 * 188;
 
 /// A stream that is viewed, and the page of the events that its bytes have settled.
@@ -53,7 +54,8 @@ impl Drawing {
         self.page.take_all(&self.stream.parts.events)
     }
 
-    // The bytes of the next piece. A view that is crowded is refused as if there were no memory: a page of a part is not drawn.
+    // The bytes of the next piece. A view that is crowded is refused as if there were no memory: a page of a part is
+    // not drawn.
     fn take_bytes(&mut self, piece: &[u8]) -> Result<(), Halt>
         ensures taken { (s : AnalysisState) (p : PageState) (bytes : List ℕ) → IsDrawn self.old s p bytes →
             OnOk result (IsDrawn self.new s p (bytes ++ piece.now)) }

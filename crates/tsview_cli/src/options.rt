@@ -6,7 +6,8 @@ ghost use Rattle.word_faults.specs.KnownWords.{known_of};
 use option_lists::Scale;
 use word_faults::{KnownWords, OptionRow, ValueKind};
 
-/// The options, and the name of a file beside them. What is read, which word is a fault, and the usage follow these rows.
+/// The options, and the name of a file beside them. What is read, which word is a fault, and the usage follow these
+/// rows.
 pub(crate) const OPTIONS: [OptionRow; 13] = [
     OptionRow {
         name: "file",
@@ -134,7 +135,8 @@ pub(crate) const OPTIONS: [OptionRow; 13] = [
     },
 ];
 
-/// The usage, written to the first writer if the words ask for help, to the second on a usage error: a line for each row of the table.
+/// The usage, written to the first writer if the words ask for help, to the second on a usage error: a line for each
+/// row of the table.
 const USAGE: &str = "usage: tsview [OPTIONS] [FILE|-] < PACKETS
        tsview --plan < JOB
   --rate 100000..100000000       the rate of the stream in bits a second; else by its clock references

@@ -185,9 +185,10 @@ fn run_on_stream<F: NamedFiles, R: Source, W: Sink, E: Sink>(
     }
 }
 
-/// Runs the whole program: it reads the input, or a file that is named, piece by piece, writes the lines of what a piece settles before it reads the next, or
-/// draws a page of it and writes that at the end; or draws a page of the plan in a job. It returns the exit status: 0 good, 1
-/// something is wrong in the stream or the job, 2 a usage error, 3 a device failed, out of memory, or too many units of a stream wait.
+/// Runs the whole program: it reads the input, or a file that is named, piece by piece, writes the lines of what a
+/// piece settles before it reads the next, or draws a page of it and writes that at the end; or draws a page of the
+/// plan in a job. It returns the exit status: 0 good, 1 something is wrong in the stream or the job, 2 a usage error, 3
+/// a device failed, out of memory, or too many units of a stream wait.
 pub fn run<F: NamedFiles, R: Source, W: Sink, E: Sink>(
     alloc: Global,
     words: &[&str],

@@ -18,7 +18,8 @@ use events::write_events;
 use std::alloc::{AllocError, Global};
 use ts_report::ViewRequest;
 
-/// The size of a piece in bytes: 349 packets, somewhat more than 64 KiB, so that it is read past the buffer of standard input.
+/// The size of a piece in bytes: 349 packets, somewhat more than 64 KiB, so that it is read past the buffer of standard
+/// input.
 const PIECE: usize = 349 * 188;
 
 /// What an input is, as far as it was viewed.
@@ -219,7 +220,8 @@ fn view_whole<R: Source, W: Sink>(
     }
 }
 
-/// Views the input, and writes all its lines, or all of what was viewed until the view was crowded; returns what the input is.
+/// Views the input, and writes all its lines, or all of what was viewed until the view was crowded; returns what the
+/// input is.
 pub(crate) fn view_input<R: Source, W: Sink>(
     alloc: Global,
     request: ViewRequest,

@@ -1,5 +1,6 @@
 -- The cells of a row.
-use Rattle.std.specs.Prelude.{ℕ, ◌-◌, ◌*◌, ◌/◌, ◌^◌, ◌==◌, min, max, nat_lt, Bool, false, if◌then◌else◌, List, ◌++◌, codes, decimal, flat_map, Option, Some, None}
+use Rattle.std.specs.Prelude.{ℕ, ◌-◌, ◌*◌, ◌/◌, ◌^◌, ◌==◌, min, max, nat_lt, Bool, false, if◌then◌else◌, List, ◌++◌, codes, decimal, flat_map, Option, Some}
+use Rattle.std.specs.Prelude.{None}
 use Rattle.events.specs.declared.fault_kind.FaultSource.{FaultSource}
 use Rattle.events.specs.declared.fault_kind.FaultSource.TheVariants as sources
 use Rattle.events.specs.FileForms.{words}
@@ -9,7 +10,13 @@ use Rattle.page_charts.specs.PidLabels.{LabelsState, label_text}
 use Rattle.view_page.specs.declared.cells.CellUnit.{CellUnit}
 use Rattle.view_page.specs.declared.cells.CellUnit.TheVariants.{Same, Ticks}
 use Rattle.view_page.specs.declared.cells.CellWord.{CellWord}
-use Rattle.view_page.specs.declared.cells.CellWord.TheVariants.{Transport, Main, Multiplexing, Elementary, TransportExcess, MainExcess, MultiplexingExcess, ElementaryExcess, SystemExcess, SystemMainExcess, LateUnit, ElementaryLate, LateByMultiplex, LateByFullBuffer, FarAhead, PcrRepetition, PcrDiscontinuity, PcrAccuracy, TableRepetition, Unclocked, SyncByte, RefusedHeader, TransportError, Continuity, CheckWord, Slip, Rest, PacketSize, EmptyInput, NoStream, OtherRate, Bytes, Packets, Millis, Nanos, BitRate, Unreferenced, Missing, PtsRepetition, SectionDistance, OtherTable, ScrambledTable, NoCat, NotEmpty, Delayed, NoClock, RateVaries, Nothing}
+use Rattle.view_page.specs.declared.cells.CellWord.TheVariants.{Transport, Main, Multiplexing, Elementary, TransportExcess, MainExcess, MultiplexingExcess}
+use Rattle.view_page.specs.declared.cells.CellWord.TheVariants.{ElementaryExcess, SystemExcess, SystemMainExcess, LateUnit, ElementaryLate, LateByMultiplex}
+use Rattle.view_page.specs.declared.cells.CellWord.TheVariants.{LateByFullBuffer, FarAhead, PcrRepetition, PcrDiscontinuity, PcrAccuracy, TableRepetition}
+use Rattle.view_page.specs.declared.cells.CellWord.TheVariants.{Unclocked, SyncByte, RefusedHeader, TransportError, Continuity, CheckWord, Slip, Rest}
+use Rattle.view_page.specs.declared.cells.CellWord.TheVariants.{PacketSize, EmptyInput, NoStream, OtherRate, Bytes, Packets, Millis, Nanos, BitRate}
+use Rattle.view_page.specs.declared.cells.CellWord.TheVariants.{Unreferenced, Missing, PtsRepetition, SectionDistance, OtherTable, ScrambledTable, NoCat}
+use Rattle.view_page.specs.declared.cells.CellWord.TheVariants.{NotEmpty, Delayed, NoClock, RateVaries, Nothing}
 use Rattle.view_page.specs.declared.cells.Cell.{Cell}
 use Rattle.view_page.specs.declared.cells.Cell.TheVariants.{Number, Checked, Bar, Word, CheckNumber, CheckName, Carried, Program, Source, Form}
 
@@ -95,7 +102,7 @@ abbrev pub bar_class : Bool → List ℕ
 bar_class over = if over then codes "over" else codes "fill"
 
 abbrev pub bar_to : List ℕ → ℕ → List ℕ
-bar_to class length = codes "<td><svg class=\"bar\" viewBox=\"0 0 200 12\"><path class=\"" ++ (class ++ (codes "\" d=\"M0 6H"
+bar_to class length = codes "<td><svg class=\"bar\" viewBox=\"0 0 200 12\" aria-hidden=\"true\"><path class=\"" ++ (class ++ (codes "\" d=\"M0 6H"
     ++ (decimal length ++ codes "\"/><path class=\"mark\" d=\"M100 0V12\"/></svg>")))
 
 unfoldable pub bar : ℕ → Option ℕ → List ℕ

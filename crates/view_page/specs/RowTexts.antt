@@ -1,5 +1,5 @@
--- The sentences of the verdict and the rows of each table of the page, as text, and the number of faults. Of a stream the row has its PID, and what it carries, before
--- these cells.
+-- The sentences of the verdict and the rows of each table of the page, as text, and the number of faults. Of a stream the row has its PID, and what it carries,
+-- before these cells.
 use Rattle.std.specs.Prelude.{ℕ, List}
 
 pub record StreamText : Type 0 where

@@ -1,7 +1,11 @@
 -- The rows that an event adds.
 use Rattle.std.specs.Prelude.{◌+◌, ◌-◌, ◌^◌, min, nat_lt, if◌then◌else◌, List, [], ◌∷◌, ◌++◌, flat_map, Option, Some, None}
 use Rattle.events.specs.declared.event.Event.{Event}
-use Rattle.events.specs.declared.event.Event.TheVariants.{Input, Stream, Window, Held, Units, Excess, MainExcess, MultiplexingExcess, ElementaryExcess, SystemExcess, SystemMainExcess, Late, ElementaryLate, Ahead, PcrRepetition, PcrDiscontinuity, PcrAccuracy, TableRepetition, Unclocked, Refused, Continuity, CheckWord, Transport, Main, Multiplexing, Elementary, Marks, System, Clock, Table, Pid, Unreferenced, Missing, Check, End, Rule, Summary}
+use Rattle.events.specs.declared.event.Event.TheVariants.{Input, Stream, Window, Held, Units, Excess, MainExcess, MultiplexingExcess, ElementaryExcess}
+use Rattle.events.specs.declared.event.Event.TheVariants.{SystemExcess, SystemMainExcess, Late, ElementaryLate, Ahead, PcrRepetition, PcrDiscontinuity}
+use Rattle.events.specs.declared.event.Event.TheVariants.{PcrAccuracy, TableRepetition, Unclocked, Refused, Continuity, CheckWord, Transport, Main}
+use Rattle.events.specs.declared.event.Event.TheVariants.{Multiplexing, Elementary, Marks, System, Clock, Table, Pid, Unreferenced, Missing, Check, End, Rule}
+use Rattle.events.specs.declared.event.Event.TheVariants.{Summary}
 use Rattle.events.specs.declared.event.StreamBegin.{StreamBegin}
 use Rattle.events.specs.declared.input_event.InputEvent.{InputEvent}
 use Rattle.events.specs.declared.input_event.InputEvent.TheVariants as inputs
@@ -14,7 +18,10 @@ use Rattle.view_page.specs.declared.cells.Cell.{Cell}
 use Rattle.view_page.specs.declared.cells.CellWord.TheVariants as words
 use Rattle.view_page.specs.declared.rows.TheConstants.{MOST_FAULTS}
 use Rattle.view_page.specs.Cells.{cell, row}
-use Rattle.view_page.specs.RowCells.{ahead_cells, check_cells, check_word_cells, clock_cells, clock_place_cells, clock_time_cells, continuity_cells, elementary_cells, elementary_late_cells, excess_cells, late_cells, main_cells, multiplexing_cells, pid_cells, program_excess_cells, reference_cells, refused_cells, stream_cells, system_cells, table_cells, table_fault_cells, transport_cells, unclocked_cells}
+use Rattle.view_page.specs.RowCells.{ahead_cells, check_cells, check_word_cells, clock_cells, clock_place_cells, clock_time_cells, continuity_cells}
+use Rattle.view_page.specs.RowCells.{elementary_cells, elementary_late_cells, excess_cells, late_cells, main_cells, multiplexing_cells, pid_cells}
+use Rattle.view_page.specs.RowCells.{program_excess_cells, reference_cells, refused_cells, stream_cells, system_cells, table_cells, table_fault_cells}
+use Rattle.view_page.specs.RowCells.{transport_cells, unclocked_cells}
 use Rattle.view_page.specs.InputCells.{empty_cells, no_stream_cells, other_rate_cells, packet_size_cells, rest_cells, slip_cells}
 use Rattle.page_charts.specs.PidLabels.{LabelsState}
 use Rattle.view_page.specs.MarkCells.{mark_cells}
@@ -22,7 +29,22 @@ use Rattle.view_page.specs.SummaryCells.{fault_cells, sentence_text, totals_cell
 use Rattle.view_page.specs.RowTexts.{RowTexts}
 
 abbrev pub no_rows : RowTexts
-no_rows = record { verdict = []; checks = []; kinds = []; streams = []; buffers = []; marks = []; systems = []; clocks = []; tables = []; pids = []; apart = []; faults = []; count = 0 }
+no_rows = record {
+  verdict = [];
+  checks = [];
+  kinds = [];
+  streams = [];
+  buffers = [];
+  marks = [];
+  systems = [];
+  clocks = [];
+  tables = [];
+  pids = [];
+  apart =
+      [];
+  faults = [];
+  count = 0;
+}
 
 -- a fault has a row if fewer than 100 have come before it; their number stops at 2^64 - 1
 abbrev pub with_fault : LabelsState → RowTexts → List Cell → RowTexts

@@ -67,8 +67,9 @@ pub enum CellWord {
     Nothing,
 }
 
-/// A cell: a number, a number that is marked if it exceeds its limit, a bar of it beside its limit, a word, the number or the
-/// name of a check, what a PID carries, a program, where a fault is, or what an input is that is no transport stream.
+/// A cell: a number, a number that is marked if it exceeds its limit, a bar of it beside its limit, a word, the number
+/// or the name of a check, what a PID carries, a program, where a fault is, or what an input is that is no transport
+/// stream.
 #[derive(Clone, Copy)]
 pub enum Cell {
     Number(u64, CellUnit),
@@ -221,7 +222,7 @@ fn write_bar_to(text: &mut String, class: &str, length: u64) -> Result<(), Alloc
 {
     write!(
         text,
-        "<td><svg class=\"bar\" viewBox=\"0 0 200 12\"><path class=\"{class}\" d=\"M0 6H{length}\"/><path class=\"mark\" d=\"M100 0V12\"/></svg>"
+        "<td><svg class=\"bar\" viewBox=\"0 0 200 12\" aria-hidden=\"true\"><path class=\"{class}\" d=\"M0 6H{length}\"/><path class=\"mark\" d=\"M100 0V12\"/></svg>"
     )
 }
 

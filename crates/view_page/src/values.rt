@@ -11,8 +11,8 @@ use std::alloc::{AllocError, Global};
 /// The size of a transport buffer in bytes (ISO/IEC 13818-1, 2.4.2.3).
 const TRANSPORT_BYTES: u64 = 512;
 
-/// Curves by window: bit rates by PID, the most bytes in the transport buffer of a stream, the most and the least in its main buffer, and
-/// the least slack of its units in microseconds; and the number of windows.
+/// Curves by window: bit rates by PID, the most bytes in the transport buffer of a stream, the most and the least in
+/// its main buffer, and the least slack of its units in microseconds; and the number of windows.
 #[derive(Drop)]
 pub struct Values {
     pub windows: u64,
@@ -71,11 +71,14 @@ impl Values {
         self.slacks.open(pid, name, 0)
     }
 
-    // `held`: what its buffers held.
+    // `held`: what its buffers held, if a byte came.
     fn take_held(&mut self, held: &HeldFigures) -> Result<(), AllocError>
         ensures { (kept : KeptValues) → AreValues self.old kept →
             OnOk result (AreValues self.new (spec.with_held kept held.now)) }
     {
+        if held.transport == 0 {
+            return Ok(());
+        }
         let pid = held.pid;
         let number = held.number;
         self.transports.take(pid, number, short(held.transport))?;

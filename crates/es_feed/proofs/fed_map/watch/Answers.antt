@@ -22,11 +22,13 @@ returns-clause-maps c =
     let f = finding_view c.args.finding.now in
     let ms = c.args.maps.now.items in
     let below : c.in-Some.k < length ms = omega (arith, c.in-Some.ensures.bound, ap (length {A = MapView}) c.deref.ensures.value) in
-    map_after f ms c.watch_at.new.maps.items c.in-Some.k (c.in-Some.ensures.value ∙ ap (λ (ms : List MapView). map_from f 0 ms) c.deref.ensures.value) below c.watch_at.ensures.maps
+    map_after f ms c.watch_at.new.maps.items c.in-Some.k (c.in-Some.ensures.value ∙ ap (λ (ms : List MapView). map_from f 0 ms) c.deref.ensures.value) below
+    c.watch_at.ensures.maps
 
 pub returns-clause-change : goal.returns-clause-change
 returns-clause-change c =
     let f = finding_view c.args.finding.now in
     let ms = c.args.maps.now.items in
     let below : c.in-Some.k < length ms = omega (arith, c.in-Some.ensures.bound, ap (length {A = MapView}) c.deref.ensures.value) in
-    map_new f ms c.in-Some.k c.watch_at.result (c.in-Some.ensures.value ∙ ap (λ (ms : List MapView). map_from f 0 ms) c.deref.ensures.value) below c.watch_at.ensures.change
+    map_new f ms c.in-Some.k c.watch_at.result (c.in-Some.ensures.value ∙ ap (λ (ms : List MapView). map_from f 0 ms) c.deref.ensures.value) below
+    c.watch_at.ensures.change

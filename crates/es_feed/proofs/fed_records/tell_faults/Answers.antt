@@ -5,7 +5,8 @@ use Rattle.es_feed.proofs.fed_records.tell_faults.Goals as goal
 use Rattle.es_feed.proofs.fed_records.tell_faults.Goals.{then-tell_one, else-tell_one}
 
 pub loop-one-init : goal.loop-one-init
-loop-one-init g c = tells_none c.args.pids.now (record { bytes = g.E.Write.contents c.args.faults.now; failed = g.E.Sink.fault_count c.args.faults.now }) c.args.fed.now
+loop-one-init g c = tells_none c.args.pids.now (record { bytes = g.E.Write.contents c.args.faults.now; failed = g.E.Sink.fault_count c.args.faults.now })
+    c.args.fed.now
 
 pub loop-one-preserved : goal.loop-one-preserved
 loop-one-preserved g c =

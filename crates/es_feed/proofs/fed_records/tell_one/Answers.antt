@@ -4,7 +4,8 @@ use Rattle.es_feed.proofs.fed_records.tell_one.Goals as goal
 
 pub returns-in-Ok-clause-tells : goal.returns-in-Ok-clause-tells
 returns-in-Ok-clause-tells g c =
-    told_none_of c.args.pids.now (record { bytes = g.E.Write.contents c.args.faults.now; failed = g.E.Sink.fault_count c.args.faults.now }) c.args.fed.now c.in-Ok.field-0 c.in-Ok.is
+    told_none_of c.args.pids.now (record { bytes = g.E.Write.contents c.args.faults.now; failed = g.E.Sink.fault_count c.args.faults.now }) c.args.fed.now
+    c.in-Ok.field-0 c.in-Ok.is
 
 pub returns-in-Err-clause-tells : goal.returns-in-Err-clause-tells
 returns-in-Err-clause-tells g c =

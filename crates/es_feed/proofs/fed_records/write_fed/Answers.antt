@@ -22,5 +22,6 @@ returns-in-Err g c =
     let new : Port = record { bytes = g.W.Write.contents c.put_all_fed.new.to; failed = g.W.Sink.fault_count c.put_all_fed.new.to } in
     let none : c.new-pending.result.items ≡ [] = c.new-pending.ensures in
     let puts : Puts (between old new) (fed_records c.args.fed.now) c.put_all_fed.new.pending.items (Err c.in-Err.halt) =
-    subst (λ (x : List ℕ). Puts (between old new) (x ++ fed_records c.args.fed.now) c.put_all_fed.new.pending.items (Err c.in-Err.halt)) none c.in-Err.ensures in
+    subst (λ (x : List ℕ). Puts (between old new) (x ++ fed_records c.args.fed.now) c.put_all_fed.new.pending.items (Err c.in-Err.halt)) none
+    c.in-Err.ensures in
     puts_failed_whole (between old new) (fed_records c.args.fed.now) c.put_all_fed.new.pending.items c.in-Err.halt puts

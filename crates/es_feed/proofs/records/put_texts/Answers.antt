@@ -15,4 +15,5 @@ pub returns-in-Err : goal.returns-in-Err
 returns-in-Err g c =
     let old : Port = record { bytes = g.W.Write.contents c.args.to.now; failed = g.W.Sink.fault_count c.args.to.now } in
     let new : Port = record { bytes = g.W.Write.contents c.put.new.to; failed = g.W.Sink.fault_count c.put.new.to } in
-    puts_failed (between old new) (c.args.pending.now.items ++ c.args.text.now) c.put.new.pending.items c.args.plan.now c.put.new.pending.items c.in-Err.halt c.in-Err.ensures
+    puts_failed (between old new) (c.args.pending.now.items ++ c.args.text.now) c.put.new.pending.items c.args.plan.now c.put.new.pending.items c.in-Err.halt
+    c.in-Err.ensures

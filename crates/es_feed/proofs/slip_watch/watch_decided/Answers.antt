@@ -20,5 +20,6 @@ loop-at-preserved c =
       taken = λ stream gone so.
           subst (λ (found : List Slip). AreSlips stream c.args.ended next c.in_ok-next.next (gone ++ found)) (sym c.in_ok-note_slip.ensures)
           (subst (λ (q : StreamPlace). AreSlips stream c.args.ended next q (gone ++ slips_with s p c.loop-at.found.items)) (sym c.in_ok-next.ensures)
-          (slips_more stream bytes c.args.ended at rest s p gone c.loop-at.found.items c.split_at.ensures.back e.within e.stepped e.packets (i.taken stream gone so)));
+          (slips_more stream bytes c.args.ended at rest s p gone c.loop-at.found.items c.split_at.ensures.back e.within e.stepped e.packets
+          (i.taken stream gone so)));
     }

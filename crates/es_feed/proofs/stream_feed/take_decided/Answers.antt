@@ -14,7 +14,8 @@ loop-at-preserved c =
     record {
       within = omega (arith, c.next_stretch-stretch.ensures.within, ap (length {A = ℕ}) c.split_at.ensures.back, length-drop at bytes, i.within);
       taken = λ first stream gone so. stretch_fed first stream bytes c.args.ended at n rest (take s.in_step rest) s c.loop-at.packets c.take_all.new.self
-          gone c.loop-at.fed.items c.take_all.new.fed.items c.split_at.ensures.back refl c.next_stretch-stretch.ensures.within over c.next_stretch-stretch.ensures.stretch
+          gone c.loop-at.fed.items c.take_all.new.fed.items c.split_at.ensures.back refl c.next_stretch-stretch.ensures.within over
+          c.next_stretch-stretch.ensures.stretch
           c.in_ok-taken.ensures (i.taken first stream gone so);
     }
 
@@ -27,9 +28,11 @@ returns-then-taken-stretch-clause-taken c = λ first stream gone so.
     let n = c.in_ok-taken.taken in
     let old = c.loop-at.packets in
     let new = c.take_all.new.self in
-    let last = is_last s rest (take s.in_step rest) c.args.ended n old new c.loop-at.fed.items c.take_all.new.fed.items refl c.next_stretch-stretch.ensures.within
+    let last = is_last s rest (take s.in_step rest) c.args.ended n old new c.loop-at.fed.items c.take_all.new.fed.items refl
+    c.next_stretch-stretch.ensures.within
     (omega (arith, c.if-taken-stretch.true)) c.next_stretch-stretch.ensures.packets c.in_ok-taken.ensures in
-    ended_last first stream bytes c.args.ended at n rest (take s.in_step rest) s old new gone c.loop-at.fed.items c.take_all.new.fed.items last.0 c.split_at.ensures.back refl last.1 last.2
+    ended_last first stream bytes c.args.ended at n rest (take s.in_step rest) s old new gone c.loop-at.fed.items c.take_all.new.fed.items last.0
+    c.split_at.ensures.back refl last.1 last.2
     c.next_stretch-stretch.ensures.stretch c.in_ok-taken.ensures (c.loop-at.invariant.taken first stream gone so)
 
 pub returns-then-taken-stretch-clause-last : goal.returns-then-taken-stretch-clause-last
@@ -48,6 +51,7 @@ pub returns-then-taken-stretch-clause-short : goal.returns-then-taken-stretch-cl
 returns-then-taken-stretch-clause-short c = λ goes.
     let rest = c.split_at.result.1.now in
     let s = c.next_stretch-stretch.result in
-    let last = is_last s rest (take s.in_step rest) c.args.ended c.in_ok-taken.taken c.loop-at.packets c.take_all.new.self c.loop-at.fed.items c.take_all.new.fed.items refl
+    let last = is_last s rest (take s.in_step rest) c.args.ended c.in_ok-taken.taken c.loop-at.packets c.take_all.new.self c.loop-at.fed.items
+    c.take_all.new.fed.items refl
     c.next_stretch-stretch.ensures.within (omega (arith, c.if-taken-stretch.true)) c.next_stretch-stretch.ensures.packets c.in_ok-taken.ensures in
     absurd (let no : true ≡ false = sym last.0 ∙ goes in cc)

@@ -7,7 +7,8 @@ pub taken_outcome-requires : goal.taken_outcome-requires
 taken_outcome-requires g c =
     let files = files_of (g.F.NamedFiles.contents_of c.args.files.now) (g.F.NamedFiles.opens c.args.files.now) g.F.NamedFiles.never_fails in
     let names = map (λ s. s.now) c.args.names.now in
-    few_taken c.args.arguments.now files names c.in-Ok.taken (taken_of c.args.arguments.now files names c.in_ok-taken.field-0 c.in-Ok.taken c.in-Ok.is c.in_ok-taken.ensures)
+    few_taken c.args.arguments.now files names c.in-Ok.taken
+    (taken_of c.args.arguments.now files names c.in_ok-taken.field-0 c.in-Ok.taken c.in-Ok.is c.in_ok-taken.ensures)
 
 pub returns-in-Ok : goal.returns-in-Ok
 returns-in-Ok g c =
@@ -18,4 +19,5 @@ returns-in-Ok g c =
 
 pub returns-in-Err : goal.returns-in-Err
 returns-in-Err g c =
-    ended_of c.args.arguments.now (files_of (g.F.NamedFiles.contents_of c.args.files.now) (g.F.NamedFiles.opens c.args.files.now) g.F.NamedFiles.never_fails) (map (λ s. s.now) c.args.names.now) c.in_ok-taken.field-0 c.in-Err.outcome c.in-Err.is c.in_ok-taken.ensures
+    ended_of c.args.arguments.now (files_of (g.F.NamedFiles.contents_of c.args.files.now) (g.F.NamedFiles.opens c.args.files.now) g.F.NamedFiles.never_fails)
+    (map (λ s. s.now) c.args.names.now) c.in_ok-taken.field-0 c.in-Err.outcome c.in-Err.is c.in_ok-taken.ensures

@@ -6,7 +6,8 @@ use Rattle.job_run.proofs.files_outcome.taken_outcome.Goals as goal
 
 pub join_all-requires : goal.join_all-requires
 join_all-requires c =
-    few_inputs c.args.taken c.in_ok-inputs.inputs.items (c.in_ok-inputs.ensures ∙ ap (λ (ts : List TakenView). map (λ t. t.input) ts) c.taken.view_is) c.requires
+    few_inputs c.args.taken c.in_ok-inputs.inputs.items (c.in_ok-inputs.ensures ∙ ap (λ (ts : List TakenView). map (λ t. t.input) ts) c.taken.view_is)
+    c.requires
 
 pub returns-in-Ok : goal.returns-in-Ok
 returns-in-Ok c =

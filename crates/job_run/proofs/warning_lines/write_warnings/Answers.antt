@@ -8,4 +8,5 @@ loop-warning-preserved c =
     c.in_ok-write_after.ensures c.scrambled_pid-before.ensures c.loop-warning.invariant
 
 pub returns : goal.returns
-returns c = warnings_all c.loop-warning.before c.args.all.now c.loop-warning.warning-index (string_bytes c.loop-warning.text) _ c.loop-warning-test.false c.loop-warning.invariant
+returns c = warnings_all c.loop-warning.before c.args.all.now c.loop-warning.warning-index (string_bytes c.loop-warning.text) _ c.loop-warning-test.false
+    c.loop-warning.invariant

@@ -23,5 +23,6 @@ loop-back-preserved c =
     let after_it : n + 1 ≡ m = omega (arith, next) in
     let within : n < length es = omega (arith, c.loop-back-test.true) in
     let one : drop n es ≡ slot_at es n ∷ drop m es = drop_more es n None within ∙ ap (λ (k : ℕ). slot_at es n ∷ drop k es) after_it in
-    back_more (low f c.args.span) es (string_bytes c.args.text.now) (string_bytes c.loop-back.text) (string_bytes c.write_low_at.new.text) n m (slot_at es n) next one
+    back_more (low f c.args.span) es (string_bytes c.args.text.now) (string_bytes c.loop-back.text) (string_bytes c.write_low_at.new.text) n m (slot_at es n)
+    next one
     c.loop-back.invariant (rw slot at c.in_ok-write_low_at.ensures)

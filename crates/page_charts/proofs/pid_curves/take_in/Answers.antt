@@ -14,7 +14,8 @@ returns-then-entry-pid c = λ kept a.
     let e : PidCurve = get_or es i c.entry-item.result in
     let lt : i < length es = omega arith in
     let it : e.pid ≡ c.args.pid = cc (c.entry-item.is, c.if-entry-pid.true) in
-    stops_ok c.take.result es kept c.args.pid i (sample c.args.number c.args.value) e _ (slice_get-get_or es i c.entry-item.result lt) it refl refl refl c.take.ensures (c.loop-entry.invariant kept a)
+    stops_ok c.take.result es kept c.args.pid i (sample c.args.number c.args.value) e _ (slice_get-get_or es i c.entry-item.result lt) it refl refl refl
+    c.take.ensures (c.loop-entry.invariant kept a)
 
 pub loop-entry-preserved : goal.loop-entry-preserved
 loop-entry-preserved c = λ kept a.

@@ -6,7 +6,8 @@ use Rattle.page_charts.proofs.scale.scale_among.Goals as goal
 
 pub loop-scale-preserved : goal.loop-scale-preserved
 loop-scale-preserved c =
-    passed (drop c.loop-scale.scale-index c.args.scales.now) (drop (c.loop-scale.scale-index + 1) c.args.scales.now) _ c.args.greatest (scale_among c.args.scales.now c.args.greatest) c.reaches.result
+    passed (drop c.loop-scale.scale-index c.args.scales.now) (drop (c.loop-scale.scale-index + 1) c.args.scales.now) _ c.args.greatest
+    (scale_among c.args.scales.now c.args.greatest) c.reaches.result
     (drop_more c.args.scales.now c.loop-scale.scale-index 0 c.loop-scale-test.true) c.reaches.ensures c.if-reaches.false c.loop-scale.invariant
 
 pub returns-clause-same : goal.returns-clause-same
@@ -15,5 +16,6 @@ returns-clause-same c = none (drop c.loop-scale.scale-index c.args.scales.now) c
 
 pub returns-then-reaches-clause-same : goal.returns-then-reaches-clause-same
 returns-then-reaches-clause-same c = rw c.min.ensures
-    (found (drop c.loop-scale.scale-index c.args.scales.now) (drop (c.loop-scale.scale-index + 1) c.args.scales.now) _ c.args.greatest (scale_among c.args.scales.now c.args.greatest) c.reaches.result
+    (found (drop c.loop-scale.scale-index c.args.scales.now) (drop (c.loop-scale.scale-index + 1) c.args.scales.now) _ c.args.greatest
+    (scale_among c.args.scales.now c.args.greatest) c.reaches.result
     (drop_more c.args.scales.now c.loop-scale.scale-index 0 c.loop-scale-test.true) c.reaches.ensures c.if-reaches.true c.loop-scale.invariant)

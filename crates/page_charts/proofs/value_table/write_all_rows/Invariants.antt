@@ -4,4 +4,5 @@ use Rattle.page_charts.specs.ValueTables.{rows}
 use Rattle.page_charts.proofs.value_table.write_all_rows.Given as goal
 
 abbrev pub invariant-loop-entry : goal.invariant-loop-entry
-invariant-loop-entry l = string_bytes l.text ++ flat_map (rows l.frame) (drop l.entry-index l.curves) ≡ string_bytes l.fn.text ++ flat_map (rows l.frame) l.curves
+invariant-loop-entry l = string_bytes l.text ++ flat_map (rows l.frame) (drop l.entry-index l.curves) ≡ string_bytes l.fn.text
+    ++ flat_map (rows l.frame) l.curves

@@ -20,7 +20,8 @@ returns-in-Some-clause-stream g c = λ name is.
     let files : Files = files_of (g.F.NamedFiles.contents_of c.args.files.now) (g.F.NamedFiles.opens c.args.files.now) g.F.NamedFiles.never_fails in
     subst (λ (t : List ℕ). StreamsUnits c.args.arguments.now.options files t input output faults c.stream_units.result)
     (same_name c.in-Some.name.now name c.args.arguments.now.stream c.in-Some.ensures is)
-    (subst (λ (w : JobOptionsView). StreamsUnits w files c.in-Some.name.now input output faults c.stream_units.result) c.options-options.ensures c.stream_units.ensures)
+    (subst (λ (w : JobOptionsView). StreamsUnits w files c.in-Some.name.now input output faults c.stream_units.result) c.options-options.ensures
+    c.stream_units.ensures)
 
 pub returns-in-None-clause-stream : goal.returns-in-None-clause-stream
 returns-in-None-clause-stream g c = λ name is. absurd (not_and_named name c.args.arguments.now.stream c.in-None.ensures is)

@@ -14,7 +14,8 @@ returns-in-Ok-Some-clause-other g c = λ none. absurd (some_and_none _ c.in-Ok-S
 
 pub returns-in-Ok-Some-clause-files : goal.returns-in-Ok-Some-clause-files
 returns-in-Ok-Some-clause-files g c = λ a is.
-    files_asked _ c.in-Ok-Some.arguments a _ _ _ _ _ _ _ (sym c.in-Ok-Some.field-0-is ∙ c.in-Ok-Some.ensures) is c.file_words.ensures refl c.perform_files.ensures
+    files_asked _ c.in-Ok-Some.arguments a _ _ _ _ _ _ _ (sym c.in-Ok-Some.field-0-is ∙ c.in-Ok-Some.ensures) is c.file_words.ensures refl
+    c.perform_files.ensures
 
 pub returns-in-Err-clause-other : goal.returns-in-Err-clause-other
 returns-in-Err-clause-other g c = λ none.

@@ -10,10 +10,13 @@ pub returns-in-Ok-None-clause-other : goal.returns-in-Ok-None-clause-other
 returns-in-Ok-None-clause-other g c = λ none no_files. c.run_on_files.ensures.other no_files
 
 pub returns-in-Ok-Some-clause-job : goal.returns-in-Ok-Some-clause-job
-returns-in-Ok-Some-clause-job g c = λ a is none. job_asked _ c.in-Ok-Some.arguments a _ _ _ _ (sym c.in-Ok-Some.field-0-is ∙ c.in-Ok-Some.ensures) is c.answer.ensures.job none
+returns-in-Ok-Some-clause-job g c =
+    λ a is none. job_asked _ c.in-Ok-Some.arguments a _ _ _ _ (sym c.in-Ok-Some.field-0-is ∙ c.in-Ok-Some.ensures) is c.answer.ensures.job none
 
 pub returns-in-Ok-Some-clause-stream : goal.returns-in-Ok-Some-clause-stream
-returns-in-Ok-Some-clause-stream g c = λ a name is named. stream_asked _ c.in-Ok-Some.arguments a _ name _ _ _ _ (sym c.in-Ok-Some.field-0-is ∙ c.in-Ok-Some.ensures) is (c.answer.ensures.stream name) named
+returns-in-Ok-Some-clause-stream g c =
+    λ a name is named. stream_asked _ c.in-Ok-Some.arguments a _ name _ _ _ _ (sym c.in-Ok-Some.field-0-is ∙ c.in-Ok-Some.ensures) is
+    (c.answer.ensures.stream name) named
 
 pub returns-in-Err-clause-other : goal.returns-in-Err-clause-other
 returns-in-Err-clause-other g c = λ none no_files.

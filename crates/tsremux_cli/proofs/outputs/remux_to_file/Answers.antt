@@ -6,4 +6,5 @@ pub returns-in_default : goal.returns-in_default
 returns-in_default g c = to_none _ _ _ _ _ _ _ c.in_default.ensures.creates refl c.report_of.ensures refl
 
 pub returns : goal.returns
-returns g c = to_file _ _ _ _ _ _ _ _ _ _ _ _ c.in-Some.ensures.creates c.in-Some.ensures.empty c.remux-remuxed.ensures c.is_quiet.ensures c.finish.ensures
+returns g c = to_file _ _ _ _ _ _ _ _ _ _ _ _ c.in-Some.ensures.creates c.in-Some.ensures.empty c.write_packets_for-remuxed.ensures c.is_quiet.ensures
+    c.finish.ensures

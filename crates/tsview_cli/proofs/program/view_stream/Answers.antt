@@ -14,4 +14,5 @@ returns-in-Ok g c =
     concluded c.args.request c.args.json input output faults c.in-Ok.seen _ c.in-Ok.ensures c.conclude.ensures
 
 pub returns-in-Err : goal.returns-in-Err
-returns-in-Err g c = inr (inl (record { halt = c.in-Err.halt; breaks = c.in-Err.ensures; reports = c.report_halt.ensures.reports; status_is = c.report_halt.ensures.status }))
+returns-in-Err g c =
+    inr (inl (record { halt = c.in-Err.halt; breaks = c.in-Err.ensures; reports = c.report_halt.ensures.reports; status_is = c.report_halt.ensures.status }))

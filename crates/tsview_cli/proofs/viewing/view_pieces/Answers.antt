@@ -31,14 +31,16 @@ loop-size-preserved g c =
     let end : Port = record { bytes = g.W.Write.contents c.write_settled.new.output; failed = g.W.Sink.fault_count c.write_settled.new.output } in
     let piece = take c.in_ok-n.n c.view_next.new.piece in
     let room : length c.view_next.new.piece ≡ length c.args.piece.now = omega (arith, c.view_next.auto.piece, c.loop-size.invariant.room) in
-    let shows : (s : AnalysisState) (bytes : List ℕ) (found : List Part) → IsSoFar s c.loop-size.stream bytes found → Shows c.args.json s c.view_next.new.stream (bytes ++ piece) found (string_bytes c.view_next.new.text) =
+    let shows : (s : AnalysisState) (bytes : List ℕ) (found : List Part) → IsSoFar s c.loop-size.stream bytes found →
+    Shows c.args.json s c.view_next.new.stream (bytes ++ piece) found (string_bytes c.view_next.new.text) =
     λ s bytes found so_far. c.in_ok-n.ensures.shown s bytes found so_far in
     let calm : is_crowded c.view_next.new.stream.parts.view ≡ false = search rules in
     record {
       room = room;
       none = c.in-Ok.ensures.empty;
       calm = calm;
-      front = λ s k. front_more (Seen c.args.json s (between begin middle) c.loop-size.stream) (Seen c.args.json s (between begin end) c.view_next.new.stream) 188 old mid new
+      front = λ s k. front_more (Seen c.args.json s (between begin middle) c.loop-size.stream) (Seen c.args.json s (between begin end) c.view_next.new.stream)
+          188 old mid new
           c.loop-size.size c.in_ok-n.n c.view_next.new.piece (c.loop-size.invariant.front s k) c.in_ok-n.ensures.read
           (seen_then c.args.json s c.loop-size.stream c.view_next.new.stream begin middle end (string_bytes c.view_next.new.text) piece (shows s)
           c.in-Ok.ensures.written.0 c.in-Ok.ensures.written.1)
@@ -54,9 +56,11 @@ returns-in-Err-clause-err g c = λ s k.
     let middle : Port = record { bytes = g.W.Write.contents c.loop-size.output; failed = g.W.Sink.fault_count c.loop-size.output } in
     let end : Port = record { bytes = g.W.Write.contents c.write_settled.new.output; failed = g.W.Sink.fault_count c.write_settled.new.output } in
     let piece = take c.in_ok-n.n c.view_next.new.piece in
-    let shows : (bytes : List ℕ) (found : List Part) → IsSoFar s c.loop-size.stream bytes found → Shows c.args.json s c.view_next.new.stream (bytes ++ piece) found (string_bytes c.view_next.new.text) =
+    let shows : (bytes : List ℕ) (found : List Part) → IsSoFar s c.loop-size.stream bytes found →
+    Shows c.args.json s c.view_next.new.stream (bytes ++ piece) found (string_bytes c.view_next.new.text) =
     λ bytes found so_far. c.in_ok-n.ensures.shown s bytes found so_far in
-    write_stopped (Unit {0}) c.args.json s c.loop-size.stream c.view_next.new.stream old mid new begin middle end c.loop-size.size c.in_ok-n.n (string_bytes c.view_next.new.text) c.view_next.new.piece c.in-Err.halt
+    write_stopped (Unit {0}) c.args.json s c.loop-size.stream c.view_next.new.stream old mid new begin middle end c.loop-size.size c.in_ok-n.n
+    (string_bytes c.view_next.new.text) c.view_next.new.piece c.in-Err.halt
     (c.loop-size.invariant.front s k) c.in_ok-n.ensures.read shows c.in-Err.ensures.written
 
 pub returns-then-n-piece-clause-ok : goal.returns-then-n-piece-clause-ok
@@ -68,7 +72,8 @@ returns-then-n-piece-clause-ok g c = λ s k.
     let middle : Port = record { bytes = g.W.Write.contents c.loop-size.output; failed = g.W.Sink.fault_count c.loop-size.output } in
     let end : Port = record { bytes = g.W.Write.contents c.write_settled.new.output; failed = g.W.Sink.fault_count c.write_settled.new.output } in
     let piece = take c.in_ok-n.n c.view_next.new.piece in
-    let shows : (bytes : List ℕ) (found : List Part) → IsSoFar s c.loop-size.stream bytes found → Shows c.args.json s c.view_next.new.stream (bytes ++ piece) found (string_bytes c.view_next.new.text) =
+    let shows : (bytes : List ℕ) (found : List Part) → IsSoFar s c.loop-size.stream bytes found →
+    Shows c.args.json s c.view_next.new.stream (bytes ++ piece) found (string_bytes c.view_next.new.text) =
     λ bytes found so_far. c.in_ok-n.ensures.shown s bytes found so_far in
     if_whole c.args.json s (between old new) (between begin end) c.view_next.new.stream c.size_within.result
     (if_ok (Seen c.args.json s (between begin end) c.view_next.new.stream) (between old new) c.size_within.result
@@ -88,7 +93,8 @@ returns-then-is_crowded-clause-ok g c = λ s k.
     let end : Port = record { bytes = g.W.Write.contents c.write_settled.new.output; failed = g.W.Sink.fault_count c.write_settled.new.output } in
     let piece = take c.in_ok-n.n c.view_next.new.piece in
     let room : length c.view_next.new.piece ≡ length c.args.piece.now = omega (arith, c.view_next.auto.piece, c.loop-size.invariant.room) in
-    let shows : (bytes : List ℕ) (found : List Part) → IsSoFar s c.loop-size.stream bytes found → Shows c.args.json s c.view_next.new.stream (bytes ++ piece) found (string_bytes c.view_next.new.text) =
+    let shows : (bytes : List ℕ) (found : List Part) → IsSoFar s c.loop-size.stream bytes found →
+    Shows c.args.json s c.view_next.new.stream (bytes ++ piece) found (string_bytes c.view_next.new.text) =
     λ bytes found so_far. c.in_ok-n.ensures.shown s bytes found so_far in
     let crowded : is_crowded c.view_next.new.stream.parts.view ≡ true = search rules in
     crowds c.args.json s c.view_next.new.stream old new (between begin end) (c.loop-size.size + c.in_ok-n.n)
@@ -107,12 +113,14 @@ returns-then-n-piece-clause-err g c = λ s k.
     let middle : Port = record { bytes = g.W.Write.contents c.loop-size.output; failed = g.W.Sink.fault_count c.loop-size.output } in
     let end : Port = record { bytes = g.W.Write.contents c.write_settled.new.output; failed = g.W.Sink.fault_count c.write_settled.new.output } in
     let piece = take c.in_ok-n.n c.view_next.new.piece in
-    let shows : (bytes : List ℕ) (found : List Part) → IsSoFar s c.loop-size.stream bytes found → Shows c.args.json s c.view_next.new.stream (bytes ++ piece) found (string_bytes c.view_next.new.text) =
+    let shows : (bytes : List ℕ) (found : List Part) → IsSoFar s c.loop-size.stream bytes found →
+    Shows c.args.json s c.view_next.new.stream (bytes ++ piece) found (string_bytes c.view_next.new.text) =
     λ bytes found so_far. c.in_ok-n.ensures.shown s bytes found so_far in
     let seen = seen_then c.args.json s c.loop-size.stream c.view_next.new.stream begin middle end (string_bytes c.view_next.new.text) piece shows
     c.in-Ok.ensures.written.0 c.in-Ok.ensures.written.1 in
     if_err (Seen c.args.json s (between begin end) c.view_next.new.stream) c.args.json s c.view_next.new.stream old mid new (between begin end)
-    c.loop-size.size c.in_ok-n.n c.view_next.new.piece c.loop-size.stream (between begin middle) c.size_within.result (c.loop-size.invariant.front s k) c.in_ok-n.ensures.read seen c.size_within.ensures.err
+    c.loop-size.size c.in_ok-n.n c.view_next.new.piece c.loop-size.stream (between begin middle) c.size_within.result (c.loop-size.invariant.front s k)
+    c.in_ok-n.ensures.read seen c.size_within.ensures.err
     (front_end (Seen c.args.json s (between begin middle) c.loop-size.stream) (Seen c.args.json s (between begin end) c.view_next.new.stream) 188 old mid new
     c.loop-size.size c.in_ok-n.n c.view_next.new.piece c.size_within.result (c.loop-size.invariant.front s k) c.in_ok-n.ensures.read seen
     (omega (arith, c.if-n-piece.true)) c.size_within.ensures.ok c.size_within.ensures.err)
@@ -135,4 +143,5 @@ returns-clause-err g c = λ s k.
     let mid : Port = record { bytes = g.R.Read.remaining c.loop-size.input; failed = g.R.Source.fault_count c.loop-size.input } in
     let begin : Port = record { bytes = g.W.Write.contents c.args.output.now; failed = g.W.Sink.fault_count c.args.output.now } in
     let middle : Port = record { bytes = g.W.Write.contents c.loop-size.output; failed = g.W.Sink.fault_count c.loop-size.output } in
-    too_long c.args.json s c.loop-size.stream old mid (between begin middle) c.loop-size.size (c.loop-size.invariant.front s k) (omega (arith, c.loop-size-test.false))
+    too_long c.args.json s c.loop-size.stream old mid (between begin middle) c.loop-size.size (c.loop-size.invariant.front s k)
+    (omega (arith, c.loop-size-test.false))

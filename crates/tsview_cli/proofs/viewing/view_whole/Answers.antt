@@ -34,7 +34,8 @@ returns-in-Err-write_text g c = λ o e same.
     let ends : EndsWith c.args.rate c.args.json c.view_pieces.new.stream c.as_str.result.now c.in-Ok-end_view.good =
     λ first bytes found so_far. subst (λ (t : List ℕ). EndShows c.args.rate c.args.json first bytes found t c.in-Ok-end_view.good) (sym c.as_str.ensures.value)
     (c.in-Ok-end_view.ensures.shown first bytes found so_far) in
-    not_ended (Unit {0}) o c.args.json input begin mid end c.view_pieces.new.stream _ c.as_str.result.now c.in-Err-write_text.halt c.args.rate c.in-Ok-end_view.good same
+    not_ended (Unit {0}) o c.args.json input begin mid end c.view_pieces.new.stream _ c.as_str.result.now c.in-Err-write_text.halt c.args.rate
+    c.in-Ok-end_view.good same
     (c.in-Ok.ensures.ok (start o) e) ends c.in-Err-write_text.ensures
 
 pub returns-in-Ok-write_text : goal.returns-in-Ok-write_text
@@ -48,6 +49,7 @@ returns-in-Ok-write_text g c = λ o e same.
     λ first bytes found so_far. subst (λ (t : List ℕ). EndShows c.args.rate c.args.json first bytes found t c.in-Ok-end_view.good) (sym c.as_str.ensures.value)
     (c.in-Ok-end_view.ensures.shown first bytes found so_far) in
     subst (λ (v : Viewed). Sees o c.args.json input (between begin end) (Ok v)) (sym c.as_viewed.ensures)
-    (viewed_so o c.args.json input begin mid end c.view_pieces.new.stream _ c.as_str.result.now c.args.rate c.is_crowded-crowded.result c.in-Ok-end_view.good same c.is_crowded-crowded.ensures
+    (viewed_so o c.args.json input begin mid end c.view_pieces.new.stream _ c.as_str.result.now c.args.rate c.is_crowded-crowded.result c.in-Ok-end_view.good
+    same c.is_crowded-crowded.ensures
     (c.in-Ok.ensures.ok (start o) e) ends
     c.in-Ok-write_text.ensures.0 c.in-Ok-write_text.ensures.1)

@@ -7,7 +7,8 @@ use Rattle.tsview_cli.proofs.viewing.write_end.Goals as goal
 pub returns : goal.returns
 returns c = λ first bytes found so_far.
     let e : IsEnded c.args.rate first c.end.new.self bytes found c.in_ok-good.good = c.in_ok-good.ensures first bytes found so_far in
-    let is : c.deref.result.now ≡ events_of (after_parts first found) e.more ++ last_events c.args.rate (capture_of bytes).form (after_parts first (parts_in bytes)) (left_in bytes) =
+    let is : c.deref.result.now ≡ events_of (after_parts first found) e.more
+    ++ last_events c.args.rate (capture_of bytes).form (after_parts first (parts_in bytes)) (left_in bytes) =
     c.deref.ensures.value ∙ e.events in
     record {
       more = e.more;

@@ -23,5 +23,6 @@ returns c =
     let marked : map finding_view c.as_slice.result.now ≡ all_marked i.feed.marking (finished (pushed i.demux rest)).found =
     ap (λ (fs : _). map finding_view fs) same ∙ c.mark.ensures ∙ ap (λ (fs : List FindingView). all_marked i.feed.marking fs) whole in
     subst (λ (p : PacketFeedView). c.finish-2.new.fed.items ≡ c.args.fed.now.items ++ fed_rest p.demux p.feed rest) c.self.view_is
-    (rest_fed i.demux i.feed c.take_all.new.self rest (map finding_view c.as_slice.result.now) c.args.fed.now.items c.take_all.new.fed.items c.finish-2.new.fed.items
+    (rest_fed i.demux i.feed c.take_all.new.self rest (map finding_view c.as_slice.result.now) c.args.fed.now.items c.take_all.new.fed.items
+    c.finish-2.new.fed.items
     marked c.in_ok-take_all.ensures.feed c.in_ok-take_all.ensures.fed c.in_ok-finish.ensures)

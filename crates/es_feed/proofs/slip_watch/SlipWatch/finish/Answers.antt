@@ -13,5 +13,6 @@ returns c = λ stream gone so.
     let begun : AreSlips stream true held i.place all =
     subst (λ (h : List ℕ). AreSlips stream true h i.place all) (sym c.as_slice.ensures.value) (then_over stream i.held.items i.place all inside) in
     let at = c.in_ok-watch_decided.field-0 in
-    all_slips stream (drop at held) c.watch_decided.new.place (gone ++ c.watch_decided.new.found.items) (drop_all at held (c.in_ok-watch_decided.ensures.last refl))
+    all_slips stream (drop at held) c.watch_decided.new.place (gone ++ c.watch_decided.new.found.items)
+    (drop_all at held (c.in_ok-watch_decided.ensures.last refl))
     (c.in_ok-watch_decided.ensures.taken stream gone begun)

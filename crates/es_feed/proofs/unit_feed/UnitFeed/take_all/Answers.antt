@@ -11,17 +11,21 @@ loop-finding-preserved c =
     record {
       feed = after_step finding_view (after_all c.args.self.now (map finding_view fs)) c.loop-finding.self c.take.new.self i fs c.finding-item.result
           c.loop-finding-test.true c.finding-item.is c.loop-finding.invariant.feed c.in_ok-take.ensures.feed;
-      fed = fed_step finding_view c.loop-finding.self c.take.new.self i fs c.finding-item.result (c.args.fed.now.items ++ fed_all c.args.self.now (map finding_view fs))
-          c.loop-finding.fed.items c.take.new.fed.items c.loop-finding-test.true c.finding-item.is c.loop-finding.invariant.fed c.in_ok-take.ensures.feed c.in_ok-take.ensures.fed;
+      fed = fed_step finding_view c.loop-finding.self c.take.new.self i fs c.finding-item.result
+          (c.args.fed.now.items ++ fed_all c.args.self.now (map finding_view fs))
+          c.loop-finding.fed.items c.take.new.fed.items c.loop-finding-test.true c.finding-item.is c.loop-finding.invariant.fed c.in_ok-take.ensures.feed
+          c.in_ok-take.ensures.fed;
     }
 
 pub returns-clause-feed : goal.returns-clause-feed
 returns-clause-feed c =
     let fs = c.args.findings.now in
-    after_end finding_view (after_all c.args.self.now (map finding_view fs)) c.loop-finding.self c.loop-finding.finding-index fs c.loop-finding-test.false c.loop-finding.invariant.feed
+    after_end finding_view (after_all c.args.self.now (map finding_view fs)) c.loop-finding.self c.loop-finding.finding-index fs c.loop-finding-test.false
+    c.loop-finding.invariant.feed
 
 pub returns-clause-fed : goal.returns-clause-fed
 returns-clause-fed c =
     let fs = c.args.findings.now in
-    fed_end finding_view c.loop-finding.self c.loop-finding.finding-index fs (c.args.fed.now.items ++ fed_all c.args.self.now (map finding_view fs)) c.loop-finding.fed.items
+    fed_end finding_view c.loop-finding.self c.loop-finding.finding-index fs (c.args.fed.now.items ++ fed_all c.args.self.now (map finding_view fs))
+    c.loop-finding.fed.items
     c.loop-finding-test.false c.loop-finding.invariant.fed

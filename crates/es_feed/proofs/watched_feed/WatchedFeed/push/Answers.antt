@@ -13,13 +13,16 @@ returns-clause-taken c = λ first stream before so.
     let inside : IsWatchedBy first stream false (record { stream = i.stream; watch = i.watch }) before =
     subst (λ (w : WatchedView). IsWatchedBy first stream false w before) (sym c.self.view_is) so in
     let none : inside.fed ++ c.args.fed.now.items ≡ inside.fed = ap (λ (xs : List Fed). inside.fed ++ xs) c.requires ∙ append-nil inside.fed in
-    let empty : inside.found ++ c.new-found.result.items ≡ inside.found = ap (λ (xs : List Slip). inside.found ++ xs) c.new-found.ensures.items ∙ append-nil inside.found in
+    let empty : inside.found ++ c.new-found.result.items ≡ inside.found = ap (λ (xs : List Slip). inside.found ++ xs) c.new-found.ensures.items
+    ∙ append-nil inside.found in
     let fed = c.in_ok-push.ensures.taken first stream inside.fed (subst (λ (xs : List Fed). IsFedBy first stream false i.stream xs) (sym none) inside.by) in
-    let found = c.in_ok-push-2.ensures.taken stream inside.found (subst (λ (xs : List Slip). AreSlips stream false i.watch.held i.watch.place xs) (sym empty) inside.slips_are) in
+    let found = c.in_ok-push-2.ensures.taken stream inside.found
+    (subst (λ (xs : List Slip). AreSlips stream false i.watch.held i.watch.place xs) (sym empty) inside.slips_are) in
     record {
       fed = inside.fed ++ c.push.new.fed.items;
       found = inside.found ++ c.push-2.new.found.items;
-      rounds = subst (λ (xs : List Fed). AreRounds (inside.fed ++ c.push.new.fed.items) (inside.found ++ c.push-2.new.found.items) (before ++ xs)) (sym (c.in_ok-push_slips.ensures ∙ ap (λ (xs : List Slip). c.push.new.fed.items ++ slips_fed xs) c.deref.ensures.value))
+      rounds = subst (λ (xs : List Fed). AreRounds (inside.fed ++ c.push.new.fed.items) (inside.found ++ c.push-2.new.found.items) (before ++ xs))
+          (sym (c.in_ok-push_slips.ensures ∙ ap (λ (xs : List Slip). c.push.new.fed.items ++ slips_fed xs) c.deref.ensures.value))
           (round_more inside.fed c.push.new.fed.items inside.found c.push-2.new.found.items before inside.rounds);
       by = fed;
       slips_are = found;

@@ -5,7 +5,8 @@ use Rattle.job_run.proofs.carried_stream.CarriedPackets.take_decided.Given as go
 abbrev pub invariant-loop-at : goal.invariant-loop-at
 invariant-loop-at l = record {
   within : l.at ≤ length l.bytes;
-  carried : (stream : List ℕ) → IsCarriedTo stream l.ended (record { held = l.bytes; packets = l.fn.self }) → IsCarriedTo stream l.ended (record { held = drop l.at l.bytes; packets = l.self });
+  carried : (stream : List ℕ) → IsCarriedTo stream l.ended (record { held = l.bytes; packets = l.fn.self }) →
+      IsCarriedTo stream l.ended (record { held = drop l.at l.bytes; packets = l.self });
 }
 
 abbrev pub decreases-loop-at : goal.decreases-loop-at

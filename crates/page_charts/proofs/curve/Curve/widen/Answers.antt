@@ -13,7 +13,8 @@ loop-self-preserved c = λ samples is.
     let pos : 0 < c.loop-self.self.span = subst (λ (s : ℕ). 0 < s) same c.self.inside.some in
     let many : 512 ≤ c.args.number / c.loop-self.self.span = subst (λ (s : ℕ). 512 ≤ c.args.number / s) same c.loop-self-test.true in
     let more : 512 * c.loop-self.self.span < max (c.args.number + 1) (next_of samples) = omega (arith, beyond c.args.number c.loop-self.self.span pos many) in
-    halved c.loop-self.self c.halve.new.self samples (max (c.args.number + 1) (next_of samples)) (c.loop-self.invariant samples is) more c.halve.ensures.span c.halve.ensures.slots
+    halved c.loop-self.self c.halve.new.self samples (max (c.args.number + 1) (next_of samples)) (c.loop-self.invariant samples is) more c.halve.ensures.span
+    c.halve.ensures.slots
 
 pub loop-self-smaller : goal.loop-self-smaller
 loop-self-smaller c =

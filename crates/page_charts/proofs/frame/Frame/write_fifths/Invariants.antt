@@ -4,4 +4,5 @@ use Rattle.page_charts.specs.Frames.{fifth_text}
 use Rattle.page_charts.proofs.frame.Frame.write_fifths.Given as goal
 
 abbrev pub invariant-loop-fifth : goal.invariant-loop-fifth
-invariant-loop-fifth l = string_bytes l.text ++ flat_map (fifth_text l.self) (drop l.fifth-index l.fifths) ≡ string_bytes l.fn.text ++ flat_map (fifth_text l.self) l.fifths
+invariant-loop-fifth l = string_bytes l.text ++ flat_map (fifth_text l.self) (drop l.fifth-index l.fifths) ≡ string_bytes l.fn.text
+    ++ flat_map (fifth_text l.self) l.fifths

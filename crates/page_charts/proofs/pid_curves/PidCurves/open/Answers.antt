@@ -5,4 +5,6 @@ use Rattle.page_charts.proofs.Kept.{opens}
 use Rattle.page_charts.proofs.pid_curves.PidCurves.open.Goals as goal
 
 pub returns : goal.returns
-returns c = λ kept a. rw c.in_ok-push.ensures.items (opens c.args.self.now.curves.items kept _ c.is_closed.result (c.is_closed.ensures kept (subst (λ (es : List PidCurve). AreCurves es kept) (sym c.deref.ensures.value) a)) c.if-is_closed.false c.new.ensures a)
+returns c = λ kept a. rw c.in_ok-push.ensures.items
+    (opens c.args.self.now.curves.items kept _ c.is_closed.result
+    (c.is_closed.ensures kept (subst (λ (es : List PidCurve). AreCurves es kept) (sym c.deref.ensures.value) a)) c.if-is_closed.false c.new.ensures a)

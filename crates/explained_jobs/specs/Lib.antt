@@ -1,0 +1,2 @@
+pub mod UnitWords
+pub mod JobWords
