@@ -53,7 +53,7 @@ none_entered x (d ∷ ds) =
     let out : has_entered 0 x d ≡ false = and_right (nat_le d x) (nat_lt x 0) (le-ltb x 0 (omega arith)) in
     rw (sum_by-cons (λ s. cond (has_entered 0 x s) 1 0) d ds, out) (omega (arith, none_entered x ds))
 
-entered_kept : (rate r due x : ℕ) (ds : List ℕ) → entered (removal_time rate r due) x ds ≡ kept rate r x due ds
+pub entered_kept : (rate r due x : ℕ) (ds : List ℕ) → entered (removal_time rate r due) x ds ≡ kept rate r x due ds
 unfolding kept
 entered_kept rate r due x [] = refl
 entered_kept rate r due x (d ∷ ds) =

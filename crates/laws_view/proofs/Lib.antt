@@ -30,6 +30,15 @@ pub mod VideoExcesses
 pub mod MuxedVideo
 pub mod LeakExcesses
 pub mod MuxedLeaks
+pub mod ShortPayloads
+pub mod GoneBytes
+pub mod FrameRows
+pub mod FramedBytes
+pub mod FramedPackets
+pub mod FramedPayloads
+pub mod CalmFrames
+pub mod FramedRuns
+pub mod MuxedFrames
 pub mod UnitsInTime
 pub mod MuxedLate
 pub mod FirstTables

@@ -48,7 +48,7 @@ unfolding main_fullness payload_left
 most_carried h times =
     greatest_more (main_fullness h.rate h.parts) (main_fullness h.rate (Carries times ∷ h.parts)) (payload_left h.rate h.parts) (left_after h.rate h.parts times) (λ x. omega arith)
 
-most_begun : (h : Held) (due : DueTime) → main_most h ≤ main_most (begun h due)
+pub most_begun : (h : Held) (due : DueTime) → main_most h ≤ main_most (begun h due)
 unfolding main_fullness payload_left
 most_begun h due = greatest_fuller (main_fullness h.rate h.parts) (main_fullness h.rate (begun h due).parts) (payload_left h.rate h.parts) (λ x. omega arith)
 
@@ -60,14 +60,14 @@ most_goes : (h : Held) (enters : Bool) (times : List ℕ) → main_most h ≤ ma
 most_goes h true times = most_carried h times
 most_goes h false times = most_passed h times
 
-most_payload : (h : Held) (enters : Bool) (n : ℕ) (times : List ℕ) → main_most h ≤ main_most (after_payload h enters n times)
+pub most_payload : (h : Held) (enters : Bool) (n : ℕ) (times : List ℕ) → main_most h ≤ main_most (after_payload h enters n times)
 unfolding after_payload
 most_payload h enters n times = elim (eqb_tells n 0) [
   | inl none ↦ rw none.0 (omega arith)
   | inr some ↦ rw some.0 (most_goes h enters times)
 ]
 
-most_begin : (h : Held) (due : Option DueTime) → main_most h ≤ main_most (after_begin h due)
+pub most_begin : (h : Held) (due : Option DueTime) → main_most h ≤ main_most (after_begin h due)
 unfolding after_begin
 most_begin h None = omega arith
 most_begin h (Some due) = most_begun h due
@@ -85,7 +85,7 @@ quiet_goes : (h : Held) (enters : Bool) (times : List ℕ) → h.main.under_way 
 quiet_goes h true times none few = quiet_carried h times none few
 quiet_goes h false times none few = (refl, none)
 
-quiet_payload : (h : Held) (enters : Bool) (n : ℕ) (times : List ℕ) → h.main.under_way ≡ None → main_most (after_payload h enters n times) ≤ h.main.size →
+pub quiet_payload : (h : Held) (enters : Bool) (n : ℕ) (times : List ℕ) → h.main.under_way ≡ None → main_most (after_payload h enters n times) ≤ h.main.size →
     (payload_main h enters n times ≡ []) × ((after_payload h enters n times).main.under_way ≡ None)
 unfolding after_payload payload_main
 quiet_payload h enters n times none = elim (eqb_tells n 0) [
@@ -93,20 +93,20 @@ quiet_payload h enters n times none = elim (eqb_tells n 0) [
   | inr some ↦ rw some.0 (λ few. quiet_goes h enters times none few)
 ]
 
-same_main : (h : Held) (n : ℕ) (times : List ℕ) → (after_payload h false n times).main ≡ h.main
+pub same_main : (h : Held) (n : ℕ) (times : List ℕ) → (after_payload h false n times).main ≡ h.main
 unfolding after_payload
 same_main h n times = elim (eqb_tells n 0) [
   | inl none ↦ rw none.0 refl
   | inr some ↦ rw some.0 refl
 ]
 
-begin_main : (h : Held) (due : Option DueTime) → (after_begin h due).main ≡ h.main
+pub begin_main : (h : Held) (due : Option DueTime) → (after_begin h due).main ≡ h.main
 unfolding after_begin
 begin_main h None = refl
 begin_main h (Some due) = refl
 
 -- a packet
-record Quiet (h h' : Held) (ended : List Excess) : Type 0 where
+pub record Quiet (h h' : Held) (ended : List Excess) : Type 0 where
   pub most : main_most h ≤ main_most h'
   pub quiet : h.main.under_way ≡ None → main_most h' ≤ h.main.size → (ended ≡ []) × (h'.main.under_way ≡ None)
 

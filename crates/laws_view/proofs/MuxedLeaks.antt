@@ -77,7 +77,7 @@ same_fullness rate rx rbx leak x packets some exact =
     )
 
 -- from an empty buffer on
-payload_all : (rate rx size low : ℕ) (ps : List Arriving) (us : List AccessUnit) → ComeFrom low ps → Follows rate rx None ps us →
+pub payload_all : (rate rx size low : ℕ) (ps : List Arriving) (us : List AccessUnit) → ComeFrom low ps → Follows rate rx None ps us →
     payload_left rate (after_each (empty rate rx size) (AtRate rate) ps).parts ≡ pes_left rate rx 0 (map timed_packet ps)
 unfolding payload_left arrivals_of last_left until_of until_at
 payload_all rate rx size low ps us come follows = payload_each rate low (empty rate rx size) ps us None come (omega arith) follows refl

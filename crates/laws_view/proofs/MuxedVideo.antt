@@ -1,5 +1,6 @@
 -- The elementary stream buffers of a run that a multiplexer wrote, in a view.
-use Rattle.std.proofs.Common.{◌≡◌, ◌∙◌, sym, ℕ, ◌+◌, ◌*◌, ◌≤◌, false, List, [], ◌∷◌, ◌++◌, length, map, take, drop, Option, Some, None, refl, ap, subst, arith, All}
+use Rattle.std.proofs.Common.{◌≡◌, ◌∙◌, sym, ℕ, ◌+◌, ◌*◌, ◌≤◌, false, List, [], ◌∷◌, ◌++◌, length, map, take, drop, Option, Some, None, refl, ap, subst, arith}
+use Rattle.std.proofs.Common.{All}
 use Rattle.std.specs.Prelude.{flat_map}
 use Rattle.std.specs.Option.{option_to_list}
 use Rattle.std.proofs.lemmas.List.{map-append, take-append-drop, take_at, drop_at}
@@ -72,7 +73,7 @@ leaked_late r leak prev (p ∷ ps) left late =
       subst (λ (l : List ℕ). NoneLeavesEarly r ps l) (sym after_it) (leaked_late r leak (last_left leak prev mine) ps others late.2),
     )
 
-small_parts : (xs ys : List Packet) → All (λ p. p.size ≤ 188) (xs ++ ys) → All (λ p. p.size ≤ 188) xs × All (λ p. p.size ≤ 188) ys
+pub small_parts : (xs ys : List Packet) → All (λ p. p.size ≤ 188) (xs ++ ys) → All (λ p. p.size ≤ 188) xs × All (λ p. p.size ≤ 188) ys
 small_parts [] ys all = (All-nil (λ (p : Packet). p.size ≤ 188), all)
 small_parts (x ∷ xs) ys all =
     let rest = small_parts xs ys (All-tail (λ p. p.size ≤ 188) x (xs ++ ys) all) in
@@ -82,7 +83,8 @@ small_parts (x ∷ xs) ys all =
 record RunLeaked (d : Scheduled) (s : DescribedStream) (us : List AccessUnit) (bytes : List ℕ) (leak : ℕ) (e : EntryState) : Type 0 where
   left : List ℕ
   late : NoneLeavesEarly s.rx (packets_on s.pid bytes) left
-  fuller : (x : ℕ) → elementary_held d.description.rate leak e.held.parts x ≤ mb_fullness d.description.rate s.rx x (timed_pes_packets s.stream_id d.description.base0 us) left
+  fuller : (x : ℕ) →
+      elementary_held d.description.rate leak e.held.parts x ≤ mb_fullness d.description.rate s.rx x (timed_pes_packets s.stream_id d.description.base0 us) left
 
 run_leaked : (d : Scheduled) (units : ℕ → List AccessUnit) (slots : ℕ) (request : RequestView) (e : EntryState) (k leak : ℕ) → IsInRange d.description →
     Promised d.description d.schedule → UnitsKept d units → slots ≤ most_packets → (viewed : IsViewedAs d request k e) →
@@ -123,11 +125,14 @@ run_leaked d units slots request e k leak ranges promised kept few viewed whole 
           let in_view : elementary_held rate leak e.held.parts x
           ≡ elementary_held rate leak (after_each (empty rate e.held.rx e.held.main.size) (AtRate rate) ps).parts x =
           ap (λ (h : Held). elementary_held rate leak h.parts x) whole.held in
-          let within = later_leaked rate e.held.rx e.held.main.size (known_at_begin (followed request e) whole.begun.before).index x leak s.stream_id base0 cuts ps
+          let within = later_leaked rate e.held.rx e.held.main.size (known_at_begin (followed request e) whole.begun.before).index x leak s.stream_id base0 cuts
+          ps
           front back v.begin.come follows v.begin.packets both.0 both.1 v.sent.cut sizes in
           let same : mb_fullness rate e.held.rx x (timed_pes_packets s.stream_id base0 (cut_units cuts))
-          (pes_left rate e.held.rx 0 front ++ departures leak 0 (pes_left rate e.held.rx 0 back)) ≡ mb_fullness rate s.rx x (timed_pes_packets s.stream_id base0 us) left =
-          ap (λ (r : ℕ). mb_fullness rate r x (timed_pes_packets s.stream_id base0 (cut_units cuts)) (pes_left rate r 0 front ++ departures leak 0 (pes_left rate r 0 back))) viewed.rx
+          (pes_left rate e.held.rx 0 front ++ departures leak 0 (pes_left rate e.held.rx 0 back)) ≡ mb_fullness rate s.rx x
+          (timed_pes_packets s.stream_id base0 us) left =
+          ap (λ (r : ℕ). mb_fullness rate r x (timed_pes_packets s.stream_id base0 (cut_units cuts))
+          (pes_left rate r 0 front ++ departures leak 0 (pes_left rate r 0 back))) viewed.rx
           ∙ ap (λ (ws : List AccessUnit). mb_fullness rate s.rx x (timed_pes_packets s.stream_id base0 ws) left) (same_units l us) in
           omega (arith, in_view, within, same);
     }
@@ -143,7 +148,8 @@ run_elementary_law d units slots request e k sizes ranges promised kept few view
     let within : (x : ℕ) → elementary_held rate sizes.leak e.held.parts x ≤ sizes.elementary =
     λ x.
     let fits : mb_fullness rate s.rx x (timed_pes_packets s.stream_id d.description.base0 us) v.left ≤ s.main =
-    main_kept d k s us (content_at d units) slots viewed.there (stream_alone d units k s ranges (contents_fit d units ranges kept) viewed.there) (kept.kept k s viewed.there) promised x
+    main_kept d k s us (content_at d units) slots viewed.there (stream_alone d units k s ranges (contents_fit d units ranges kept) viewed.there)
+    (kept.kept k s viewed.there) promised x
     v.left v.late in
     omega (arith, v.fuller x, fits, size) in
     let same : e.held.rate ≡ rate = ap (λ (g : Held). g.rate) whole.held ∙ rate_each h (AtRate rate) ps in
@@ -153,7 +159,8 @@ run_elementary_law d units slots request e k sizes ranges promised kept few view
     λ x. omega (arith, within x, ap (λ (g : Held). elementary_held rate sizes.leak g.parts x) whole.held) in
     record {
       most = greatest_below (elementary_held e.held.rate sizes.leak e.held.parts) sizes.elementary (multiplexing_left e.held.rate sizes.leak e.held.parts) here;
-      none_ended = ap (λ (o : Option VideoSizes). flat_map (λ v. option_to_list v.elementary) (video_each o h (AtRate rate) ps)) video ∙ quiet_each sizes h (AtRate rate) ps each;
+      none_ended = ap (λ (o : Option VideoSizes). flat_map (λ v. option_to_list v.elementary) (video_each o h (AtRate rate) ps)) video
+          ∙ quiet_each sizes h (AtRate rate) ps each;
       none_under_way = none_under_way e.held.rate sizes.leak sizes.elementary e.held.parts here;
     }
 
@@ -161,6 +168,7 @@ pub job_elementary_law : JobElementaryLaw
 job_elementary_law d units slots request e k sizes ranges promised none few viewed =
     let each : ℕ → List AccessUnit = λ j. units_of j units in
     let same : run_bytes (content_at d each) 0 slots ≡ output_of false d (job_history units slots) = sym (output_bytes (content_at d each) 0 slots) in
-    subst (λ (bytes : List ℕ). (whole : IsWhole request d.description.rate (cut_packets bytes) e) → e.video ≡ Some sizes → sizes.elementary ≡ viewed.stream.main →
+    subst (λ (bytes : List ℕ). (whole : IsWhole request d.description.rate (cut_packets bytes) e) → e.video ≡ Some sizes →
+    sizes.elementary ≡ viewed.stream.main →
     NoElementaryExcess request d.description.rate (cut_packets bytes) e sizes whole) same
     (run_elementary_law d each slots request e k sizes ranges promised (job_kept d units ranges none) few viewed)

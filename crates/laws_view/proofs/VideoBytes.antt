@@ -1,5 +1,6 @@
 -- What the packets of a video stream leave in its elementary stream buffer, as the bytes of each come (ISO/IEC 13818-1, 2.4.2.3).
-use Rattle.std.proofs.Common.{◌≡◌, ◌∙◌, sym, ℕ, suc, ◌+◌, ◌-◌, ◌*◌, ◌≤◌, ◌<◌, true, false, List, [], ◌∷◌, ◌++◌, length, map, take, drop, Option, Some, None, refl, ap, ap₂, subst, inl, inr, arith, All}
+use Rattle.std.proofs.Common.{◌≡◌, ◌∙◌, sym, ℕ, suc, ◌+◌, ◌-◌, ◌*◌, ◌≤◌, ◌<◌, true, false, List, [], ◌∷◌, ◌++◌, length, map, take, drop, Option, Some, None}
+use Rattle.std.proofs.Common.{refl, ap, ap₂, subst, inl, inr, arith, All}
 use Rattle.std.proofs.lemmas.Bool.Decides.{eqb_tells}
 use Rattle.std.proofs.lemmas.List.{append_assoc, append-nil, length-append, take_at, drop_at}
 use Rattle.clock27.specs.Arrival.{bytes_from}
@@ -38,19 +39,20 @@ same_passed h n times rate leak x = elim (eqb_tells n 0) [
   | inr some ↦ rw some.0 refl
 ]
 
-passed_left : (h : Held) (n : ℕ) (times : List ℕ) (rate : ℕ) → payload_left rate (after_payload h false n times).parts ≡ payload_left rate h.parts
+pub passed_left : (h : Held) (n : ℕ) (times : List ℕ) (rate : ℕ) → payload_left rate (after_payload h false n times).parts ≡ payload_left rate h.parts
 unfolding after_payload payload_left
 passed_left h n times rate = elim (eqb_tells n 0) [
   | inl none ↦ rw none.0 refl
   | inr some ↦ rw some.0 refl
 ]
 
-pub begin_held : (h : Held) (due : Option DueTime) (rate leak x : ℕ) → elementary_held rate leak (after_begin h due).parts x ≡ elementary_held rate leak h.parts x
+pub begin_held : (h : Held) (due : Option DueTime) (rate leak x : ℕ) →
+    elementary_held rate leak (after_begin h due).parts x ≡ elementary_held rate leak h.parts x
 unfolding after_begin elementary_held
 begin_held h None rate leak x = refl
 begin_held h (Some due) rate leak x = refl
 
-begin_left : (h : Held) (due : Option DueTime) (rate : ℕ) → payload_left rate (after_begin h due).parts ≡ payload_left rate h.parts
+pub begin_left : (h : Held) (due : Option DueTime) (rate : ℕ) → payload_left rate (after_begin h due).parts ≡ payload_left rate h.parts
 unfolding after_begin payload_left
 begin_left h None rate = refl
 begin_left h (Some due) rate = refl
@@ -68,7 +70,7 @@ carried_held h n times rate leak x e = elim (eqb_tells n 0) [
   | inr some ↦ rw some.0 refl
 ]
 
-carried_left : (h : Held) (n : ℕ) (times : List ℕ) (rate : ℕ) → length times ≡ n →
+pub carried_left : (h : Held) (n : ℕ) (times : List ℕ) (rate : ℕ) → length times ≡ n →
     payload_left rate (after_payload h true n times).parts ≡ payload_left rate h.parts ++ left_after rate h.parts times
 unfolding after_payload payload_left departures
 carried_left h n times rate e = elim (eqb_tells n 0) [
@@ -207,11 +209,13 @@ payload_each rate low h (p ∷ ps) (u ∷ us) before come few follows e =
     let m = one_more rate low h p qs before come.0 come.1 few follows.0 e in
     let k = one_leaks rate 0 low h p qs before come.0 come.1 few follows.0 e in
     let due : Option DueTime = due_with p.begins before in
-    payload_each rate (suc p.index) (after h (AtRate rate) p) ps us due come.2 m.few (subst (λ (r : ℕ). Follows rate r due ps us) (sym m.rx) follows.2) m.until ∙ k.left
+    payload_each rate (suc p.index) (after h (AtRate rate) p) ps us due come.2 m.few (subst (λ (r : ℕ). Follows rate r due ps us) (sym m.rx) follows.2) m.until
+    ∙ k.left
 
 -- and than a model has of them and of those before in a main buffer that they enter so late
 pub later_leaked : (rate rx size low x leak id base0 : ℕ) (cuts : List CutUnit) (ps : List Arriving) (front back : List Packet) → ComeFrom low ps →
-    Follows rate rx None ps (drop (length front) (cut_senders cuts)) → map timed_packet ps ≡ back → All (λ p. p.size ≤ 188) front → All (λ p. p.size ≤ 188) back →
+    Follows rate rx None ps (drop (length front) (cut_senders cuts)) → map timed_packet ps ≡ back → All (λ p. p.size ≤ 188) front →
+    All (λ p. p.size ≤ 188) back →
     All (IsCut id base0) cuts → packet_sizes (front ++ back) ≡ take (length (front ++ back)) (sizes_of (cut_pieces cuts)) →
     elementary_held rate leak (after_each (empty rate rx size) (AtRate rate) ps).parts x
     ≤ mb_fullness rate rx x (timed_pes_packets id base0 (cut_units cuts)) (pes_left rate rx 0 front ++ departures leak 0 (pes_left rate rx 0 back))
@@ -221,7 +225,8 @@ later_leaked rate rx size low x leak id base0 cuts ps front back come follows sa
     let before : List ℕ = pes_left rate rx 0 front in
     let after_it : List ℕ = departures leak 0 (pes_left rate rx 0 back) in
     let all = leaked_each rate leak low x (empty rate rx size) ps (drop (length front) (cut_senders cuts)) None come (omega arith) follows refl in
-    let here : kept_each rate rx x vs (map timed_packet ps) (departures leak 0 (pes_left rate rx 0 (map timed_packet ps))) ≡ kept_each rate rx x vs back after_it =
+    let here : kept_each rate rx x vs (map timed_packet ps) (departures leak 0 (pes_left rate rx 0 (map timed_packet ps))) ≡ kept_each rate rx x vs back
+    after_it =
     ap (λ (xs : List Packet). kept_each rate rx x vs xs (departures leak 0 (pes_left rate rx 0 xs))) same in
     let more = kept_later rate rx x (cut_senders cuts) front back before after_it (many_left rate rx 0 front small) in
     let many : length (before ++ after_it) ≡ total (packet_sizes (front ++ back)) =

@@ -1,5 +1,6 @@
 -- An elementary stream buffer that never holds more than its size has no excess.
-use Rattle.std.proofs.Common.{◌≡◌, ◌∙◌, sym, ℕ, ◌+◌, ◌-◌, ◌*◌, ◌≤◌, nat_lt, Bool, true, false, List, [], ◌∷◌, Option, Some, None, if◌then◌else◌, refl, ap, subst, inl, inr, arith}
+use Rattle.std.proofs.Common.{◌≡◌, ◌∙◌, sym, ℕ, ◌+◌, ◌-◌, ◌*◌, ◌≤◌, nat_lt, Bool, true, false, List, [], ◌∷◌, Option, Some, None, if◌then◌else◌, refl, ap}
+use Rattle.std.proofs.Common.{subst, inl, inr, arith}
 use Rattle.std.specs.Prelude.{flat_map}
 use Rattle.std.specs.Option.{option_to_list}
 use Rattle.std.proofs.lemmas.Bool.{le-ltb}
@@ -30,7 +31,8 @@ greatest_below f n [] few = omega arith
 greatest_below f n (d ∷ ds) few = omega (arith, few d, greatest_below f n ds few)
 
 -- then no excess is under way
-pub none_under_way : (rate leak size : ℕ) (parts : List Part) → ((x : ℕ) → elementary_held rate leak parts x ≤ size) → elementary_under_way rate leak size parts ≡ None
+pub none_under_way : (rate leak size : ℕ) (parts : List Part) → ((x : ℕ) → elementary_held rate leak parts x ≤ size) →
+    elementary_under_way rate leak size parts ≡ None
 unfolding elementary_held elementary_under_way
 none_under_way rate leak size [] few = refl
 none_under_way rate leak size (Passes times ∷ before) few = none_under_way rate leak size before few
@@ -50,7 +52,8 @@ none_ends : (sizes : VideoSizes) (rate : ℕ) (before : List Part) (times : List
 unfolding video_found ended_at
 none_ends sizes rate before times none =
     let last : ℕ = last_entry rate sizes.leak before times in
-    either (nat_lt sizes.elementary (elementary_found rate sizes.leak before times)) (ended_at (elementary_under_way rate sizes.leak sizes.elementary before) last)
+    either (nat_lt sizes.elementary (elementary_found rate sizes.leak before times))
+    (ended_at (elementary_under_way rate sizes.leak sizes.elementary before) last)
     (ap (λ (u : Option Excess). ended_at u last) none)
 
 none_goes : (sizes : VideoSizes) (h : Held) (enters : Bool) (times : List ℕ) → elementary_under_way h.rate sizes.leak sizes.elementary h.parts ≡ None →
@@ -58,7 +61,8 @@ none_goes : (sizes : VideoSizes) (h : Held) (enters : Bool) (times : List ℕ) �
 none_goes sizes h true times none = none_ends sizes h.rate h.parts times none
 none_goes sizes h false times none = refl
 
-none_with_payload : (sizes : VideoSizes) (h : Held) (enters : Bool) (n : ℕ) (times : List ℕ) → elementary_under_way h.rate sizes.leak sizes.elementary h.parts ≡ None →
+none_with_payload : (sizes : VideoSizes) (h : Held) (enters : Bool) (n : ℕ) (times : List ℕ) →
+    elementary_under_way h.rate sizes.leak sizes.elementary h.parts ≡ None →
     (payload_video (Some sizes) h enters n times).elementary ≡ None
 unfolding payload_video
 none_with_payload sizes h enters n times none = elim (eqb_tells n 0) [
@@ -102,11 +106,13 @@ before_payload h arrival p size lead =
       held = λ rate leak x. begin_held b p.begins rate leak x ∙ same_passed a (188 - size - lead) two rate leak x ∙ same_passed h lead one rate leak x;
     }
 
-held_packet : (h : Held) (arrival : Arrival) (p : Arriving) (rate leak x : ℕ) → elementary_held rate leak h.parts x ≤ elementary_held rate leak (after h arrival p).parts x
+held_packet : (h : Held) (arrival : Arrival) (p : Arriving) (rate leak x : ℕ) →
+    elementary_held rate leak h.parts x ≤ elementary_held rate leak (after h arrival p).parts x
 unfolding after
 held_packet h arrival p rate leak x = by (takes_in h arrival p)
   where
-    by : (w : Bool) → elementary_held rate leak h.parts x ≤ elementary_held rate leak (if w then with_packet h arrival p (size_of p) (lead_in arrival p) else h).parts x
+    by : (w : Bool) →
+        elementary_held rate leak h.parts x ≤ elementary_held rate leak (if w then with_packet h arrival p (size_of p) (lead_in arrival p) else h).parts x
     by true =
         let c : Held = after_unit h arrival p (size_of p) (lead_in arrival p) in
         let times : List ℕ = times_at arrival c.rx (188 * p.index + (188 - size_of p)) (size_of p) in
@@ -150,5 +156,6 @@ quiet_each sizes h arrival (p ∷ ps) few =
     let h' : Held = after h arrival p in
     let one = quiet_packet sizes h arrival p (λ x. omega (arith, few x, held_each h arrival (p ∷ ps) h.rate sizes.leak x)) in
     let same : h'.rate ≡ h.rate = (after_alike h arrival p).rate in
-    let rest = quiet_each sizes h' arrival ps (λ x. omega (arith, few x, ap (λ (r : ℕ). elementary_held r sizes.leak (after_each h' arrival ps).parts x) same)) in
+    let rest = quiet_each sizes h' arrival ps
+    (λ x. omega (arith, few x, ap (λ (r : ℕ). elementary_held r sizes.leak (after_each h' arrival ps).parts x) same)) in
     rw (one, rest) refl

@@ -8,6 +8,7 @@ pub mod MuxedStreams
 pub mod MainExcesses
 pub mod ViewedRuns
 pub mod VideoExcesses
+pub mod FrameExcesses
 pub mod WindowLows
 pub mod HeldWindows
 pub mod ClockedWindows

@@ -33,10 +33,12 @@ video_each sizes h arrival (p ∷ ps) = video_of sizes h arrival p ∷ video_eac
 
 -- the elementary stream buffer of such a stream has no excess: the line `elementary` says no more than its size, with none of the stream's
 -- packets has an excess ended, and none is under way at the end
-pub record NoElementaryExcess (request : RequestView) (rate : ℕ) (packets : List (List ℕ)) (e : EntryState) (sizes : VideoSizes) (whole : IsWhole request rate packets e) : Type 0 where
+pub record NoElementaryExcess (request : RequestView) (rate : ℕ) (packets : List (List ℕ)) (e : EntryState) (sizes : VideoSizes)
+    (whole : IsWhole request rate packets e) : Type 0 where
   pub most : (figures_with sizes e.held).elementary_most ≤ sizes.elementary
   pub none_ended : flat_map (λ v. option_to_list v.elementary)
-      (video_each e.video (empty rate e.held.rx e.held.main.size) (AtRate rate) (stream_packets request e whole.begun.before (whole.begun.first ∷ whole.begun.later))) ≡ []
+      (video_each e.video (empty rate e.held.rx e.held.main.size) (AtRate rate)
+      (stream_packets request e whole.begun.before (whole.begun.first ∷ whole.begun.later))) ≡ []
   pub none_under_way : (figures_with sizes e.held).elementary ≡ None
 
 -- so of each stream of the description that is viewed with an elementary stream buffer of the size of the description, however its
@@ -58,10 +60,12 @@ JobElementaryLaw = (d : Scheduled) (units : List (ℕ × AccessUnit)) (slots : �
 
 -- the multiplexing buffer of such a stream has no excess: the line `multiplexing` says no more than its size, with none of the stream's packets
 -- has an excess ended, and none is under way at the end
-pub record NoMultiplexingExcess (request : RequestView) (rate : ℕ) (packets : List (List ℕ)) (e : EntryState) (sizes : VideoSizes) (whole : IsWhole request rate packets e) : Type 0 where
+pub record NoMultiplexingExcess (request : RequestView) (rate : ℕ) (packets : List (List ℕ)) (e : EntryState) (sizes : VideoSizes)
+    (whole : IsWhole request rate packets e) : Type 0 where
   pub most : (figures_with sizes e.held).multiplexing_most ≤ sizes.multiplexing
   pub none_ended : flat_map (λ v. v.multiplexing)
-      (video_each e.video (empty rate e.held.rx e.held.main.size) (AtRate rate) (stream_packets request e whole.begun.before (whole.begun.first ∷ whole.begun.later))) ≡ []
+      (video_each e.video (empty rate e.held.rx e.held.main.size) (AtRate rate)
+      (stream_packets request e whole.begun.before (whole.begun.first ∷ whole.begun.later))) ≡ []
   pub none_under_way : (figures_with sizes e.held).multiplexing ≡ None
 
 -- a multiplexing buffer of that size, which a byte takes the time to leave that it takes at the rate of the description: a whole number of the
@@ -72,14 +76,16 @@ pub record LeaksAs (rate rx : ℕ) (b : MultiplexingBuffer) (sizes : VideoSizes)
 
 -- so of each stream of the description that is viewed so, whose buffers begin with the first packet of its PID
 abbrev pub RunMultiplexingLaw : Type 0
-RunMultiplexingLaw = (d : Scheduled) (units : ℕ → List AccessUnit) (slots : ℕ) (request : RequestView) (e : EntryState) (k : ℕ) (b : MultiplexingBuffer) (sizes : VideoSizes) →
+RunMultiplexingLaw = (d : Scheduled) (units : ℕ → List AccessUnit) (slots : ℕ) (request : RequestView) (e : EntryState) (k : ℕ) (b : MultiplexingBuffer)
+    (sizes : VideoSizes) →
     IsInRange d.description → Promised d.description d.schedule → UnitsKept d units → slots ≤ most_packets → (viewed : IsViewedAs d request k e) →
     (whole : IsWhole request d.description.rate (cut_packets (run_bytes (content_at d units) 0 slots)) e) → FromTheFirst e.pid whole.begun.before →
     viewed.stream.multiplexing ≡ Some b → e.video ≡ Some sizes → LeaksAs d.description.rate viewed.stream.rx b sizes →
     NoMultiplexingExcess request d.description.rate (cut_packets (run_bytes (content_at d units) 0 slots)) e sizes whole
 
 abbrev pub JobMultiplexingLaw : Type 0
-JobMultiplexingLaw = (d : Scheduled) (units : List (ℕ × AccessUnit)) (slots : ℕ) (request : RequestView) (e : EntryState) (k : ℕ) (b : MultiplexingBuffer) (sizes : VideoSizes) →
+JobMultiplexingLaw = (d : Scheduled) (units : List (ℕ × AccessUnit)) (slots : ℕ) (request : RequestView) (e : EntryState) (k : ℕ) (b : MultiplexingBuffer)
+    (sizes : VideoSizes) →
     IsInRange d.description → Promised d.description d.schedule → first_refused d (capacity_for units) [] units ≡ None → slots ≤ most_packets →
     (viewed : IsViewedAs d request k e) → (whole : IsWhole request d.description.rate (cut_packets (output_of false d (job_history units slots))) e) →
     FromTheFirst e.pid whole.begun.before → viewed.stream.multiplexing ≡ Some b → e.video ≡ Some sizes → LeaksAs d.description.rate viewed.stream.rx b sizes →

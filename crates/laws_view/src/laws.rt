@@ -2,6 +2,7 @@
 ghost use Rattle.laws_view.specs.AsMeasured.{AsMeasuredLaw, JobAsMeasuredLaw, JobLateAsMeasuredLaw, RunAsMeasuredLaw, RunLateAsMeasuredLaw};
 ghost use Rattle.laws_view.specs.ClockedWindows.{ClockedTablesLaw, ClockedWindowLaw};
 ghost use Rattle.laws_view.specs.FirstHighs.{ClockedFirstLaw, FirstHighLaw};
+ghost use Rattle.laws_view.specs.FrameExcesses.{JobFramesLaw, RunFramesLaw};
 ghost use Rattle.laws_view.specs.HeldWindows.{FirstWindowLaw, HeldWindowLaw, TimedWindowLaw};
 ghost use Rattle.laws_view.specs.MainExcesses.{NoMainExcessLaw, TimedNoExcessLaw};
 ghost use Rattle.laws_view.specs.MeasuredStreams.{MeasuredStreamLaw};
@@ -123,6 +124,14 @@ pub fn muxed_video_buffers()
     ensures jobs { JobElementaryLaw }
     ensures multiplexing { RunMultiplexingLaw }
     ensures jobs_multiplexing { JobMultiplexingLaw }
+{}
+
+/// States that there is no excess of a main buffer there that is viewed by access units (ISO/IEC 13818-1, 2.4.2.3): each access unit of a stream of
+/// sound whose access units the description declares is removed at its own decoding time, if the view removes no byte later than a cut of the
+/// units into such access units does.
+pub fn muxed_frames()
+    ensures run { RunFramesLaw }
+    ensures jobs { JobFramesLaw }
 {}
 
 /// States that the greatest numbers of bytes in both buffers of a stream at a constant rate that carries units on a PID, whoever wrote it, are

@@ -9,6 +9,7 @@
 //! - `MainExcesses`: when a main buffer has no excess; `MeasuredStreams`: what measuring the same bytes finds.
 //! - `MuxedStreams`, `ViewedRuns`: a multiplexer's output, with no late unit and no main buffer too full, and when its tables come first.
 //! - `VideoExcesses`: a multiplexer's output, with neither buffer of video too full.
+//! - `FrameExcesses`: a multiplexer's output, with no main buffer of sound too full that is viewed by access units.
 //! - `CarriedStreams`: which packets carry units, and their clock references; `AsMeasured`: when the figures equal the measured numbers.
 //!
 //! - [`laws`]: the last lines of a stream are about all packets of its PID and say no more than the measured numbers, and the same numbers
