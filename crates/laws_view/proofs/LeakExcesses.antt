@@ -1,5 +1,6 @@
 -- A multiplexing buffer whose bytes all find room has no excess.
-use Rattle.std.proofs.Common.{◌≡◌, ◌∙◌, sym, ℕ, ◌+◌, ◌-◌, ◌*◌, ◌≤◌, max, Bool, true, false, List, [], ◌∷◌, ◌++◌, Option, Some, None, if◌then◌else◌, refl, ap, subst, inl, inr, arith}
+use Rattle.std.proofs.Common.{◌≡◌, ◌∙◌, sym, ℕ, ◌+◌, ◌-◌, ◌*◌, ◌≤◌, max, Bool, true, false, List, [], ◌∷◌, ◌++◌, Option, Some, None, if◌then◌else◌, refl, ap}
+use Rattle.std.proofs.Common.{subst, inl, inr, arith}
 use Rattle.std.specs.Prelude.{flat_map}
 use Rattle.std.proofs.lemmas.Bool.Decides.{eqb_tells}
 use Rattle.std.proofs.lemmas.List.{append_assoc, append-nil}
@@ -22,7 +23,8 @@ use Rattle.laws_view.proofs.MuxedStreams.{room_after, room_ended}
 use Rattle.laws_view.proofs.VideoExcesses.{before_payload}
 
 -- bytes in two parts
-over_two : (step size prev : ℕ) (ts us : List ℕ) → AreOver false step size prev (ts ++ us) → AreOver false step size prev ts × AreOver false step size (last_left step prev ts) us
+over_two : (step size prev : ℕ) (ts us : List ℕ) → AreOver false step size prev (ts ++ us) →
+    AreOver false step size prev ts × AreOver false step size (last_left step prev ts) us
 unfolding AreOver last_left
 over_two step size prev [] us room = (tt, room)
 over_two step size prev (t ∷ ts) us room =
@@ -66,7 +68,8 @@ grown_unit rate h arrival p size lead =
     let b : Held = after_header h arrival p size lead in
     let c : Held = after_unit h arrival p size lead in
     grown_trans rate h a c (grown_payload rate h false lead (times_at arrival h.rx (188 * p.index) lead))
-    (grown_trans rate a b c (grown_payload rate a false (188 - size - lead) (times_at arrival a.rx (188 * p.index + lead) (188 - size - lead))) (grown_begin rate b p.begins))
+    (grown_trans rate a b c (grown_payload rate a false (188 - size - lead) (times_at arrival a.rx (188 * p.index + lead) (188 - size - lead)))
+    (grown_begin rate b p.begins))
 
 grown_packet : (rate : ℕ) (h : Held) (arrival : Arrival) (p : Arriving) → Grown rate h (after h arrival p)
 unfolding after
@@ -76,14 +79,16 @@ grown_packet rate h arrival p = by (takes_in h arrival p)
     by true =
         let c : Held = after_unit h arrival p (size_of p) (lead_in arrival p) in
         let times : List ℕ = times_at arrival c.rx (188 * p.index + (188 - size_of p)) (size_of p) in
-        grown_trans rate h c (after_payload c p.enters (size_of p) times) (grown_unit rate h arrival p (size_of p) (lead_in arrival p)) (grown_payload rate c p.enters (size_of p) times)
+        grown_trans rate h c (after_payload c p.enters (size_of p) times) (grown_unit rate h arrival p (size_of p) (lead_in arrival p))
+        (grown_payload rate c p.enters (size_of p) times)
     by false = ([], sym (append-nil (payload_left rate h.parts)))
 
 grown_each : (rate : ℕ) (h : Held) (arrival : Arrival) (ps : List Arriving) → Grown rate h (after_each h arrival ps)
 unfolding after_each
 grown_each rate h arrival [] = ([], sym (append-nil (payload_left rate h.parts)))
 grown_each rate h arrival (p ∷ ps) =
-    grown_trans rate h (after h arrival p) (after_each (after h arrival p) arrival ps) (grown_packet rate h arrival p) (grown_each rate (after h arrival p) arrival ps)
+    grown_trans rate h (after h arrival p) (after_each (after h arrival p) arrival ps) (grown_packet rate h arrival p)
+    (grown_each rate (after h arrival p) arrival ps)
 
 -- ---- none ends with a payload whose bytes find room, nor with all packets
 
@@ -94,10 +99,12 @@ none_carried sizes c times room =
     let two = over_two sizes.leak sizes.multiplexing 0 (payload_left c.rate c.parts) (left_after c.rate c.parts times) room in
     let leak : ℕ = sizes.leak in
     let last : ℕ = last_left leak 0 (payload_left c.rate c.parts) in
-    ap (λ (o : Option Excess). excesses_ended leak sizes.multiplexing last o (left_after c.rate c.parts times)) (room_after leak sizes.multiplexing 0 (payload_left c.rate c.parts) two.0)
+    ap (λ (o : Option Excess). excesses_ended leak sizes.multiplexing last o (left_after c.rate c.parts times))
+    (room_after leak sizes.multiplexing 0 (payload_left c.rate c.parts) two.0)
     ∙ room_ended leak sizes.multiplexing last (left_after c.rate c.parts times) two.1
 
-none_payload : (sizes : VideoSizes) (c : Held) (enters : Bool) (n : ℕ) (times : List ℕ) → HasRoom c.rate sizes.leak sizes.multiplexing (after_payload c enters n times).parts →
+none_payload : (sizes : VideoSizes) (c : Held) (enters : Bool) (n : ℕ) (times : List ℕ) →
+    HasRoom c.rate sizes.leak sizes.multiplexing (after_payload c enters n times).parts →
     (payload_video (Some sizes) c enters n times).multiplexing ≡ []
 unfolding payload_video after_payload
 none_payload sizes c enters n times = elim (eqb_tells n 0) [
@@ -121,7 +128,8 @@ none_packet sizes h arrival p = by (takes_in h arrival p)
         let c : Held = after_unit h arrival p (size_of p) (lead_in arrival p) in
         let times : List ℕ = times_at arrival c.rx (188 * p.index + (188 - size_of p)) (size_of p) in
         none_payload sizes c p.enters (size_of p) times
-        (subst (λ (r : ℕ). HasRoom r sizes.leak sizes.multiplexing (after_payload c p.enters (size_of p) times).parts) (sym (before_payload h arrival p (size_of p) (lead_in arrival p)).rate) room)
+        (subst (λ (r : ℕ). HasRoom r sizes.leak sizes.multiplexing (after_payload c p.enters (size_of p) times).parts)
+        (sym (before_payload h arrival p (size_of p) (lead_in arrival p)).rate) room)
     by false room = refl
 
 pub none_each : (sizes : VideoSizes) (h : Held) (arrival : Arrival) (ps : List Arriving) →
@@ -130,7 +138,8 @@ unfolding after_each video_each
 none_each sizes h arrival [] room = refl
 none_each sizes h arrival (p ∷ ps) room =
     let h' : Held = after h arrival p in
-    let one = none_packet sizes h arrival p (room_before h.rate sizes.leak sizes.multiplexing h' (after_each h' arrival ps) (grown_each h.rate h' arrival ps) room) in
+    let one = none_packet sizes h arrival p
+    (room_before h.rate sizes.leak sizes.multiplexing h' (after_each h' arrival ps) (grown_each h.rate h' arrival ps) room) in
     let rest = none_each sizes h' arrival ps
     (subst (λ (r : ℕ). HasRoom r sizes.leak sizes.multiplexing (after_each h' arrival ps).parts) (sym (after_alike h arrival p).rate) room) in
     rw (one, rest) refl
