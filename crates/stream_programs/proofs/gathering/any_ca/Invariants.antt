@@ -2,7 +2,7 @@ use Rattle.std.proofs.Common.{◌≡◌}
 use Rattle.std.specs.List.{list_any}
 use Rattle.psi_tables.specs.ProgramMap.{StreamView, streams_of}
 use Rattle.descriptor_loops.specs.Descriptors.{has_ca}
-use Rattle.stream_programs.proofs.programs.any_ca.Given as goal
+use Rattle.stream_programs.proofs.gathering.any_ca.Given as goal
 
 abbrev pub invariant-loop-stream : goal.invariant-loop-stream
 invariant-loop-stream l =
