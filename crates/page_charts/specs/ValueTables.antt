@@ -1,31 +1,65 @@
 -- The numbers of curves as a table.
-use Rattle.std.specs.Prelude.{ℕ, ◌-◌, ◌*◌, ◌^◌, min, List, [], ◌++◌, codes, decimal, flat_map, Option, Some, None}
+use Rattle.std.specs.Prelude.{ℕ, ◌-◌, ◌*◌, ◌/◌, ◌^◌, ◌==◌, ◌&&◌, min, nat_lt, Bool, true, false, if◌then◌else◌, List, [], ◌++◌, codes, decimal, flat_map, length, Option, Some, None}
 use Rattle.page_charts.specs.declared.bounds.Bounds.{Bounds}
+use Rattle.page_charts.specs.declared.frame.ChartUnit.{ChartUnit}
+use Rattle.page_charts.specs.declared.frame.ChartUnit.TheVariants.{BitRate, Bytes, Time}
 use Rattle.page_charts.specs.declared.frame.Frame.{Frame}
 use Rattle.page_charts.specs.declared.pid_curves.PidCurve.{PidCurve}
 use Rattle.page_charts.specs.Numbers.{tenths}
-use Rattle.page_charts.specs.Frames.{shown, unit_name, value_text}
+use Rattle.page_charts.specs.Frames.{shown, slots_of, unit_name, value_text}
 use Rattle.page_charts.specs.Paths.{numbered}
+use Rattle.page_charts.specs.Slots.{CurveView, slot_at}
 
 -- when a slot begins, in ms; numbers stop at 2^64 - 1
 abbrev pub begin_of : Frame → ℕ → ℕ → ℕ
 begin_of f span slot = min (min (span * slot) (2 ^ 64 - 1) * f.millis) (2 ^ 64 - 1)
 
-unfoldable pub cells : Frame → ℕ → Bounds → List ℕ
-cells f begin b = tenths begin 1000 ++ (codes "<td>" ++ (value_text f.unit b.least ++ (codes "<td>" ++ (value_text f.unit b.greatest ++ codes "\n"))))
+-- the least difference of two values that are written differently: tenths of kbit/s and of ms, and bytes
+unfoldable pub step_of : ChartUnit → ℕ
+step_of BitRate = 100
+step_of Bytes = 1
+step_of Time = 100
+
+-- whether two slots have the same values, as they are written, or both have none
+abbrev pub is_alike : ℕ → Bounds → Bounds → Bool
+is_alike step a b = (a.least / step == b.least / step) && (a.greatest / step == b.greatest / step)
+
+unfoldable pub is_same : ℕ → Option Bounds → Option Bounds → Bool
+is_same step None None = true
+is_same step None (Some b) = false
+is_same step (Some a) None = false
+is_same step (Some a) (Some b) = is_alike step a b
+
+-- what is drawn of the slot before a slot; before the first one nothing
+abbrev pub shown_before : Frame → CurveView → ℕ → Option Bounds
+shown_before f curve slot = if slot == 0 then None else shown f curve.span (slot - 1) (slot_at curve.slots (slot - 1))
+
+-- the row of values from a moment on
+unfoldable pub values : ChartUnit → Bounds → List ℕ
+values unit b = codes "<td>" ++ (value_text unit b.least ++ (codes "<td>" ++ (value_text unit b.greatest ++ codes "\n")))
+
+unfoldable pub values_or : ChartUnit → Option Bounds → List ℕ
+values_or unit None = codes "<td>none<td>none\n"
+values_or unit (Some b) = values unit b
 
 unfoldable pub row_of : Frame → ℕ → ℕ → Option Bounds → List ℕ
-row_of f pid begin None = []
-row_of f pid begin (Some b) = codes "<tr><td>" ++ (decimal pid ++ (codes "<td>" ++ cells f begin b))
+row_of f pid begin b = codes "<tr><td>" ++ (decimal pid ++ (codes "<td>" ++ (tenths begin 1000 ++ values_or f.unit b)))
 
-abbrev pub row : Frame → ℕ → ℕ → ℕ → Option Bounds → List ℕ
-row f pid span slot b = row_of f pid (begin_of f span slot) (shown f span slot b)
+-- the row of a slot, unless its values are those of the slot before
+abbrev pub row : Frame → PidCurve → ℕ → Option Bounds → List ℕ
+row f entry slot b = if is_same (step_of f.unit) (shown_before f entry.curve slot) (shown f entry.curve.span slot b) then []
+    else row_of f entry.pid (begin_of f entry.curve.span slot) (shown f entry.curve.span slot b)
+
+-- and of what follows the last slot, if windows do
+abbrev pub last_row : Frame → PidCurve → List ℕ
+last_row f entry = if nat_lt (length entry.curve.slots) (slots_of f entry.curve.span) then row f entry (length entry.curve.slots) None else []
 
 abbrev pub rows : Frame → PidCurve → List ℕ
-rows f entry = numbered (row f entry.pid entry.curve.span) 0 entry.curve.slots
+rows f entry = numbered (row f entry) 0 entry.curve.slots ++ last_row f entry
 
 unfoldable pub head : List ℕ → List ℕ
-head unit = codes "<details><summary>These numbers</summary><table><tr><th>PID<th>from, s<th>least, " ++ (unit ++ (codes "<th>greatest, " ++ (unit ++ codes "\n")))
+head unit = codes "<details><summary>These numbers</summary><table><caption>A row is left out if its values are those of the row above.</caption><tr><th scope=col>PID<th scope=col>from, s<th scope=col>least, "
+    ++ (unit ++ (codes "<th scope=col>greatest, " ++ (unit ++ codes "\n")))
 
 unfoldable pub table : Frame → List PidCurve → List ℕ
 table f curves = head (unit_name f.unit) ++ (flat_map (rows f) curves ++ codes "</table></details>\n")

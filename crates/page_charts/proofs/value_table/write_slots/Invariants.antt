@@ -4,4 +4,4 @@ use Rattle.page_charts.specs.ValueTables.{row}
 use Rattle.page_charts.proofs.value_table.write_slots.Given as goal
 
 abbrev pub invariant-loop-slot : goal.invariant-loop-slot
-invariant-loop-slot l = string_bytes l.text ++ numbered (row l.frame l.pid l.span) l.slot (drop l.slot l.slots) ≡ string_bytes l.fn.text ++ numbered (row l.frame l.pid l.span) 0 l.slots
+invariant-loop-slot l = string_bytes l.text ++ numbered (row l.frame l.entry) l.slot (drop l.slot l.slots) ≡ string_bytes l.fn.text ++ numbered (row l.frame l.entry) 0 l.slots
