@@ -5,5 +5,6 @@ pub mod Values
 pub mod Backward
 pub mod Kept
 pub mod Scales
+pub mod Steps
 pub mod Texts
 pub mod Services

@@ -1,5 +1,6 @@
 -- A picture of curves: their key, their lines beside their limits, and their numbers.
-use Rattle.std.specs.Prelude.{ℕ, ◌%◌, ◌==◌, nat_lt, if◌then◌else◌, List, [], ◌++◌, length, codes, decimal}
+use Rattle.std.specs.Prelude.{ℕ, ◌%◌, ◌==◌, nat_lt, Bool, if◌then◌else◌, List, [], ◌++◌, length, codes, decimal, flat_map, unwrap_or, Option}
+use Rattle.std.specs.List.{position}
 use Rattle.page_charts.specs.Slots as slots
 use Rattle.page_charts.specs.declared.frame.ChartUnit.{ChartUnit}
 use Rattle.page_charts.specs.declared.frame.Frame.{Frame}
@@ -10,6 +11,16 @@ use Rattle.page_charts.specs.Frames.{scales_text, top_value, unit_name, value_te
 use Rattle.page_charts.specs.Paths.{low, numbered, numbered_back, over, point}
 use Rattle.page_charts.specs.ValueTables as values
 
+-- a PID has the colour and the dashes of its place among these curves
+abbrev pub is_of_pid : ℕ → PidCurve → Bool
+is_of_pid pid entry = entry.pid == pid
+
+abbrev pub place_of : List PidCurve → ℕ → Option ℕ
+place_of order pid = position (is_of_pid pid) order
+
+abbrev pub class_of : List PidCurve → ℕ → ℕ
+class_of order pid = unwrap_or (place_of order pid) 0 % 16
+
 -- a piece of a line, and a value with its unit
 unfoldable pub sample_text : ℕ → List ℕ
 sample_text class = codes "<span><svg class=\"sample\" viewBox=\"0 0 600 120\"><path class=\"line s" ++ (decimal class ++ codes "\" d=\"M0 60H600\"/></svg> ")
@@ -18,11 +29,11 @@ abbrev pub with_unit : ChartUnit → ℕ → List ℕ
 with_unit unit value = value_text unit value ++ (codes " " ++ (unit_name unit ++ codes "</span>\n"))
 
 -- what a curve says, beside a piece of its line
-unfoldable pub key : ChartUnit → LabelsState → ℕ → PidCurve → List ℕ
-key unit labels number entry = sample_text (number % 16) ++ (pid_text labels entry.pid entry.name ++ (codes ", at most " ++ with_unit unit (slots.greatest_of entry.curve.slots)))
+unfoldable pub key : ChartUnit → LabelsState → List PidCurve → PidCurve → List ℕ
+key unit labels order entry = sample_text (class_of order entry.pid) ++ (pid_text labels entry.pid entry.name ++ (codes ", at most " ++ with_unit unit (slots.greatest_of entry.curve.slots)))
 
-unfoldable pub keys : ChartUnit → LabelsState → List PidCurve → List ℕ
-keys unit labels curves = codes "<p class=\"key\">" ++ (numbered (key unit labels) 0 curves ++ codes "</p>\n")
+unfoldable pub keys : ChartUnit → LabelsState → List PidCurve → List PidCurve → List ℕ
+keys unit labels order curves = codes "<p class=\"key\">" ++ (flat_map (key unit labels order) curves ++ codes "</p>\n")
 
 -- the outline of a curve, along its greatest values and back along its least ones; its band, and the line of its greatest values
 unfoldable pub outline : Frame → PidCurve → List ℕ
@@ -52,11 +63,14 @@ limit_if f entry = if nat_lt 0 entry.limit then limit f entry else []
 unfoldable pub values_text : Frame → LabelsState → ℕ → PidCurve → List ℕ
 values_text f labels class entry = band f class entry ++ (line f labels class entry ++ limit_if f entry)
 
-abbrev pub curve : Frame → LabelsState → ℕ → PidCurve → List ℕ
-curve f labels number entry = if length entry.curve.slots == 0 then [] else values_text f labels (number % 16) entry
+abbrev pub curve : Frame → LabelsState → List PidCurve → PidCurve → List ℕ
+curve f labels order entry = if length entry.curve.slots == 0 then [] else values_text f labels (class_of order entry.pid) entry
 
-unfoldable pub picture : Frame → LabelsState → List PidCurve → List ℕ
-picture f labels curves = codes "<svg class=\"chart\" viewBox=\"0 -80 9900 2560\" role=\"img\">\n" ++ (scales_text f ++ (numbered (curve f labels) 0 curves ++ codes "</svg>\n"))
+unfoldable pub picture_head : List ℕ → List ℕ
+picture_head name = codes "<svg class=\"chart\" viewBox=\"0 -80 9900 2560\" role=\"img\" aria-label=\"" ++ (name ++ codes "\">\n")
 
-abbrev pub chart : Frame → LabelsState → List PidCurve → List ℕ
-chart f labels curves = keys f.unit labels curves ++ (picture f labels curves ++ values.table f curves)
+unfoldable pub picture : List ℕ → Frame → LabelsState → List PidCurve → List PidCurve → List ℕ
+picture name f labels order curves = picture_head name ++ (scales_text f ++ (flat_map (curve f labels order) curves ++ codes "</svg>\n"))
+
+abbrev pub chart : List ℕ → Frame → LabelsState → List PidCurve → List PidCurve → List ℕ
+chart name f labels order curves = keys f.unit labels order curves ++ (picture name f labels order curves ++ values.table f curves)

@@ -1,13 +1,16 @@
 -- The frame of a picture: its scales, and what is drawn of a slot.
-use Rattle.std.specs.Prelude.{ℕ, ◌+◌, ◌-◌, ◌*◌, ◌/◌, ◌^◌, min, max, nat_lt, if◌then◌else◌, List, ◌++◌, codes, decimal, flat_map, Option, Some, None}
+use Rattle.std.specs.Prelude.{ℕ, ◌+◌, ◌-◌, ◌*◌, ◌/◌, ◌^◌, min, max, nat_lt, if◌then◌else◌, List, [], ◌++◌, codes, decimal, flat_map, Option, Some, None}
 use Rattle.page_charts.specs.declared.bounds.Bounds.{Bounds}
 use Rattle.page_charts.specs.declared.frame.ChartUnit.{ChartUnit}
 use Rattle.page_charts.specs.declared.frame.ChartUnit.TheVariants.{BitRate, Bytes, Time}
 use Rattle.page_charts.specs.declared.frame.Frame.{Frame}
-use Rattle.page_charts.specs.declared.frame_text.TheConstants.{FIFTHS}
+use Rattle.page_charts.specs.declared.frame_text.TheConstants.{FIFTHS, STEP_COUNTS}
 use Rattle.page_charts.specs.declared.scale.TheConstants.{GREATEST_VALUE, LEFT, WIDTH}
 use Rattle.page_charts.specs.Numbers.{tenths}
 use Rattle.page_charts.specs.Scale.{height_of, scale_for, slots_in}
+use Rattle.page_charts.specs.declared.time_scale.TimeUnit.{TimeUnit}
+use Rattle.page_charts.specs.TimeScale.{step_for, unit_millis, unit_of}
+use Rattle.page_charts.specs.TimeScale as time
 
 -- the least top of a scale: ten of the unit in which its values are written
 unfoldable pub least_top : ChartUnit → ℕ
@@ -67,11 +70,11 @@ level_line y = codes "<path class=\"grid\" d=\"M900 " ++ (decimal y ++ (codes "H
 unfoldable pub level_text : ChartUnit → ℕ → ℕ → List ℕ
 level_text unit value y = level_line y ++ (value_text unit value ++ codes "</text>\n")
 
-unfoldable pub moment_place : ℕ → List ℕ
-moment_place x = codes "<text class=\"mid\" x=\"" ++ (decimal x ++ codes "\" y=\"2400\">")
+unfoldable pub moment_line : ℕ → List ℕ
+moment_line x = codes "<path class=\"grid\" d=\"M" ++ (decimal x ++ (codes " 200V2240\"/><text class=\"mid\" x=\"" ++ (decimal x ++ codes "\" y=\"2400\">")))
 
-unfoldable pub moment_text : ℕ → ℕ → List ℕ
-moment_text x moment = moment_place x ++ (tenths moment 1000 ++ codes " s</text>\n")
+unfoldable pub moment_text : ℕ → ℕ → TimeUnit → List ℕ
+moment_text x moment unit = moment_line x ++ (decimal (moment / unit_millis unit) ++ (codes " " ++ (time.unit_name unit ++ codes "</text>\n")))
 
 unfoldable pub name_above : List ℕ → List ℕ
 name_above name = codes "<text class=\"end\" x=\"840\" y=\"30\">" ++ (name ++ codes "</text>\n")
@@ -79,18 +82,24 @@ name_above name = codes "<text class=\"end\" x=\"840\" y=\"30\">" ++ (name ++ co
 abbrev pub unit_text : ChartUnit → List ℕ
 unit_text unit = name_above (unit_name unit)
 
--- so many fifths of all windows, in ms, and of both scales
-abbrev pub moment : Frame → ℕ → ℕ
-moment f fifth = window_count f * min f.millis (2 ^ 22) * fifth / 5
+-- all windows, in ms
+abbrev pub length_of : Frame → ℕ
+length_of f = window_count f * min f.millis (2 ^ 22)
 
+-- so many fifths of the scale of values
 abbrev pub fifth_at : Frame → ℕ → List ℕ
-fifth_at f fifth = level_text f.unit (top_value f * fifth / 5) (height_of (top_value f) (top_value f * fifth / 5)) ++ moment_text (LEFT + WIDTH * fifth / 5) (moment f fifth)
+fifth_at f fifth = level_text f.unit (top_value f * fifth / 5) (height_of (top_value f) (top_value f * fifth / 5))
 
 abbrev pub fifth_text : Frame → ℕ → List ℕ
 fifth_text f fifth = fifth_at f (min fifth 5)
 
-abbrev pub fifths_text : Frame → List ℕ
-fifths_text f = flat_map (fifth_text f) FIFTHS
+-- the end of so many steps of the scale of times, if it lies in it
+abbrev pub moment_at : Frame → ℕ → List ℕ
+moment_at f moment = if nat_lt (length_of f) moment then []
+    else moment_text (LEFT + WIDTH * moment / max (length_of f) 1) moment (unit_of (step_for (length_of f)))
+
+abbrev pub step_text : Frame → ℕ → List ℕ
+step_text f count = moment_at f (step_for (length_of f) * min count 6)
 
 unfoldable pub scales_text : Frame → List ℕ
-scales_text f = fifths_text f ++ unit_text f.unit
+scales_text f = flat_map (fifth_text f) FIFTHS ++ (flat_map (step_text f) STEP_COUNTS ++ unit_text f.unit)

@@ -5,8 +5,11 @@ pub mod Laws
 pub mod Numbers
 pub mod PidLabels
 pub mod Scale
+pub mod TimeScale
 pub mod Frames
 pub mod Paths
 pub mod PidCurves
 pub mod ValueTables
 pub mod Charts
+pub mod Strips
+pub mod StripTables

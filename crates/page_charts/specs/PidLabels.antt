@@ -21,6 +21,14 @@ with_program pid p l = record { programs = insert_entry nat_eq l.programs pid p;
 abbrev pub with_service : ℕ → List ℕ → LabelsState → LabelsState
 with_service program name l = record { programs = l.programs; services = insert_entry nat_eq l.services program name }
 
+-- the number of the program of a PID, 0 if none is known
+unfoldable pub number_of : Option PidProgram → ℕ
+number_of None = 0
+number_of (Some p) = p.program
+
+abbrev pub program_number : LabelsState → ℕ → ℕ
+program_number l pid = number_of (lookup (nat_eq pid) l.programs)
+
 -- `, NAME`, where a name is known
 unfoldable pub service_text : Option (List ℕ) → List ℕ
 service_text None = []

@@ -1,7 +1,6 @@
 //! A picture of curves.
-ghost use Rattle.std.specs.Prelude.{◌≡◌, ◌++◌, ◌<◌, ◌≤◌, OnOk, string_bytes};
+ghost use Rattle.std.specs.Prelude.{◌≡◌, ◌++◌, ◌<◌, ◌≤◌, OnOk, flat_map, string_bytes};
 ghost use Rattle.page_charts.specs.Charts as spec;
-ghost use Rattle.page_charts.specs.Paths.{numbered};
 
 use crate::frame::{ChartUnit, Frame};
 use crate::frame_text::{unit_name, write_value};
@@ -12,6 +11,27 @@ use crate::scale::height_of;
 use crate::value_table::write_value_table;
 use std::alloc::AllocError;
 use std::fmt::Write;
+
+// Whether a curve is that of a PID.
+fn is_of_pid(pid: u16, entry: &PidCurve) -> bool
+    ensures { result ≡ spec.is_of_pid pid entry.now }
+{
+    entry.pid == pid
+}
+
+// The place of a PID among curves.
+fn place_of(order: &[PidCurve], pid: u16) -> Option<usize>
+    ensures { result ≡ spec.place_of order.now pid }
+{
+    order.iter().position(|entry| is_of_pid(pid, entry))
+}
+
+// The class of a PID, by its place among curves.
+fn class_of(order: &[PidCurve], pid: u16) -> usize
+    ensures { result ≡ spec.class_of order.now pid }
+{
+    place_of(order, pid).unwrap_or(0) % 16
+}
 
 // A piece of a line of a class.
 #[tactic(auto, unfolding(crate::specs::Charts::sample_text))]
@@ -39,12 +59,12 @@ fn write_key(
     text: &mut String,
     unit: ChartUnit,
     labels: &PidLabels,
-    number: usize,
+    order: &[PidCurve],
     entry: &PidCurve,
 ) -> Result<(), AllocError>
-    ensures { OnOk result (string_bytes text.new ≡ string_bytes text.old ++ spec.key unit labels.now number entry.now) }
+    ensures { OnOk result (string_bytes text.new ≡ string_bytes text.old ++ spec.key unit labels.now order.now entry.now) }
 {
-    write_sample(text, number % 16)?;
+    write_sample(text, class_of(order, entry.pid))?;
     write_pid(text, labels, entry.pid, entry.name)?;
     text.push_str(", at most ")?;
     write_with_unit(text, unit, entry.curve.greatest())
@@ -54,13 +74,14 @@ fn write_each_key(
     text: &mut String,
     unit: ChartUnit,
     labels: &PidLabels,
+    order: &[PidCurve],
     curves: &[PidCurve],
 ) -> Result<(), AllocError>
     ensures { OnOk result (string_bytes text.new
-        ≡ string_bytes text.old ++ numbered (spec.key unit labels.now) 0 curves.now) }
+        ≡ string_bytes text.old ++ flat_map (spec.key unit labels.now order.now) curves.now) }
 {
-    for (number, entry) in curves.iter().enumerate() {
-        write_key(text, unit, labels, number, entry)?;
+    for entry in curves {
+        write_key(text, unit, labels, order, entry)?;
     }
     Ok(())
 }
@@ -70,12 +91,14 @@ fn write_keys(
     text: &mut String,
     unit: ChartUnit,
     labels: &PidLabels,
+    order: &[PidCurve],
     curves: &[PidCurve],
 ) -> Result<(), AllocError>
-    ensures { OnOk result (string_bytes text.new ≡ string_bytes text.old ++ spec.keys unit labels.now curves.now) }
+    ensures { OnOk result (string_bytes text.new
+        ≡ string_bytes text.old ++ spec.keys unit labels.now order.now curves.now) }
 {
     text.push_str("<p class=\"key\">")?;
-    write_each_key(text, unit, labels, curves)?;
+    write_each_key(text, unit, labels, order, curves)?;
     text.push_str("</p>\n")
 }
 
@@ -188,15 +211,16 @@ fn write_curve(
     text: &mut String,
     frame: &Frame,
     labels: &PidLabels,
-    number: usize,
+    order: &[PidCurve],
     entry: &PidCurve,
 ) -> Result<(), AllocError>
-    ensures { OnOk result (string_bytes text.new ≡ string_bytes text.old ++ spec.curve frame.now labels.now number entry.now) }
+    ensures { OnOk result (string_bytes text.new
+        ≡ string_bytes text.old ++ spec.curve frame.now labels.now order.now entry.now) }
 {
     if entry.curve.slots().is_empty() {
         Ok(())
     } else {
-        write_values(text, frame, labels, number % 16, entry)
+        write_values(text, frame, labels, class_of(order, entry.pid), entry)
     }
 }
 
@@ -204,43 +228,61 @@ fn write_curves(
     text: &mut String,
     frame: &Frame,
     labels: &PidLabels,
+    order: &[PidCurve],
     curves: &[PidCurve],
 ) -> Result<(), AllocError>
     ensures { OnOk result (string_bytes text.new
-        ≡ string_bytes text.old ++ numbered (spec.curve frame.now labels.now) 0 curves.now) }
+        ≡ string_bytes text.old ++ flat_map (spec.curve frame.now labels.now order.now) curves.now) }
 {
-    for (number, entry) in curves.iter().enumerate() {
-        write_curve(text, frame, labels, number, entry)?;
+    for entry in curves {
+        write_curve(text, frame, labels, order, entry)?;
     }
     Ok(())
+}
+
+#[tactic(auto, unfolding(crate::specs::Charts::picture_head))]
+fn write_picture_head(text: &mut String, name: &str) -> Result<(), AllocError>
+    ensures { OnOk result (string_bytes text.new ≡ string_bytes text.old ++ spec.picture_head name.now) }
+{
+    write!(
+        text,
+        "<svg class=\"chart\" viewBox=\"0 -80 9900 2560\" role=\"img\" aria-label=\"{name}\">\n"
+    )
 }
 
 // The picture itself.
 #[tactic(auto, unfolding(crate::specs::Charts::picture))]
 fn write_picture(
     text: &mut String,
+    name: &str,
     frame: &Frame,
     labels: &PidLabels,
+    order: &[PidCurve],
     curves: &[PidCurve],
 ) -> Result<(), AllocError>
-    ensures { OnOk result (string_bytes text.new ≡ string_bytes text.old ++ spec.picture frame.now labels.now curves.now) }
+    ensures { OnOk result (string_bytes text.new
+        ≡ string_bytes text.old ++ spec.picture name.now frame.now labels.now order.now curves.now) }
 {
-    text.push_str("<svg class=\"chart\" viewBox=\"0 -80 9900 2560\" role=\"img\">\n")?;
+    write_picture_head(text, name)?;
     frame.write_scales(text)?;
-    write_curves(text, frame, labels, curves)?;
+    write_curves(text, frame, labels, order, curves)?;
     text.push_str("</svg>\n")
 }
 
-/// Appends a picture of curves: their key, their lines beside their limits, and their numbers as a table; with what each PID carries.
+/// Appends a picture of curves: their key, their lines beside their limits, and their numbers as a table; with what each PID carries. The picture has a name for
+/// readers that do not see it; each PID has the colour and the dashes of its place in `order`.
 pub fn write_chart(
     text: &mut String,
+    name: &str,
     frame: &Frame,
     labels: &PidLabels,
+    order: &[PidCurve],
     curves: &[PidCurve],
 ) -> Result<(), AllocError>
-    ensures { OnOk result (string_bytes text.new ≡ string_bytes text.old ++ spec.chart frame.now labels.now curves.now) }
+    ensures { OnOk result (string_bytes text.new
+        ≡ string_bytes text.old ++ spec.chart name.now frame.now labels.now order.now curves.now) }
 {
-    write_keys(text, frame.unit, labels, curves)?;
-    write_picture(text, frame, labels, curves)?;
+    write_keys(text, frame.unit, labels, order, curves)?;
+    write_picture(text, name, frame, labels, order, curves)?;
     write_value_table(text, frame, curves)
 }

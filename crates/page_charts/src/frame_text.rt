@@ -6,11 +6,15 @@ use crate::bounds::Bounds;
 use crate::frame::{ChartUnit, Frame};
 use crate::numbers::write_tenths;
 use crate::scale::{GREATEST_VALUE, LEFT, WIDTH, height_of, scale_for, slots_in};
+use crate::time_scale::{TimeUnit, step_for};
 use std::alloc::AllocError;
 use std::fmt::Write;
 
-// What a scale is divided into: fifths.
+// What the scale of values is divided into: fifths.
 const FIFTHS: [u64; 6] = [0, 1, 2, 3, 4, 5];
+
+// How many steps of the scale of times from its begin on have a line: each of these that lies in it.
+const STEP_COUNTS: [u64; 7] = [0, 1, 2, 3, 4, 5, 6];
 
 /// Appends a value in the unit in which a picture has its values.
 #[tactic(auto, unfolding(crate::specs::Frames::value_text))]
@@ -56,21 +60,25 @@ fn write_level(text: &mut String, unit: ChartUnit, value: u64, y: u64) -> Result
     text.push_str("</text>\n")
 }
 
-#[tactic(auto, unfolding(crate::specs::Frames::moment_place))]
-fn write_moment_place(text: &mut String, x: u64) -> Result<(), AllocError>
-    ensures { OnOk result (string_bytes text.new ≡ string_bytes text.old ++ spec.moment_place x) }
+#[tactic(auto, unfolding(crate::specs::Frames::moment_line))]
+fn write_moment_line(text: &mut String, x: u64) -> Result<(), AllocError>
+    ensures { OnOk result (string_bytes text.new ≡ string_bytes text.old ++ spec.moment_line x) }
 {
-    write!(text, "<text class=\"mid\" x=\"{x}\" y=\"2400\">")
+    write!(
+        text,
+        "<path class=\"grid\" d=\"M{x} 200V2240\"/><text class=\"mid\" x=\"{x}\" y=\"2400\">"
+    )
 }
 
-// A moment below the picture, in ms.
+// A line down the picture, with its moment in a unit.
 #[tactic(auto, unfolding(crate::specs::Frames::moment_text))]
-fn write_moment(text: &mut String, x: u64, moment: u64) -> Result<(), AllocError>
-    ensures { OnOk result (string_bytes text.new ≡ string_bytes text.old ++ spec.moment_text x moment) }
+fn write_moment(text: &mut String, x: u64, moment: u64, unit: TimeUnit) -> Result<(), AllocError>
+    ensures { OnOk result (string_bytes text.new ≡ string_bytes text.old ++ spec.moment_text x moment unit) }
 {
-    write_moment_place(text, x)?;
-    write_tenths(text, moment, 1_000)?;
-    text.push_str(" s</text>\n")
+    let name = unit.name();
+    let count = moment / unit.millis();
+    write_moment_line(text, x)?;
+    write!(text, "{count} {name}</text>\n")
 }
 
 // A name above the scale of values.
@@ -141,12 +149,12 @@ impl Frame {
         self.top.min(GREATEST_VALUE)
     }
 
-    // So many fifths of all windows, in ms.
-    fn moment(&self, fifth: u64) -> u64
-        requires { fifth ≤ 5 }
-        ensures { result ≡ spec.moment self.now fifth }
+    /// Returns the length of all windows in ms.
+    pub(crate) fn length(&self) -> u64
+        ensures same { result ≡ spec.length_of self.now }
+        ensures bound { result ≤ 2 ^ 60 }
     {
-        self.window_count() * u64::from(self.millis.min(1 << 22)) * fifth / 5
+        self.window_count() * u64::from(self.millis.min(1 << 22))
     }
 
     // How many windows a slot has.
@@ -180,18 +188,17 @@ impl Frame {
         slots_in(self.window_count(), span)
     }
 
-    // So many fifths of both scales.
+    // So many fifths of the scale of values.
     fn write_fifth(&self, text: &mut String, fifth: u64) -> Result<(), AllocError>
         ensures { OnOk result (string_bytes text.new ≡ string_bytes text.old ++ spec.fifth_text self.now fifth) }
     {
         let fifth = fifth.min(5);
         let top = self.top_value();
         let value = top * fifth / 5;
-        write_level(text, self.unit, value, height_of(top, value))?;
-        write_moment(text, LEFT + WIDTH * fifth / 5, self.moment(fifth))
+        write_level(text, self.unit, value, height_of(top, value))
     }
 
-    // Some fifths of both scales.
+    // Some fifths of it.
     fn write_fifths(&self, text: &mut String, fifths: &[u64]) -> Result<(), AllocError>
         ensures { OnOk result (string_bytes text.new
             ≡ string_bytes text.old ++ flat_map (spec.fifth_text self.now) fifths.now) }
@@ -202,12 +209,38 @@ impl Frame {
         Ok(())
     }
 
+    // The end of so many steps of the scale of times, if it lies in it.
+    fn write_step(&self, text: &mut String, count: u64) -> Result<(), AllocError>
+        ensures { OnOk result (string_bytes text.new ≡ string_bytes text.old ++ spec.step_text self.now count) }
+    {
+        let length = self.length();
+        let step = step_for(length);
+        let moment = step * count.min(6);
+        if moment > length {
+            return Ok(());
+        }
+        let x = LEFT + WIDTH * moment / length.max(1);
+        write_moment(text, x, moment, TimeUnit::of_step(step))
+    }
+
+    // Some steps of it.
+    fn write_steps(&self, text: &mut String, counts: &[u64]) -> Result<(), AllocError>
+        ensures { OnOk result (string_bytes text.new
+            ≡ string_bytes text.old ++ flat_map (spec.step_text self.now) counts.now) }
+    {
+        for count in counts {
+            self.write_step(text, *count)?;
+        }
+        Ok(())
+    }
+
     /// Appends both scales.
     #[tactic(auto, unfolding(crate::specs::Frames::scales_text))]
     pub(crate) fn write_scales(&self, text: &mut String) -> Result<(), AllocError>
         ensures { OnOk result (string_bytes text.new ≡ string_bytes text.old ++ spec.scales_text self.now) }
     {
         self.write_fifths(text, &FIFTHS)?;
+        self.write_steps(text, &STEP_COUNTS)?;
         write_name_above(text, unit_name(self.unit))
     }
 }

@@ -8,6 +8,7 @@
 //! - [`PidCurves`]: curves by PID, each with a name and a limit, [`MOST_CURVES`] at most.
 //! - [`ChartUnit`]: the unit of the written numbers, and what a window without a value means.
 //! - [`write_chart`]: a picture of some of them over all windows, with a key and all its numbers as a table.
+//! - [`write_strips`]: a table of how full buffers were, a row a buffer, on one scale of times.
 //! - [`PidLabels`]: the programs of PIDs and the names of their services, written beside each PID ([`write_label`]).
 //! - [`write_tenths`]: a number in a greater unit.
 //!
@@ -26,6 +27,9 @@ mod pid_curves;
 mod pid_labels;
 mod scale;
 mod slots;
+mod strip;
+mod strip_table;
+mod time_scale;
 mod value_table;
 
 pub use bounds::{Bounds, joined};
@@ -36,3 +40,4 @@ pub use numbers::write_tenths;
 pub use pid_curves::{MOST_CURVES, PidCurve, PidCurves, greatest_value};
 pub use pid_labels::{PidLabels, PidProgram, write_label};
 pub use slots::MOST_SLOTS;
+pub use strip_table::write_strips;

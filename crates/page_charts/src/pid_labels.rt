@@ -72,8 +72,15 @@ impl PidLabels {
         self.programs.get(&pid).copied()
     }
 
-    // The name of a program's service, if one is known.
-    fn service_of(&self, program: u16) -> Option<&str>
+    /// Returns the number of the program of a PID, 0 if none is known.
+    pub(crate) fn program_number(&self, pid: u16) -> u16
+        ensures { result ≡ spec.program_number self.now pid }
+    {
+        number_of(self.program_of(pid))
+    }
+
+    /// Returns the name of a program's service, if one is known.
+    pub(crate) fn service_of(&self, program: u16) -> Option<&str>
         ensures { option_map (λ name. name.now) result ≡ lookup (nat_eq program) self.now.services }
     {
         match self.services.get(&program) {
@@ -83,9 +90,20 @@ impl PidLabels {
     }
 }
 
-// A name, after a comma.
+// The number of a program, 0 if there is none.
+#[tactic(auto, unfolding(crate::specs::PidLabels::number_of))]
+fn number_of(program: Option<PidProgram>) -> u16
+    ensures { result ≡ spec.number_of program }
+{
+    match program {
+        None => 0,
+        Some(carried) => carried.program,
+    }
+}
+
+/// Appends a name, after a comma.
 #[tactic(auto, unfolding(crate::specs::PidLabels::service_text))]
-fn write_service(text: &mut String, name: Option<&str>) -> Result<(), AllocError>
+pub(crate) fn write_service(text: &mut String, name: Option<&str>) -> Result<(), AllocError>
     ensures { OnOk result (string_bytes text.new
         ≡ string_bytes text.old ++ spec.service_text (option_map (λ name. name.now) name.entry)) }
 {

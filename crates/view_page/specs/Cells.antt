@@ -95,7 +95,7 @@ abbrev pub bar_class : Bool → List ℕ
 bar_class over = if over then codes "over" else codes "fill"
 
 abbrev pub bar_to : List ℕ → ℕ → List ℕ
-bar_to class length = codes "<td><svg class=\"bar\" viewBox=\"0 0 200 12\"><path class=\"" ++ (class ++ (codes "\" d=\"M0 6H"
+bar_to class length = codes "<td><svg class=\"bar\" viewBox=\"0 0 200 12\" aria-hidden=\"true\"><path class=\"" ++ (class ++ (codes "\" d=\"M0 6H"
     ++ (decimal length ++ codes "\"/><path class=\"mark\" d=\"M100 0V12\"/></svg>")))
 
 unfoldable pub bar : ℕ → Option ℕ → List ℕ

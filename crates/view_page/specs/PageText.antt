@@ -1,5 +1,5 @@
 -- The text of a page.
-use Rattle.std.specs.Prelude.{ℕ, List, [], ◌∷◌, ◌++◌, codes, decimal, flat_map}
+use Rattle.std.specs.Prelude.{ℕ, List, [], ◌∷◌, ◌++◌, codes, decimal, flat_map, length}
 use Rattle.page_charts.specs.declared.frame.ChartUnit.{ChartUnit}
 use Rattle.page_charts.specs.declared.frame.ChartUnit.TheVariants.{BitRate, Bytes, Time}
 use Rattle.page_charts.specs.declared.pid_curves.PidCurve.{PidCurve}
@@ -8,8 +8,9 @@ use Rattle.page_charts.specs.Frames.{frame}
 use Rattle.page_charts.specs.PidCurves.{greatest_value}
 use Rattle.view_page.specs.declared.page.Page.{Page}
 use Rattle.events.specs.declared.event.ReportEnd.{ReportEnd}
-use Rattle.view_page.specs.declared.page_text.TheConstants.{APART, BACK, BUFFERS, CHECKS, CLOCKS, FAULTS, FRONT, MAINS, PIDS, RATES, SLACKS, STREAMS, SYSTEMS, TABLES, TRANSPORTS}
+use Rattle.view_page.specs.declared.page_heads.TheConstants.{APART, BACK, BUFFERS, CHECKS, CLOCKS, FAULTS, FRONT, MAINS, PIDS, RATES, SLACKS, STREAMS, STRIPS, SYSTEMS, TABLES, TRANSPORTS}
 use Rattle.page_charts.specs.PidLabels.{LabelsState}
+use Rattle.page_charts.specs.StripTables.{table as strip_table}
 use Rattle.view_page.specs.Cells.{carried_cell}
 use Rattle.view_page.specs.MarkCells.{marks_text}
 use Rattle.view_page.specs.SummaryCells.{kinds_text}
@@ -18,6 +19,9 @@ use Rattle.view_page.specs.RowTexts.{RowTexts, StreamText}
 -- texts that are always the same
 unfoldable pub front_text : List ℕ
 front_text = FRONT.now
+
+unfoldable pub strips_text : List ℕ
+strips_text = STRIPS.now
 
 unfoldable pub rates_text : List ℕ
 rates_text = RATES.now
@@ -66,20 +70,31 @@ unfoldable pub counts : ReportEnd → List ℕ
 counts end = codes "<p>" ++ (decimal end.packets ++ (codes " packets, " ++ (decimal end.refused ++ (codes " refused, " ++ (decimal end.left
     ++ codes " bytes after the last.</p>\n")))))
 
+-- the number of windows and of viewed streams
+unfoldable pub extent : ℕ → ℕ → ℕ → List ℕ
+extent windows millis streams = codes "<p>Windows: " ++ (decimal windows ++ (codes " of " ++ (decimal millis ++ (codes " ms. Streams with buffers: "
+    ++ (decimal streams ++ codes ".</p>\n")))))
+
 -- and what it comes to
-abbrev pub summary : ReportEnd → List ℕ → List ℕ
-summary end verdict = counts end ++ verdict
+abbrev pub summary : Page → List ℕ
+summary p = counts p.end ++ (extent p.values.windows p.millis (length p.rows.streams) ++ p.rows.verdict)
 
--- a picture of curves in one frame, up to the greatest value of all
-unfoldable pub one_chart : Page → ChartUnit → List PidCurve → List ℕ
-one_chart p unit curves = chart (frame unit p.values.windows p.millis (greatest_value curves)) p.labels curves
+-- how full the buffers were, as strips on one scale of times
+unfoldable pub strips : Page → List ℕ
+strips p = strips_text ++ strip_table (frame Bytes p.values.windows p.millis 0) p.labels p.values.transports.curves.items p.values.mains.curves.items
 
-abbrev pub buffer_chart : Page → PidCurve → List ℕ
-buffer_chart p entry = one_chart p Bytes (entry ∷ [])
+-- a picture of curves in one frame, up to the greatest value of all; the colour of a PID is that of its bit rate
+unfoldable pub one_chart : Page → List ℕ → ChartUnit → List PidCurve → List ℕ
+one_chart p name unit curves = chart name (frame unit p.values.windows p.millis (greatest_value curves)) p.labels p.values.rates.curves.items curves
+
+abbrev pub buffer_chart : Page → List ℕ → PidCurve → List ℕ
+buffer_chart p name entry = one_chart p name Bytes (entry ∷ [])
 
 unfoldable pub charts : Page → List ℕ
-charts p = (rates_text ++ one_chart p BitRate p.values.rates.curves.items) ++ ((transports_text ++ flat_map (buffer_chart p) p.values.transports.curves.items)
-    ++ ((mains_text ++ flat_map (buffer_chart p) p.values.mains.curves.items) ++ (slacks_text ++ one_chart p Time p.values.slacks.curves.items)))
+charts p = (rates_text ++ one_chart p (codes "bit rate by PID over time") BitRate p.values.rates.curves.items)
+    ++ ((transports_text ++ flat_map (buffer_chart p (codes "bytes in a transport buffer over time")) p.values.transports.curves.items)
+    ++ ((mains_text ++ flat_map (buffer_chart p (codes "bytes in a main buffer over time")) p.values.mains.curves.items)
+    ++ (slacks_text ++ one_chart p (codes "time from a unit's last byte to its DTS over time") Time p.values.slacks.curves.items)))
 
 abbrev pub row_head : ℕ → List ℕ
 row_head pid = codes "<tr><td>" ++ decimal pid
@@ -98,4 +113,4 @@ unfoldable pub lists : RowTexts → List ℕ
 lists r = (tables_text ++ r.tables) ++ ((pids_text ++ r.pids) ++ (apart_text ++ r.apart))
 
 abbrev pub page_text : Page → List ℕ
-page_text p = front_text ++ (summary p.end p.rows.verdict ++ (charts p ++ (measures p.labels p.rows ++ (lists p.rows ++ back_text))))
+page_text p = front_text ++ (summary p ++ (strips p ++ (charts p ++ (measures p.labels p.rows ++ (lists p.rows ++ back_text)))))

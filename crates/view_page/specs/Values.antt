@@ -1,5 +1,5 @@
 -- The curves of the page, by the events that have come and nothing else.
-use Rattle.std.specs.Prelude.{◌≡◌, ℕ, ◌+◌, ◌-◌, ◌/◌, ◌^◌, min, max, List, [], Option, Some, None}
+use Rattle.std.specs.Prelude.{◌≡◌, ℕ, ◌+◌, ◌-◌, ◌/◌, ◌^◌, ◌==◌, min, max, if◌then◌else◌, List, [], Option, Some, None}
 use Rattle.events.specs.declared.event.Event.{Event}
 use Rattle.events.specs.declared.event.Event.TheVariants.{Input, Stream, Window, Held, Units, Excess, MainExcess, MultiplexingExcess, ElementaryExcess, SystemExcess, SystemMainExcess, Late, ElementaryLate, Ahead, PcrRepetition, PcrDiscontinuity, PcrAccuracy, TableRepetition, Unclocked, Refused, Continuity, CheckWord, Transport, Main, Multiplexing, Elementary, Marks, System, Clock, Table, Pid, Unreferenced, Missing, Check, End, Rule, Summary}
 use Rattle.events.specs.declared.event.HeldFigures.{HeldFigures}
@@ -57,11 +57,15 @@ with_stream v e = record v {
 }
 
 -- `held`: what its buffers held in a window: two values of the main buffer
-abbrev pub with_held : KeptValues → HeldFigures → KeptValues
-with_held v e = record v {
+abbrev pub with_fullness : KeptValues → HeldFigures → KeptValues
+with_fullness v e = record v {
   transports = with_sample e.pid (sample e.number (short e.transport)) v.transports;
   mains = with_sample e.pid (sample e.number e.main_least) (with_sample e.pid (sample e.number e.main) v.mains);
 }
+
+-- a window in which no byte came says nothing: a byte that comes is in the transport buffer
+abbrev pub with_held : KeptValues → HeldFigures → KeptValues
+with_held v e = if e.transport == 0 then v else with_fullness v e
 
 -- `units`: the least slack of its units in a window, cut down to microseconds
 abbrev pub with_units : KeptValues → UnitFigures → KeptValues

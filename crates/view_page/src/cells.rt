@@ -221,7 +221,7 @@ fn write_bar_to(text: &mut String, class: &str, length: u64) -> Result<(), Alloc
 {
     write!(
         text,
-        "<td><svg class=\"bar\" viewBox=\"0 0 200 12\"><path class=\"{class}\" d=\"M0 6H{length}\"/><path class=\"mark\" d=\"M100 0V12\"/></svg>"
+        "<td><svg class=\"bar\" viewBox=\"0 0 200 12\" aria-hidden=\"true\"><path class=\"{class}\" d=\"M0 6H{length}\"/><path class=\"mark\" d=\"M100 0V12\"/></svg>"
     )
 }
 

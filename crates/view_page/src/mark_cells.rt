@@ -6,7 +6,7 @@ use crate::cells::{Cell, CellUnit};
 use events::MarkTotals;
 
 const MARKS: &str =
-    "</table></div><h2>Random access</h2><div class=\"wide\"><table><tr><th>PID<th class=\"word\">carries<th>units<th>random access points<th>greatest distance, ms<th>aligned\n";
+    "</table></div><h2 id=marks>Random access</h2><div class=\"wide\"><table aria-labelledby=marks><tr><th scope=col>PID<th class=word scope=col>carries<th scope=col>units<th scope=col>random access points<th scope=col>greatest distance, ms<th scope=col>aligned\n";
 
 /// Returns the head of the table.
 #[tactic(auto, unfolding(crate::specs::MarkCells::marks_text))]

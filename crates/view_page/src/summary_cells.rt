@@ -7,7 +7,7 @@ use events::{Fault, FaultKind, FaultTotals, Measured, Verdict, write_verdict_tex
 use std::alloc::AllocError;
 
 const KINDS: &str =
-    "</table></div><h2>Faults by kind and stream</h2><div class=\"wide\"><table><tr><th class=\"word\">what<th>where<th>faults<th>first packet<th>last packet<th>from, ms<th>to, ms<th>worst<th>limit<th class=\"word\">unit\n";
+    "</table></div><h2 id=kinds>Faults by kind and stream</h2><div class=\"wide\"><table aria-labelledby=kinds><tr><th class=word scope=col>what<th scope=col>where<th scope=col>faults<th scope=col>first packet<th scope=col>last packet<th scope=col>from, ms<th scope=col>to, ms<th scope=col>worst<th scope=col>limit<th class=word scope=col>unit\n";
 
 /// What a kind of fault is called, and the unit of its value.
 #[derive(Clone, Copy)]

@@ -71,11 +71,14 @@ impl Values {
         self.slacks.open(pid, name, 0)
     }
 
-    // `held`: what its buffers held.
+    // `held`: what its buffers held, if a byte came.
     fn take_held(&mut self, held: &HeldFigures) -> Result<(), AllocError>
         ensures { (kept : KeptValues) → AreValues self.old kept →
             OnOk result (AreValues self.new (spec.with_held kept held.now)) }
     {
+        if held.transport == 0 {
+            return Ok(());
+        }
         let pid = held.pid;
         let number = held.number;
         self.transports.take(pid, number, short(held.transport))?;

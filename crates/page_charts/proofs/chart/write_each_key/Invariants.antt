@@ -1,7 +1,7 @@
 use Rattle.std.proofs.Common.{◌≡◌, ◌++◌, drop, string_bytes}
+use Rattle.std.specs.Prelude.{flat_map}
 use Rattle.page_charts.specs.Charts.{key}
-use Rattle.page_charts.specs.Paths.{numbered}
 use Rattle.page_charts.proofs.chart.write_each_key.Given as goal
 
-abbrev pub invariant-loop-number : goal.invariant-loop-number
-invariant-loop-number l = string_bytes l.text ++ numbered (key l.unit l.labels) l.number (drop l.number l.curves) ≡ string_bytes l.fn.text ++ numbered (key l.unit l.labels) 0 l.curves
+abbrev pub invariant-loop-entry : goal.invariant-loop-entry
+invariant-loop-entry l = string_bytes l.text ++ flat_map (key l.unit l.labels l.order) (drop l.entry-index l.curves) ≡ string_bytes l.fn.text ++ flat_map (key l.unit l.labels l.order) l.curves

@@ -1,13 +1,12 @@
 use Rattle.std.proofs.Common.{string_bytes}
-use Rattle.std.specs.Prelude.{codes}
+use Rattle.std.specs.Prelude.{codes, flat_map}
 use Rattle.page_charts.specs.Charts as spec
-use Rattle.page_charts.specs.Paths.{numbered}
 use Rattle.page_charts.proofs.Texts.{pushed, three}
 use Rattle.page_charts.proofs.chart.write_keys.Goals as goal
 
 pub returns : goal.returns
 unfolding spec.keys
 returns c = three c.push_str-2.result (string_bytes c.args.text.now) (string_bytes c.push_str.new.self) (string_bytes c.write_each_key.new.text) (string_bytes c.push_str-2.new.self)
-    (codes "<p class=\"key\">") (numbered (spec.key c.args.unit c.args.labels.now) 0 c.args.curves.now) (codes "</p>\n")
+    (codes "<p class=\"key\">") (flat_map (spec.key c.args.unit c.args.labels.now c.args.order.now) c.args.curves.now) (codes "</p>\n")
     c.in_ok-push_str.ensures.bytes c.in_ok-write_each_key.ensures
     (pushed c.push_str-2.result (string_bytes c.write_each_key.new.text) (string_bytes c.push_str-2.new.self) (codes "</p>\n") c.push_str-2.ensures.bytes)

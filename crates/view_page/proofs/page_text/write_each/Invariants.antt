@@ -4,4 +4,4 @@ use Rattle.view_page.specs.PageText.{buffer_chart}
 use Rattle.view_page.proofs.page_text.write_each.Given as goal
 
 abbrev pub invariant-loop-entry : goal.invariant-loop-entry
-invariant-loop-entry l = string_bytes l.text ++ flat_map (buffer_chart l.page) (drop l.entry-index l.curves) ≡ string_bytes l.fn.text ++ flat_map (buffer_chart l.page) l.curves
+invariant-loop-entry l = string_bytes l.text ++ flat_map (buffer_chart l.page l.name) (drop l.entry-index l.curves) ≡ string_bytes l.fn.text ++ flat_map (buffer_chart l.page l.name) l.curves
