@@ -269,8 +269,9 @@ fn write_picture(
     text.push_str("</svg>\n")
 }
 
-/// Appends a picture of curves: their key, their lines beside their limits, and their numbers as a table; with what each PID carries. The picture has a name for
-/// readers that do not see it; each PID has the colour and the dashes of its place in `order`.
+/// Appends a picture of curves: their key, their lines beside their limits, and their numbers as a table; with what each
+/// PID carries. The picture has a name for readers that do not see it; each PID has the colour and the dashes of its place
+/// in `order`.
 pub fn write_chart(
     text: &mut String,
     name: &str,

@@ -267,8 +267,8 @@ fn write_groups(
     Ok(())
 }
 
-/// Appends a table of how full the transport buffer and the main buffer of each stream were, whose sizes are the limits of their curves: a row a buffer, by
-/// program, on one scale of times.
+/// Appends a table of how full the transport buffer and the main buffer of each stream were, whose sizes are the limits of
+/// their curves: a row a buffer, by program, on one scale of times.
 #[tactic(auto, unfolding(crate::specs::StripTables::table))]
 pub fn write_strips(
     text: &mut String,
