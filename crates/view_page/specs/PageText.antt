@@ -76,7 +76,7 @@ extent windows millis streams = codes "<p>Windows: " ++ (decimal windows ++ (cod
     ++ (decimal streams ++ codes ".</p>\n")))))
 
 -- and what it comes to
-abbrev pub summary : Page → List ℕ
+unfoldable pub summary : Page → List ℕ
 summary p = counts p.end ++ (extent p.values.windows p.millis (length p.rows.streams) ++ p.rows.verdict)
 
 -- how full the buffers were, as strips on one scale of times
@@ -90,11 +90,23 @@ one_chart p name unit curves = chart name (frame unit p.values.windows p.millis 
 abbrev pub buffer_chart : Page → List ℕ → PidCurve → List ℕ
 buffer_chart p name entry = one_chart p name Bytes (entry ∷ [])
 
+unfoldable pub rates : Page → List ℕ
+rates p = rates_text ++ one_chart p (codes "bit rate by PID over time") BitRate p.values.rates.curves.items
+
+unfoldable pub transports : Page → List ℕ
+transports p = transports_text ++ flat_map (buffer_chart p (codes "bytes in a transport buffer over time")) p.values.transports.curves.items
+
+unfoldable pub mains : Page → List ℕ
+mains p = mains_text ++ flat_map (buffer_chart p (codes "bytes in a main buffer over time")) p.values.mains.curves.items
+
+unfoldable pub slacks : Page → List ℕ
+slacks p = slacks_text ++ one_chart p (codes "time from a unit's last byte to its DTS over time") Time p.values.slacks.curves.items
+
 unfoldable pub charts : Page → List ℕ
-charts p = (rates_text ++ one_chart p (codes "bit rate by PID over time") BitRate p.values.rates.curves.items)
-    ++ ((transports_text ++ flat_map (buffer_chart p (codes "bytes in a transport buffer over time")) p.values.transports.curves.items)
-    ++ ((mains_text ++ flat_map (buffer_chart p (codes "bytes in a main buffer over time")) p.values.mains.curves.items)
-    ++ (slacks_text ++ one_chart p (codes "time from a unit's last byte to its DTS over time") Time p.values.slacks.curves.items)))
+charts p = rates p ++ (transports p ++ (mains p ++ slacks p))
+
+unfoldable pub pictures : Page → List ℕ
+pictures p = strips p ++ charts p
 
 abbrev pub row_head : ℕ → List ℕ
 row_head pid = codes "<tr><td>" ++ decimal pid
@@ -113,4 +125,4 @@ unfoldable pub lists : RowTexts → List ℕ
 lists r = (tables_text ++ r.tables) ++ ((pids_text ++ r.pids) ++ (apart_text ++ r.apart))
 
 abbrev pub page_text : Page → List ℕ
-page_text p = front_text ++ (summary p ++ (strips p ++ (charts p ++ (measures p.labels p.rows ++ (lists p.rows ++ back_text)))))
+page_text p = front_text ++ (summary p ++ (pictures p ++ (measures p.labels p.rows ++ (lists p.rows ++ back_text))))

@@ -53,6 +53,7 @@ fn write_extent(
 }
 
 // What was read, and what it comes to.
+#[tactic(auto, unfolding(crate::specs::PageText::summary))]
 fn write_summary(text: &mut String, page: &Page) -> Result<(), AllocError>
     ensures { OnOk result (string_bytes text.new ≡ string_bytes text.old ++ spec.summary page.now) }
 {
@@ -151,42 +152,64 @@ fn write_strip_table(text: &mut String, page: &Page) -> Result<(), AllocError>
     )
 }
 
-// The pictures.
+// The bit rates.
+#[tactic(auto, unfolding(crate::specs::PageText::rates))]
+fn write_rates(text: &mut String, page: &Page) -> Result<(), AllocError>
+    ensures { OnOk result (string_bytes text.new ≡ string_bytes text.old ++ spec.rates page.now) }
+{
+    let curves = &page.values.rates.curves;
+    let name = "bit rate by PID over time";
+    write_all_in_one(text, rates_text(), page, name, ChartUnit::BitRate, curves)
+}
+
+// The transport buffers.
+#[tactic(auto, unfolding(crate::specs::PageText::transports))]
+fn write_transports(text: &mut String, page: &Page) -> Result<(), AllocError>
+    ensures { OnOk result (string_bytes text.new ≡ string_bytes text.old ++ spec.transports page.now) }
+{
+    let curves = &page.values.transports.curves;
+    let name = "bytes in a transport buffer over time";
+    write_buffers(text, transports_text(), page, name, curves)
+}
+
+// The main buffers.
+#[tactic(auto, unfolding(crate::specs::PageText::mains))]
+fn write_mains(text: &mut String, page: &Page) -> Result<(), AllocError>
+    ensures { OnOk result (string_bytes text.new ≡ string_bytes text.old ++ spec.mains page.now) }
+{
+    let curves = &page.values.mains.curves;
+    let name = "bytes in a main buffer over time";
+    write_buffers(text, mains_text(), page, name, curves)
+}
+
+// The times before decoding.
+#[tactic(auto, unfolding(crate::specs::PageText::slacks))]
+fn write_slacks(text: &mut String, page: &Page) -> Result<(), AllocError>
+    ensures { OnOk result (string_bytes text.new ≡ string_bytes text.old ++ spec.slacks page.now) }
+{
+    let curves = &page.values.slacks.curves;
+    let name = "time from a unit's last byte to its DTS over time";
+    write_all_in_one(text, slacks_text(), page, name, ChartUnit::Time, curves)
+}
+
+// The charts.
 #[tactic(auto, unfolding(crate::specs::PageText::charts))]
 fn write_charts(text: &mut String, page: &Page) -> Result<(), AllocError>
     ensures { OnOk result (string_bytes text.new ≡ string_bytes text.old ++ spec.charts page.now) }
 {
-    let values = &page.values;
-    write_all_in_one(
-        text,
-        rates_text(),
-        page,
-        "bit rate by PID over time",
-        ChartUnit::BitRate,
-        &values.rates.curves,
-    )?;
-    write_buffers(
-        text,
-        transports_text(),
-        page,
-        "bytes in a transport buffer over time",
-        &values.transports.curves,
-    )?;
-    write_buffers(
-        text,
-        mains_text(),
-        page,
-        "bytes in a main buffer over time",
-        &values.mains.curves,
-    )?;
-    write_all_in_one(
-        text,
-        slacks_text(),
-        page,
-        "time from a unit's last byte to its DTS over time",
-        ChartUnit::Time,
-        &values.slacks.curves,
-    )
+    write_rates(text, page)?;
+    write_transports(text, page)?;
+    write_mains(text, page)?;
+    write_slacks(text, page)
+}
+
+// The pictures.
+#[tactic(auto, unfolding(crate::specs::PageText::pictures))]
+fn write_pictures(text: &mut String, page: &Page) -> Result<(), AllocError>
+    ensures { OnOk result (string_bytes text.new ≡ string_bytes text.old ++ spec.pictures page.now) }
+{
+    write_strip_table(text, page)?;
+    write_charts(text, page)
 }
 
 // A table: its head and its rows.
@@ -289,8 +312,7 @@ pub(crate) fn write_page(text: &mut String, page: &Page) -> Result<(), AllocErro
 {
     text.push_str(front_text())?;
     write_summary(text, page)?;
-    write_strip_table(text, page)?;
-    write_charts(text, page)?;
+    write_pictures(text, page)?;
     write_measures(text, &page.labels, &page.rows)?;
     write_lists(text, &page.rows)?;
     text.push_str(back_text())
