@@ -1,5 +1,5 @@
 -- The text of a page.
-use Rattle.std.specs.Prelude.{ℕ, List, [], ◌∷◌, ◌++◌, codes, decimal, flat_map, length}
+use Rattle.std.specs.Prelude.{ℕ, List, [], ◌∷◌, ◌++◌, codes, decimal, flat_map, length, Option, Some, None}
 use Rattle.page_charts.specs.declared.frame.ChartUnit.{ChartUnit}
 use Rattle.page_charts.specs.declared.frame.ChartUnit.TheVariants.{BitRate, Bytes, Time}
 use Rattle.page_charts.specs.declared.pid_curves.PidCurve.{PidCurve}
@@ -70,14 +70,19 @@ unfoldable pub counts : ReportEnd → List ℕ
 counts end = codes "<p>" ++ (decimal end.packets ++ (codes " packets, " ++ (decimal end.refused ++ (codes " refused, " ++ (decimal end.left
     ++ codes " bytes after the last.</p>\n")))))
 
+-- by what clock bytes arrive
+unfoldable pub clock_text : Option ℕ → List ℕ
+clock_text None = codes "<p>Moments by the clock references"
+clock_text (Some rate) = codes "<p>Moments at " ++ (decimal rate ++ codes " bit/s")
+
 -- the number of windows and of viewed streams
 unfoldable pub extent : ℕ → ℕ → ℕ → List ℕ
-extent windows millis streams = codes "<p>Windows: " ++ (decimal windows ++ (codes " of " ++ (decimal millis ++ (codes " ms. Streams with buffers: "
+extent windows millis streams = codes ". Windows: " ++ (decimal windows ++ (codes " of " ++ (decimal millis ++ (codes " ms. Streams with buffers: "
     ++ (decimal streams ++ codes ".</p>\n")))))
 
 -- and what it comes to
 unfoldable pub summary : Page → List ℕ
-summary p = counts p.end ++ (extent p.values.windows p.millis (length p.rows.streams) ++ p.rows.verdict)
+summary p = counts p.end ++ (clock_text p.rate ++ (extent p.values.windows p.millis (length p.rows.streams) ++ p.rows.verdict))
 
 -- how full the buffers were, as strips on one scale of times
 unfoldable pub strips : Page → List ℕ

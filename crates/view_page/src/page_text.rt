@@ -36,6 +36,17 @@ fn write_counts(text: &mut String, end: ReportEnd) -> Result<(), AllocError>
     )
 }
 
+// By what clock bytes arrive.
+#[tactic(auto, unfolding(crate::specs::PageText::clock_text))]
+fn write_clock(text: &mut String, rate: Option<u64>) -> Result<(), AllocError>
+    ensures { OnOk result (string_bytes text.new ≡ string_bytes text.old ++ spec.clock_text rate) }
+{
+    match rate {
+        None => text.push_str("<p>Moments by the clock references"),
+        Some(rate) => write!(text, "<p>Moments at {rate} bit/s"),
+    }
+}
+
 // How many windows there are, and how many streams are viewed.
 #[tactic(auto, unfolding(crate::specs::PageText::extent))]
 fn write_extent(
@@ -48,7 +59,7 @@ fn write_extent(
 {
     write!(
         text,
-        "<p>Windows: {windows} of {millis} ms. Streams with buffers: {streams}.</p>\n"
+        ". Windows: {windows} of {millis} ms. Streams with buffers: {streams}.</p>\n"
     )
 }
 
@@ -58,6 +69,7 @@ fn write_summary(text: &mut String, page: &Page) -> Result<(), AllocError>
     ensures { OnOk result (string_bytes text.new ≡ string_bytes text.old ++ spec.summary page.now) }
 {
     write_counts(text, page.end)?;
+    write_clock(text, page.rate)?;
     write_extent(
         text,
         page.values.windows,

@@ -11,6 +11,7 @@ returns c = λ s is.
     let event = c.args.event.now in
     let between : PageState = record {
       millis = s.millis;
+      rate = s.rate;
       rows = rows.with_event s.labels s.rows event;
       values = values.with_event s.values event;
       labels = labels.with_event s.labels event;
@@ -18,6 +19,7 @@ returns c = λ s is.
     } in
     let page : IsPage (record c.args.self.now { rows = c.take.new.self; values = c.take-2.new.self; labels = c.take_label.new.labels }) between = record {
       millis = is.millis;
+      rate = is.rate;
       rows = c.in_ok-take.ensures ∙ cc (is.labels, is.rows);
       values = c.in_ok-take-2.ensures s.values is.values;
       labels = c.in_ok-take_label.ensures ∙ ap (λ (l : LabelsState). labels.with_event l event) is.labels;
