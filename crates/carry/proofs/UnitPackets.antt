@@ -200,14 +200,15 @@ pes_is id unit header bytes size marks pts dts a b s m p d =
     let no_dts : unit.dts + 0 ≡ unit.dts = omega arith in
     rw (a, b, s, m, p, d, no_pts, no_dts) refl
 
-size_some : (long b : Bool) (more : ℕ) → 0 < cond long 45 (cond b 14 19 + more)
-size_some true b more = omega arith
-size_some false true more = omega arith
-size_some false false more = omega arith
+size_some : (long bare b : Bool) (more : ℕ) → 0 < cond long 45 (cond bare 9 (cond b 14 19) + more)
+size_some true bare b more = omega arith
+size_some false true b more = omega arith
+size_some false false true more = omega arith
+size_some false false false more = omega arith
 
 -- a PES header is not empty
 pub header_some : (id size : ℕ) (marks : Marks) (pts dts : ℕ) → 0 < length (pes_header_bytes id size marks pts dts)
 header_some id size marks pts dts =
     let long : length (pes_header_bytes id size marks pts dts) ≡ header_size marks pts dts = header_sizes id size marks pts dts in
-    let some : 0 < header_size marks pts dts = size_some marks.long (on_wire pts == on_wire dts) (extension_size marks) in
+    let some : 0 < header_size marks pts dts = size_some marks.long marks.unstamped (on_wire pts == on_wire dts) (extension_size marks) in
     omega (arith, long, some)

@@ -136,7 +136,7 @@ by_what split pid count packet at place current unstamped access (IsTruncated by
 by_what split pid count packet at place current unstamped access (IsSection bytes) fs quiet next = absurd (told place causes.Section quiet refl)
 by_what split pid count packet at place current unstamped access (IsBadSection error) fs quiet next = absurd (told place (causes.BadSection error) quiet refl)
 by_what split pid count packet at place current unstamped access (IsBadPes error) fs quiet next = absurd (told place (causes.BadPes error) quiet refl)
-by_what split pid count packet at place current unstamped access (IsPes header unended body) fs quiet next = by_pes split pid packet place header.id current body unended (header_marks access header) header.stamps fs quiet next
+by_what split pid count packet at place current unstamped access (IsPes header unended body) fs quiet next = by_pes split pid packet place header.id current body unended (header_marks access unstamped header) header.stamps fs quiet next
 
 -- a finding, of this PID or of another one
 by_finding : (split : Bool) (pid count packet at place : ℕ) (current : Option ℕ) (unstamped access own : Bool) (what : WhatView) (fs : List FindingView) →

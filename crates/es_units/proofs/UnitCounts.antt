@@ -63,13 +63,14 @@ pub least_some : (us rest : List AccessUnit) (u : AccessUnit) → us ≡ u ∷ r
 unfolding min_interval
 least_some us rest u is = rw is refl
 
-header_by : (long same : Bool) (more : ℕ) → cond long 45 (cond same 14 19 + more) ≤ 19 + cond long 26 more
-header_by true same more = omega arith
-header_by false true more = omega arith
-header_by false false more = omega arith
+header_by : (long bare same : Bool) (more : ℕ) → cond long 45 (cond bare 9 (cond same 14 19) + more) ≤ 19 + cond long 26 more
+header_by true bare same more = omega arith
+header_by false true same more = omega arith
+header_by false false true more = omega arith
+header_by false false false more = omega arith
 
 header_most : (marks : Marks) (pts dts : ℕ) → field_size marks.random_access + header_size marks pts dts ≤ 19 + marks_size marks
-header_most marks pts dts = omega (arith, header_by marks.long (on_wire pts == on_wire dts) (extension_size marks))
+header_most marks pts dts = omega (arith, header_by marks.long marks.unstamped (on_wire pts == on_wire dts) (extension_size marks))
 
 -- a header has at most 19 bytes with what is in front of it, and what the marks take
 pub bytes_most : (id base0 size : ℕ) (u : AccessUnit) → length u.bytes + marks_size u.marks ≤ size →

@@ -95,7 +95,7 @@ by_what a b pid count packet current alone first unstamped access (IsBadPes erro
 by_what a b pid count packet current alone first unstamped access (IsBadPacket error) fs whole = refl
 by_what a b pid count packet current alone first unstamped access IsErrored fs whole = refl
 by_what a b pid count packet current alone first unstamped access (IsPes header unended body) fs whole =
-    by_stamps a b pid current alone unended header.id first (header_marks access header) header.stamps body fs whole
+    by_stamps a b pid current alone unended header.id first (header_marks access unstamped header) header.stamps body fs whole
 
 same_cause : (a b : Bool) (pid count : ℕ) (current : Option ℕ) (f : FindingView) (fs : List FindingView) (own : Bool) → has_pid pid f.pid ≡ own →
     is_start_cut pid (role_of pid f) fs ≡ false → cause_of a pid count current f fs ≡ cause_of b pid count current f fs

@@ -60,7 +60,7 @@ unfoldable pub role_of_what : ℕ → Bool → Bool → WhatView → RoleView
 role_of_what packet unstamped access IsDuplicate = Ignored
 role_of_what packet unstamped access (IsBadPacket error) = Ignored
 role_of_what packet unstamped access IsErrored = Ignored
-role_of_what packet unstamped access (IsPes header unended body) = pes_role packet header.id (header_marks access header) header.stamps body
+role_of_what packet unstamped access (IsPes header unended body) = pes_role packet header.id (header_marks access unstamped header) header.stamps body
 role_of_what packet unstamped access (IsTruncated bytes) = Interruption unstamped
 role_of_what packet unstamped access _ = Interruption false
 

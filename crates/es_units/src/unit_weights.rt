@@ -63,7 +63,9 @@ fn found_packet_size<A: Allocator>(base0: u64, moment: UnitMoment, unit: &FoundU
     if unit.marks.long {
         return 45 + size;
     }
-    let header = if on_wire(base0, moment.pts) == on_wire(base0, moment.dts) {
+    let header = if unit.marks.unstamped {
+        9
+    } else if on_wire(base0, moment.pts) == on_wire(base0, moment.dts) {
         14
     } else {
         19

@@ -1,5 +1,5 @@
 -- What is found in the bytes of a job are the units that were found before.
-use Rattle.std.proofs.Common.{◌≡◌, ◌≤◌, ℕ, ◌+◌, ◌-◌, ◌^◌, ◌%◌, List, [], ◌∷◌, length, map, Some, None, slice_get, All, refl, sym, ap, ◌∙◌, arith}
+use Rattle.std.proofs.Common.{◌≡◌, ◌≤◌, ℕ, ◌+◌, ◌-◌, ◌^◌, ◌%◌, List, [], ◌∷◌, length, map, Option, Some, None, slice_get, All, refl, sym, ap, subst, ◌∙◌, arith}
 use Rattle.std.proofs.lemmas.List.Elements.{All-nil, All-cons, All-head, All-tail}
 use Rattle.own_slots.specs.Slots.{own_slots}
 use Rattle.pes_packet.specs.AccessUnits.{AccessUnit}
@@ -18,7 +18,8 @@ use Rattle.laws_run.specs.Placed.{sent_units}
 use Rattle.es_units.specs.CarriedUnits.{wire_units}
 use Rattle.es_units.proofs.CarriedUnits.{same_units}
 use Rattle.stream_jobs.specs.FoundUnits.{AreMoved}
-use Rattle.laws_job.specs.Laws.{AllDue, later_by, IsOnWire}
+use Rattle.es_units.specs.Stamps.{dts_at, moved, unit_at}
+use Rattle.laws_job.specs.Laws.{AllDue, AllStamped, IsStamped, later_by, IsOnWire}
 use Rattle.laws_job.proofs.PrivateData.{Sixteen}
 use Rattle.laws_job.proofs.SentWhole.{IsWhole, sent_whole}
 use Rattle.laws_job.proofs.WholeUnits.{found_again, moved_later}
@@ -37,13 +38,13 @@ whole line k n s us promised is kept due =
 
 -- on their PID they are found
 units_again : (line : Scheduled) (units : ℕ → List AccessUnit) (n k : ℕ) (s : DescribedStream) (bytes : List ℕ) → Promised line.description line.schedule →
-    slice_get line.description.streams k ≡ Some s → Kept (owned_stream line k s) (units k) → All Sixteen (units k) → AllDue line.description.rate n (units k) →
+    slice_get line.description.streams k ≡ Some s → Kept (owned_stream line k s) (units k) → All Sixteen (units k) → AllDue line.description.rate n (units k) → AllStamped (units k) →
     GivenBack line units n bytes → wire_units s.pid (all_found bytes) ≡ map (later_by line.description.base0) (units k)
-units_again line units n k s bytes promised is kept sixteen due back =
+units_again line units n k s bytes promised is kept sixteen due stamped back =
     let l = owned_stream line k s in
     let us = units k in
     ap (map (λ u. u.unit)) (sym (same_units s.pid (all_found bytes))) ∙ ap (wire_units s.pid) (back.streams k s is)
-    ∙ found_again s.pid n l us (own_slots l.own 0 n) (whole line k n s us promised is kept due) (some_bytes l.parameters us kept.units) sixteen
+    ∙ found_again s.pid n l us (own_slots l.own 0 n) (whole line k n s us promised is kept due) (some_bytes l.parameters us kept.units) sixteen stamped
 
 -- and they are those of the wire
 wire_again : (base base0 : ℕ) (wire us found : List AccessUnit) → AreMoved wire base us → found ≡ map (later_by base0) us →
@@ -59,10 +60,19 @@ same_stamps time (u ∷ us) all =
     let pts : (u.pts + (time + 2 ^ 33 - time)) % 2 ^ 33 ≡ u.pts = omega (arith, own.1) in
     rw (dts, pts, same_stamps time us (All-tail IsOnWire u us all)) refl
 
+-- at moments of a run they have a PTS too
+stamped_moved : (base : ℕ) (before : Option ℕ) (us : List AccessUnit) → AllStamped us → AllStamped (moved base before us)
+unfolding moved unit_at
+stamped_moved base before [] all = All-nil IsStamped
+stamped_moved base before (u ∷ us) all =
+    All-cons IsStamped (unit_at base before u) (moved base (Some (dts_at base before u.dts)) us) (All-head IsStamped u us all)
+    (stamped_moved base (Some (dts_at base before u.dts)) us (All-tail IsStamped u us all))
+
 pub again : (base : ℕ) (line : Scheduled) (wire : List AccessUnit) (units : List (ℕ × AccessUnit)) (n k : ℕ) (s : DescribedStream) (bytes : List ℕ) →
     Promised line.description line.schedule → slice_get line.description.streams k ≡ Some s → Kept (owned_stream line k s) (units_of k units) →
-    All Sixteen (units_of k units) → AreMoved wire base (units_of k units) → AllDue line.description.rate n (units_of k units) → GivenBack line (λ j. units_of j units) n bytes →
+    All Sixteen (units_of k units) → AreMoved wire base (units_of k units) → AllDue line.description.rate n (units_of k units) → AllStamped wire → GivenBack line (λ j. units_of j units) n bytes →
     wire_units s.pid (all_found bytes) ≡ map (later_by (line.description.base0 + 2 ^ 33 - base)) wire
-again base line wire units n k s bytes promised is kept sixteen moved due back =
-    wire_again base line.description.base0 wire (units_of k units) (wire_units s.pid (all_found bytes)) moved
-    (units_again line (λ j. units_of j units) n k s bytes promised is kept sixteen due back)
+again base line wire units n k s bytes promised is kept sixteen are due stamped back =
+    wire_again base line.description.base0 wire (units_of k units) (wire_units s.pid (all_found bytes)) are
+    (units_again line (λ j. units_of j units) n k s bytes promised is kept sixteen due
+    (subst AllStamped (sym are.are) (stamped_moved base None wire stamped)) back)

@@ -53,7 +53,7 @@ what_starts packet unstamped access (IsTruncated bytes) = tt
 what_starts packet unstamped access (IsSection bytes) = tt
 what_starts packet unstamped access (IsBadSection error) = tt
 what_starts packet unstamped access (IsPes header unended body) =
-    pes_starts packet header.id (header_marks access header) header.stamps body (marks_have_sixteen access header)
+    pes_starts packet header.id (header_marks access unstamped header) header.stamps body (marks_have_sixteen access unstamped header)
 what_starts packet unstamped access (IsBadPes error) = tt
 what_starts packet unstamped access (IsBadPacket error) = tt
 what_starts packet unstamped access IsErrored = tt

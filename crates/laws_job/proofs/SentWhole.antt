@@ -53,10 +53,11 @@ cut_bytes front size [] = omega arith
 cut_bytes front size (s ∷ slots) = omega (arith, cut_bytes (front - 184) (size - (184 - front)) slots)
 
 -- a PES packet has a header
-header_some : (long same : Bool) (extension : ℕ) → 1 ≤ (if long then 45 else ((if same then 14 else 19) + extension))
-header_some true same extension = omega arith
-header_some false true extension = omega arith
-header_some false false extension = omega arith
+header_some : (long bare same : Bool) (extension : ℕ) → 1 ≤ (if long then 45 else ((if bare then 9 else (if same then 14 else 19)) + extension))
+header_some true bare same extension = omega arith
+header_some false true same extension = omega arith
+header_some false false true extension = omega arith
+header_some false false false extension = omega arith
 
 some_size : (l : OwnedStream) (u : AccessUnit) → 1 ≤ (timed l u).size
 unfolding pes_packet_bytes
@@ -67,7 +68,7 @@ some_size l u =
       arith,
       length-append head u.bytes,
       header_sizes l.parameters.stream_id (length u.bytes) u.marks (u.pts + base0) (u.dts + base0),
-      header_some u.marks.long (on_wire (u.pts + base0) == on_wire (u.dts + base0)) (extension_size u.marks),
+      header_some u.marks.long u.marks.unstamped (on_wire (u.pts + base0) == on_wire (u.dts + base0)) (extension_size u.marks),
     )
 
 -- 2. What has left is no more than what came

@@ -1,5 +1,5 @@
 -- Units that are sent whole are found again.
-use Rattle.std.proofs.Common.{◌≡◌, ◌≤◌, ◌<◌, ℕ, ◌+◌, ◌-◌, ◌*◌, ◌^◌, ◌==◌, ◌&&◌, Bool, true, false, Option, Some, None, List, [], ◌∷◌, ◌++◌, length, map, take, drop, All, refl, ap, ◌∙◌, arith, inl, inr, append-nil}
+use Rattle.std.proofs.Common.{◌≡◌, ◌≤◌, ◌<◌, ℕ, ◌+◌, ◌-◌, ◌*◌, ◌^◌, ◌==◌, ◌&&◌, not, Bool, true, false, Option, Some, None, List, [], ◌∷◌, ◌++◌, length, map, take, drop, All, refl, ap, ◌∙◌, arith, inl, inr, append-nil}
 use Rattle.std.proofs.lemmas.Bool.{cases_Bool, eq-eqb, eqb-true, le-leb}
 use Rattle.std.proofs.lemmas.Bool.Decides.{nat_tests}
 use Rattle.std.proofs.lemmas.List.{length-append, take_all}
@@ -19,7 +19,7 @@ use Rattle.laws_pid.specs.Units.{carried_in, unit_header, unit_packets, unit_fou
 use Rattle.laws_run.specs.Placed.{units_placed}
 use Rattle.es_units.specs.CarriedUnits.{Start, CarriedUnit, pes_role, role_of_what, is_access_point, is_unstamped, first_packet, role_of, more_bytes, continued_by, continuation, end_of, is_cut, is_split, units_from, units_in, wire_units}
 use Rattle.es_units.specs.Stamps.{distance, dts_at, unit_at, moved}
-use Rattle.laws_job.specs.Laws.{later_by}
+use Rattle.laws_job.specs.Laws.{AllStamped, IsStamped, later_by}
 use Rattle.laws_job.proofs.PrivateData.{Sixteen}
 use Rattle.laws_job.proofs.SentWhole.{IsWhole}
 
@@ -37,49 +37,55 @@ text_bytes id base0 u =
 
 -- the stamps of its header
 by_stamps : (i id size : ℕ) (marks : Marks) (pts dts : ℕ) (bytes : List ℕ) →
+    marks.unstamped ≡ false →
     pes_role i (written_header id size marks pts dts).id marks (written_header id size marks pts dts).stamps bytes
     ≡ Start (record { packet = i; stream_id = id; unit = record { dts = on_wire dts; pts = on_wire pts; marks = marks; bytes = bytes } })
 unfolding pes_role written_header
-by_stamps i id size marks pts dts bytes = elim (cases_Bool (on_wire pts == on_wire dts)) [
+by_stamps i id size marks pts dts bytes stamped = elim (cases_Bool (on_wire pts == on_wire dts)) [
   | inl same ↦
       let e : on_wire pts ≡ on_wire dts = eqb-true (on_wire pts) (on_wire dts) same in
-      rw same (ap (λ (d : ℕ). Start (record { packet = i; stream_id = id; unit = record { dts = d; pts = on_wire pts; marks = marks; bytes = bytes } })) e)
-  | inr differ ↦ rw differ refl
+      rw (stamped, same) (ap (λ (d : ℕ). Start (record { packet = i; stream_id = id; unit = record { dts = d; pts = on_wire pts; marks = marks; bytes = bytes } })) e)
+  | inr differ ↦ rw (stamped, differ) refl
 ]
 
 -- and its marks
-by_header : (i id size : ℕ) (marks : Marks) (pts dts : ℕ) (bytes : List ℕ) → HasSixteen marks →
-    pes_role i (written_header id size marks pts dts).id (header_marks marks.random_access (written_header id size marks pts dts)) (written_header id size marks pts dts).stamps bytes
+by_header : (i id size : ℕ) (marks : Marks) (pts dts : ℕ) (bytes : List ℕ) → HasSixteen marks → marks.unstamped ≡ false →
+    pes_role i (written_header id size marks pts dts).id (header_marks marks.random_access marks.unstamped (written_header id size marks pts dts)) (written_header id size marks pts dts).stamps bytes
     ≡ Start (record { packet = i; stream_id = id; unit = record { dts = on_wire dts; pts = on_wire pts; marks = marks; bytes = bytes } })
-by_header i id size marks pts dts bytes sixteen =
+by_header i id size marks pts dts bytes sixteen stamped =
     ap (λ (m : Marks). pes_role i (written_header id size marks pts dts).id m (written_header id size marks pts dts).stamps bytes) (marks_are_read id size marks pts dts sixteen)
-    ∙ by_stamps i id size marks pts dts bytes
+    ∙ by_stamps i id size marks pts dts bytes stamped
 
 own_pid : (pid : ℕ) (f : FindingView) → f.pid ≡ Some pid → role_of pid f ≡ role_of_what (first_packet f.packet f.begun) (is_unstamped f.begun) (is_access_point f.begun) f.what
 unfolding role_of
 own_pid pid f e = rw (e, eq-eqb pid pid refl) refl
 
-begins : (pid id base0 : ℕ) (e : Ending) (u : AccessUnit) (i : ℕ) (is : List ℕ) → unit_packets id base0 u ≤ length (i ∷ is) → Sixteen u →
+twice_not : (b : Bool) → not (not b) ≡ b
+twice_not true = refl
+twice_not false = refl
+
+begins : (pid id base0 : ℕ) (e : Ending) (u : AccessUnit) (i : ℕ) (is : List ℕ) → unit_packets id base0 u ≤ length (i ∷ is) → Sixteen u → u.marks.unstamped ≡ false →
     role_of pid (with_pid_at pid (unit_found id base0 e u i is)) ≡ Start (found_unit i id base0 u)
-unfolding unit_found role_of_what first_packet is_access_point
-begins pid id base0 e u i is whole sixteen =
+unfolding unit_found role_of_what first_packet is_access_point is_unstamped
+begins pid id base0 e u i is whole sixteen stamped =
     let text = text_bytes id base0 u in
     let room = carried_in (has_access u) (i ∷ is) in
     let fits : length (pes_packet_bytes id base0 u) ≤ room = omega (arith, whole) in
     let all : take (room - header_size u.marks (u.pts + base0) (u.dts + base0)) u.bytes ≡ u.bytes =
     take_all (room - header_size u.marks (u.pts + base0) (u.dts + base0)) u.bytes (omega (arith, text, fits)) in
-    let head = by_header i id (length u.bytes) u.marks (u.pts + base0) (u.dts + base0) u.bytes sixteen in
+    let head = by_header i id (length u.bytes) u.marks (u.pts + base0) (u.dts + base0) u.bytes sixteen stamped in
+    let same : not (not u.marks.unstamped) ≡ u.marks.unstamped = twice_not u.marks.unstamped in
     own_pid pid (with_pid_at pid (unit_found id base0 e u i is)) refl ∙
     elim (cases_Bool ((unit_header id base0 u).len == 0)) [
-      | inl y ↦ rw (y, all) head
-      | inr n ↦ rw (n, le-leb (length (pes_packet_bytes id base0 u)) room fits) head
+      | inl y ↦ rw (y, all, same) head
+      | inr n ↦ rw (n, le-leb (length (pes_packet_bytes id base0 u)) room fits, same) head
     ]
 
 -- 2. All of them
 
--- all of these are whole, none is empty, and PES_private_data has 16 bytes
+-- all of these are whole, none is empty, PES_private_data has 16 bytes, and each has a PTS
 abbrev IsThere : ℕ → ℕ → Sending AccessUnit → Type 0
-IsThere id base0 x = (unit_packets id base0 x.item ≤ length x.packets) × (1 ≤ length x.item.bytes) × Sixteen x.item
+IsThere id base0 x = (unit_packets id base0 x.item ≤ length x.packets) × (1 ≤ length x.item.bytes) × Sixteen x.item × (x.item.marks.unstamped ≡ false)
 
 some_packet : (id base0 : ℕ) (u : AccessUnit) → 1 ≤ length u.bytes → 1 ≤ unit_packets id base0 u
 some_packet id base0 u some = omega (arith, text_bytes id base0 u, some)
@@ -107,13 +113,13 @@ one_more split pid id base0 f fs i u us is some rest =
     }
 
 one_sent : (split : Bool) (pid id base0 n : ℕ) (u : AccessUnit) (packets : List ℕ) (xs : List (Sending AccessUnit)) (us : List AccessUnit) → unit_packets id base0 u ≤ length packets →
-    1 ≤ length u.bytes → Sixteen u → Found split pid id base0 (map (with_pid_at pid) (each_found (unit_found id base0) n xs)) us →
+    1 ≤ length u.bytes → Sixteen u → u.marks.unstamped ≡ false → Found split pid id base0 (map (with_pid_at pid) (each_found (unit_found id base0) n xs)) us →
     Found split pid id base0 (map (with_pid_at pid) (if_sent (unit_found id base0 (next_of n xs) u) packets ++ each_found (unit_found id base0) n xs)) (u ∷ us)
 unfolding if_sent
-one_sent split pid id base0 n u [] xs us whole some sixteen rest = absurd (omega (arith, whole, some_packet id base0 u some))
-one_sent split pid id base0 n u (i ∷ is) xs us whole some sixteen rest =
+one_sent split pid id base0 n u [] xs us whole some sixteen stamped rest = absurd (omega (arith, whole, some_packet id base0 u some))
+one_sent split pid id base0 n u (i ∷ is) xs us whole some sixteen stamped rest =
     one_more split pid id base0 (with_pid_at pid (unit_found id base0 (next_of n xs) u i is)) (map (with_pid_at pid) (each_found (unit_found id base0) n xs)) i u us
-    (begins pid id base0 (next_of n xs) u i is whole sixteen) some rest
+    (begins pid id base0 (next_of n xs) u i is whole sixteen stamped) some rest
 
 all_found_again : (split : Bool) (pid id base0 n : ℕ) (xs : List (Sending AccessUnit)) → All (IsThere id base0) xs →
     Found split pid id base0 (map (with_pid_at pid) (each_found (unit_found id base0) n xs)) (map (λ x. x.item) xs)
@@ -121,7 +127,7 @@ unfolding each_found
 all_found_again split pid id base0 n [] all = record { alone = unfold continuation in refl; uncut = unfold is_cut in refl; units = unfold units_in in refl }
 all_found_again split pid id base0 n (x ∷ xs) all =
     let there = All-head (IsThere id base0) x xs all in
-    one_sent split pid id base0 n x.item x.packets xs (map (λ y. y.item) xs) there.0 there.1 there.2 (all_found_again split pid id base0 n xs (All-tail (IsThere id base0) x xs all))
+    one_sent split pid id base0 n x.item x.packets xs (map (λ y. y.item) xs) there.0 there.1 there.2 there.3 (all_found_again split pid id base0 n xs (All-tail (IsThere id base0) x xs all))
 
 -- 3. Of a lane
 
@@ -131,21 +137,21 @@ items l free [] slots = refl
 items l free (u ∷ us) slots = ap (λ (xs : List AccessUnit). u ∷ xs) (items l (end_slot l free u) us slots)
 
 both : (l : OwnedStream) (free : ℕ) (us : List AccessUnit) (slots : List ℕ) → All (IsWhole l) (units_placed l free us slots) → All (λ u. 1 ≤ length u.bytes) us →
-    All Sixteen us → All (IsThere l.parameters.stream_id l.parameters.base0) (units_placed l free us slots)
+    All Sixteen us → AllStamped us → All (IsThere l.parameters.stream_id l.parameters.base0) (units_placed l free us slots)
 unfolding units_placed
-both l free [] slots whole some sixteen = All-nil (IsThere l.parameters.stream_id l.parameters.base0)
-both l free (u ∷ us) slots whole some sixteen =
+both l free [] slots whole some sixteen stamped = All-nil (IsThere l.parameters.stream_id l.parameters.base0)
+both l free (u ∷ us) slots whole some sixteen stamped =
     let rest = units_placed l (end_slot l free u) us slots in
     let x : Sending AccessUnit = record { item = u; packets = take (packet_count l u) (drop (first_slot l free u) slots) } in
     All-cons (IsThere l.parameters.stream_id l.parameters.base0) x rest
-    (All-head (IsWhole l) x rest whole, All-head (λ v. 1 ≤ length v.bytes) u us some, All-head Sixteen u us sixteen)
-    (both l (end_slot l free u) us slots (All-tail (IsWhole l) x rest whole) (All-tail (λ v. 1 ≤ length v.bytes) u us some) (All-tail Sixteen u us sixteen))
+    (All-head (IsWhole l) x rest whole, All-head (λ v. 1 ≤ length v.bytes) u us some, All-head Sixteen u us sixteen, All-head IsStamped u us stamped)
+    (both l (end_slot l free u) us slots (All-tail (IsWhole l) x rest whole) (All-tail (λ v. 1 ≤ length v.bytes) u us some) (All-tail Sixteen u us sixteen) (All-tail IsStamped u us stamped))
 
 pub found_again : (pid n : ℕ) (l : OwnedStream) (us : List AccessUnit) (slots : List ℕ) → All (IsWhole l) (units_placed l 0 us slots) → All (λ u. 1 ≤ length u.bytes) us →
-    All Sixteen us → wire_units pid (map (with_pid_at pid) (each_found (unit_found l.parameters.stream_id l.parameters.base0) n (units_placed l 0 us slots))) ≡ map (later_by l.parameters.base0) us
-found_again pid n l us slots whole some sixteen =
+    All Sixteen us → AllStamped us → wire_units pid (map (with_pid_at pid) (each_found (unit_found l.parameters.stream_id l.parameters.base0) n (units_placed l 0 us slots))) ≡ map (later_by l.parameters.base0) us
+found_again pid n l us slots whole some sixteen stamped =
     let fs = map (with_pid_at pid) (each_found (unit_found l.parameters.stream_id l.parameters.base0) n (units_placed l 0 us slots)) in
-    (all_found_again (is_split pid fs) pid l.parameters.stream_id l.parameters.base0 n (units_placed l 0 us slots) (both l 0 us slots whole some sixteen)).units
+    (all_found_again (is_split pid fs) pid l.parameters.stream_id l.parameters.base0 n (units_placed l 0 us slots) (both l 0 us slots whole some sixteen stamped)).units
     ∙ ap (map (later_by l.parameters.base0)) (items l 0 us slots)
 
 -- 4. Stamps on the wire

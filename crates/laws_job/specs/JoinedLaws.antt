@@ -14,7 +14,7 @@ use Rattle.laws_pid.specs.Laws.{all_found}
 use Rattle.stream_jobs.specs.FoundUnits.{AreMoved}
 use Rattle.stream_jobs.specs.JoinedInputs.{AreUnitsIn}
 use Rattle.stream_jobs.specs.declared.joined_inputs.Origin.{Origin}
-use Rattle.laws_job.specs.Laws.{AllDue, later_by, schedule_for}
+use Rattle.laws_job.specs.Laws.{AllDue, AllStamped, later_by, schedule_for}
 
 -- no unit is refused, over whatever schedule, also where DTS are made from PTS
 abbrev pub JoinedAcceptedLaw : Type 0
@@ -29,5 +29,5 @@ JoinedAgainLaw = (d : Described) (p : Planned) (inputs : List (List FindingView)
     (s : DescribedStream) (wire : List AccessUnit) (base : ℕ) →
     IsInRange d → IsServing d p → AreUnitsIn false inputs origins d units → n ≤ 2 ^ 40 → slice_get d.streams k ≡ Some s →
     AreMoved wire base (units_of k units) →
-    AllDue d.rate n (units_of k units) →
+    AllDue d.rate n (units_of k units) → AllStamped wire →
     wire_units s.pid (all_found (output_of false (schedule_for d p) (job_history units n))) ≡ map (later_by (d.base0 + 2 ^ 33 - base)) wire

@@ -82,20 +82,27 @@ later_by time u = record { dts = on_wire (u.dts + time); pts = on_wire (u.pts + 
 abbrev pub AllDue : ℕ → ℕ → List AccessUnit → Type 0
 AllDue rate n us = All (λ u. u.dts * rate ≤ n * slot_units_at_1bps) us
 
--- the units of a stream, whose clock shows `base` at moment 0 if that of the description shows base0, are found again: all of them and
+-- these units have a PTS on the wire
+abbrev pub IsStamped : AccessUnit → Type 0
+IsStamped u = u.marks.unstamped ≡ false
+
+abbrev pub AllStamped : List AccessUnit → Type 0
+AllStamped us = All IsStamped us
+
+-- the units of a stream, each with a PTS, whose clock shows `base` at moment 0 if that of the description shows base0, are found again: all of them and
 -- no other. Where no two of a data stream in a row are due at one moment, they are just those of the wire (es_units `ApartStay`); else all
 -- but DTS is (`ApartKeep`), and of a row with one DTS each is decoded before the next (`RowRises`)
 abbrev pub FoundAgainLaw : Type 0
 FoundAgainLaw = (d : Described) (p : Planned) (findings : List FindingView) (units : List (ℕ × AccessUnit)) (n k : ℕ) (s : DescribedStream) (base : ℕ) →
     IsInRange d → IsServing d p → AreUnits false findings d units → n ≤ 2 ^ 40 → slice_get d.streams k ≡ Some s →
-    AreMoved (apart_wire_units s.pid findings) base (units_of k units) → AllDue d.rate n (units_of k units) →
+    AreMoved (apart_wire_units s.pid findings) base (units_of k units) → AllDue d.rate n (units_of k units) → AllStamped (apart_wire_units s.pid findings) →
     wire_units s.pid (all_found (output_of false (schedule_for d p) (job_history units n))) ≡ map (later_by (d.base0 + 2 ^ 33 - base)) (apart_wire_units s.pid findings)
 
 -- if no two units in a row that were found have one DTS, they are found again as they are
 abbrev pub OwnAgainLaw : Type 0
 OwnAgainLaw = (d : Described) (p : Planned) (findings : List FindingView) (units : List (ℕ × AccessUnit)) (n k : ℕ) (s : DescribedStream) (base : ℕ) →
     IsInRange d → IsServing d p → AreUnits false findings d units → n ≤ 2 ^ 40 → slice_get d.streams k ≡ Some s →
-    AreMoved (wire_units s.pid findings) base (units_of k units) → AllDue d.rate n (units_of k units) →
+    AreMoved (wire_units s.pid findings) base (units_of k units) → AllDue d.rate n (units_of k units) → AllStamped (wire_units s.pid findings) →
     wire_units s.pid (all_found (output_of false (schedule_for d p) (job_history units n))) ≡ map (later_by (d.base0 + 2 ^ 33 - base)) (wire_units s.pid findings)
 
 -- stamps of 33 bits
@@ -106,5 +113,6 @@ IsOnWire u = (u.dts < 2 ^ 33) × (u.pts < 2 ^ 33)
 abbrev pub SameAgainLaw : Type 0
 SameAgainLaw = (d : Described) (p : Planned) (findings : List FindingView) (units : List (ℕ × AccessUnit)) (n k : ℕ) (s : DescribedStream) →
     IsInRange d → IsServing d p → AreUnits false findings d units → n ≤ 2 ^ 40 → slice_get d.streams k ≡ Some s →
-    AreMoved (apart_wire_units s.pid findings) d.base0 (units_of k units) → AllDue d.rate n (units_of k units) → All IsOnWire (apart_wire_units s.pid findings) →
+    AreMoved (apart_wire_units s.pid findings) d.base0 (units_of k units) → AllDue d.rate n (units_of k units) → AllStamped (apart_wire_units s.pid findings) →
+    All IsOnWire (apart_wire_units s.pid findings) →
     wire_units s.pid (all_found (output_of false (schedule_for d p) (job_history units n))) ≡ apart_wire_units s.pid findings

@@ -16,7 +16,7 @@ abbrev three : AccessUnit
 three = record { dts = 90000; pts = 90000; marks = no_marks; bytes = 1 ∷ 2 ∷ 3 ∷ [] }
 
 abbrev two : AccessUnit
-two = record { dts = 93600; pts = 97200; marks = record { random_access = true; flags = record no_flags { aligned = true }; long = false; private_data = None }; bytes = 4 ∷ 5 ∷ [] }
+two = record { dts = 93600; pts = 97200; marks = record { random_access = true; flags = record no_flags { aligned = true }; long = false; unstamped = false; private_data = None }; bytes = 4 ∷ 5 ∷ [] }
 
 -- in packet 7 of 10: whole there, its PES_packet_length 11; the second unit, in packet 9, has a DTS too, and is aligned
 units_row : each_found (unit_found 192 0) 10 (sendings (unit_packets 192 0) (three ∷ two ∷ []) (7 ∷ 9 ∷ []))

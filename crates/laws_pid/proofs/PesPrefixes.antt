@@ -1,16 +1,16 @@
 -- The PES packet of a unit: what each beginning of it decides.
-use Rattle.std.proofs.Common.{◌≡◌, ℕ, ◌+◌, ◌-◌, ◌<◌, ◌≤◌, ◌==◌, nat_le, Bool, true, false, cond, IsTrue, List, ◌++◌, length, take, drop, Some, None, is_some, option_map, Ok, refl, sym, ap, subst, ◌∙◌, inl, inr, arith, take_all, length-append, length-take, lt-ltb, le-ltb}
+use Rattle.std.proofs.Common.{◌≡◌, ℕ, ◌+◌, ◌-◌, ◌<◌, ◌≤◌, ◌==◌, nat_le, not, Bool, true, false, cond, IsTrue, List, ◌++◌, length, take, drop, Some, None, is_some, option_map, Ok, refl, sym, ap, subst, ◌∙◌, inl, inr, arith, take_all, length-append, length-take, lt-ltb, le-ltb}
 use Rattle.std.proofs.Math.Seq.{take-append-add, drop-append_seam}
 use Rattle.std.proofs.lemmas.Bool.{cases_Bool}
 use Rattle.pes_packet.specs.AccessUnits.{AccessUnit}
 use Rattle.pes_packet.specs.StreamIds.{fits_packet}
-use Rattle.pes_packet.specs.Encoding.{pes_header_bytes, header_size, pes_packet_bytes, packet_length, on_wire, header_with, pts_header, pts_dts_header, pes_start_bytes}
+use Rattle.pes_packet.specs.Encoding.{pes_header_bytes, header_size, pes_packet_bytes, packet_length, on_wire, header_with, bare_header, pts_header, pts_dts_header, pes_start_bytes}
 use Rattle.pes_packet.specs.Reading.{header_at}
-use Rattle.pes_packet.specs.Laws.{written_header}
-use Rattle.pes_packet.specs.Marks.{data_length, extension_size, sixteen}
+use Rattle.pes_packet.specs.Laws.{header_of, written_header}
+use Rattle.pes_packet.specs.Marks.{data_length, extension_size}
 use Rattle.pes_packet.specs.declared.marks.Marks.{Marks}
 use Rattle.pes_packet.specs.declared.reading.PesHeader.{PesHeader}
-use Rattle.pes_packet.specs.declared.time_stamps.Stamps.TheVariants.{Pts, PtsDts}
+use Rattle.pes_packet.specs.declared.time_stamps.Stamps.TheVariants.{Absent, Pts, PtsDts}
 use Rattle.pes_packet.proofs.Written.{written_is_read, header_sizes}
 use Rattle.ts_packet.specs.Beginnings.{room_of, start_by}
 use Rattle.demux.specs.declared.finding.Kind.TheVariants.{Pes}
@@ -19,12 +19,11 @@ use Rattle.demux.specs.Views.{IsPes, IsTruncated}
 use Rattle.demux.specs.Roles.{may_begin_pes}
 use Rattle.demux.specs.OpenUnits.{decided, of_header, of_pes, max_unbounded_pes, is_stamped, begun_kind}
 use Rattle.demux.specs.Findings.{end_of}
-use Rattle.laws_pid.specs.Units.{unit_header, unit_header_size}
+use Rattle.laws_pid.specs.Units.{has_pts, unit_header, unit_header_size}
 
 -- a PES packet whose header, of n bytes, is read as h, and its data
 pub record PesText (text : List ℕ) (h : PesHeader) (n : ℕ) (body : List ℕ) : Type 0 where
   pub begins : (access : Bool) → may_begin_pes (take (room_of (start_by true access)) text) ≡ true
-  pub stamped : is_stamped h.stamps ≡ true
   pub header : (m : ℕ) → n ≤ m → header_at (take m text) ≡ Ok (h, n)
   pub some : 0 < n
   pub short : n ≤ 182
@@ -37,13 +36,31 @@ pub record PesText (text : List ℕ) (h : PesHeader) (n : ℕ) (body : List ℕ)
 
 begins_pes : (id size : ℕ) (marks : Marks) (pts dts : ℕ) (body : List ℕ) (access : Bool) →
     may_begin_pes (take (room_of (start_by true access)) (pes_header_bytes id size marks pts dts ++ body)) ≡ true
-unfolding pes_header_bytes pts_header pts_dts_header header_with pes_start_bytes
-begins_pes id size marks pts dts body true = elim (cases_Bool (on_wire pts == on_wire dts)) [ inl y ↦ rw y refl | inr k ↦ rw k refl ]
-begins_pes id size marks pts dts body false = elim (cases_Bool (on_wire pts == on_wire dts)) [ inl y ↦ rw y refl | inr k ↦ rw k refl ]
+unfolding pes_header_bytes
+begins_pes id size marks pts dts body access = by access marks.unstamped (on_wire pts == on_wire dts)
+  where
+    by : (access bare same : Bool) →
+        may_begin_pes (take (room_of (start_by true access)) (cond bare (bare_header id size marks)
+        (cond same (pts_header id size marks (on_wire pts)) (pts_dts_header id size marks (on_wire pts) (on_wire dts))) ++ body)) ≡ true
+    unfolding bare_header pts_header pts_dts_header header_with pes_start_bytes
+    by true true same = refl
+    by true false true = refl
+    by true false false = refl
+    by false true same = refl
+    by false false true = refl
+    by false false false = refl
 
-has_stamps : (id size : ℕ) (marks : Marks) (pts dts : ℕ) → is_stamped (written_header id size marks pts dts).stamps ≡ true
+stamped_by : (bare same : Bool) (id size : ℕ) (marks : Marks) (p d : ℕ) →
+    is_stamped (cond bare (header_of id size marks Absent 0) (cond same (header_of id size marks (Pts p) 5) (header_of id size marks (PtsDts p d) 10))).stamps ≡ not bare
+stamped_by true same id size marks p d = refl
+stamped_by false true id size marks p d = refl
+stamped_by false false id size marks p d = refl
+
+-- its header has a PTS unless the unit asks for none
+pub stamps_are : (id base0 : ℕ) (u : AccessUnit) → is_stamped (unit_header id base0 u).stamps ≡ has_pts u
 unfolding written_header
-has_stamps id size marks pts dts = elim (cases_Bool (on_wire pts == on_wire dts)) [ inl y ↦ rw y refl | inr k ↦ rw k refl ]
+stamps_are id base0 u =
+    stamped_by u.marks.unstamped (on_wire (u.pts + base0) == on_wire (u.dts + base0)) id (length u.bytes) u.marks (on_wire (u.pts + base0)) (on_wire (u.dts + base0))
 
 -- a PES_packet_length that is not 0 counts the bytes after it
 counts : (c : ℕ) → (packet_length c == 0) ≡ false → packet_length c ≡ c
@@ -54,58 +71,55 @@ counts c e = elim (cases_Bool (nat_le c 65_535)) [ inl y ↦ rw y refl | inr k �
     by true k f = cc
     by false k f = cc
 
-count_of : (long same : Bool) (more size : ℕ) →
-    let len : ℕ = cond same (packet_length (3 + cond long 36 (5 + more) + size)) (packet_length (3 + cond long 36 (10 + more) + size)) in
-    (len == 0) ≡ false → 6 + len ≡ cond long 45 (cond same 14 19 + more) + size
-count_of true true more size e = let c : packet_length (3 + 36 + size) ≡ 3 + 36 + size = counts (3 + 36 + size) e in omega (arith, c)
-count_of true false more size e = let c : packet_length (3 + 36 + size) ≡ 3 + 36 + size = counts (3 + 36 + size) e in omega (arith, c)
-count_of false true more size e = let c : packet_length (3 + (5 + more) + size) ≡ 3 + (5 + more) + size = counts (3 + (5 + more) + size) e in omega (arith, c)
-count_of false false more size e = let c : packet_length (3 + (10 + more) + size) ≡ 3 + (10 + more) + size = counts (3 + (10 + more) + size) e in omega (arith, c)
+count_with : (n : ℕ) (long : Bool) (more size : ℕ) → (packet_length (3 + cond long 36 (n + more) + size) == 0) ≡ false →
+    6 + packet_length (3 + cond long 36 (n + more) + size) ≡ cond long 45 (9 + n + more) + size
+count_with n true more size e = let c : packet_length (3 + 36 + size) ≡ 3 + 36 + size = counts (3 + 36 + size) e in omega (arith, c)
+count_with n false more size e = let c : packet_length (3 + (n + more) + size) ≡ 3 + (n + more) + size = counts (3 + (n + more) + size) e in omega (arith, c)
 
-len_of : (b : Bool) (x y : PesHeader) → (cond b x y).len ≡ cond b x.len y.len
-len_of true x y = refl
-len_of false x y = refl
+count_of : (bare same long : Bool) (more size : ℕ) →
+    let len : ℕ = cond bare (packet_length (3 + cond long 36 (0 + more) + size))
+    (cond same (packet_length (3 + cond long 36 (5 + more) + size)) (packet_length (3 + cond long 36 (10 + more) + size))) in
+    (len == 0) ≡ false → 6 + len ≡ cond long 45 (cond bare 9 (cond same 14 19) + more) + size
+count_of true same long more size e = count_with 0 long more size e
+count_of false true long more size e = count_with 5 long more size e
+count_of false false long more size e = count_with 10 long more size e
+
+len_of : (bare b : Bool) (x y z : PesHeader) → (cond bare x (cond b y z)).len ≡ cond bare x.len (cond b y.len z.len)
+len_of true b x y z = refl
+len_of false true x y z = refl
+len_of false false x y z = refl
 
 header_counts : (id size : ℕ) (marks : Marks) (pts dts : ℕ) → ((written_header id size marks pts dts).len == 0) ≡ false →
     6 + (written_header id size marks pts dts).len ≡ header_size marks pts dts + size
 unfolding written_header
 header_counts id size marks pts dts e =
-    let pts_alone : PesHeader = record {
-      id = id;
-      len = packet_length (3 + data_length marks 5 + size);
-      stamps = Pts (on_wire pts);
-      flags = marks.flags;
-      data_length = data_length marks 5;
-      private_data = option_map sixteen marks.private_data;
-    } in
-    let with_dts : PesHeader = record {
-      id = id;
-      len = packet_length (3 + data_length marks 10 + size);
-      stamps = PtsDts (on_wire pts) (on_wire dts);
-      flags = marks.flags;
-      data_length = data_length marks 10;
-      private_data = option_map sixteen marks.private_data;
-    } in
-    let is = len_of (on_wire pts == on_wire dts) pts_alone with_dts in
-    ap (λ (n : ℕ). 6 + n) is ∙ count_of marks.long (on_wire pts == on_wire dts) (extension_size marks) size (subst (λ (n : ℕ). (n == 0) ≡ false) is e)
+    let bare : PesHeader = header_of id size marks Absent 0 in
+    let pts_alone : PesHeader = header_of id size marks (Pts (on_wire pts)) 5 in
+    let with_dts : PesHeader = header_of id size marks (PtsDts (on_wire pts) (on_wire dts)) 10 in
+    let is = len_of marks.unstamped (on_wire pts == on_wire dts) bare pts_alone with_dts in
+    ap (λ (n : ℕ). 6 + n) is
+    ∙ count_of marks.unstamped (on_wire pts == on_wire dts) marks.long (extension_size marks) size (subst (λ (n : ℕ). (n == 0) ≡ false) is e)
 
-short_by : (long same private : Bool) → cond long 45 (cond same 14 19 + cond private 17 0) ≤ 45
-short_by true same private = omega arith
-short_by false true true = omega arith
-short_by false true false = omega arith
-short_by false false true = omega arith
-short_by false false false = omega arith
+short_by : (long bare same private : Bool) → cond long 45 (cond bare 9 (cond same 14 19) + cond private 17 0) ≤ 45
+short_by true bare same private = omega arith
+short_by false true same true = omega arith
+short_by false true same false = omega arith
+short_by false false true true = omega arith
+short_by false false true false = omega arith
+short_by false false false true = omega arith
+short_by false false false false = omega arith
 
 size_short : (marks : Marks) (pts dts : ℕ) → header_size marks pts dts ≤ 45
-size_short marks pts dts = short_by marks.long (on_wire pts == on_wire dts) (is_some marks.private_data)
+size_short marks pts dts = short_by marks.long marks.unstamped (on_wire pts == on_wire dts) (is_some marks.private_data)
 
-some_by : (long same : Bool) (more : ℕ) → 0 < cond long 45 (cond same 14 19 + more)
-some_by true same more = omega arith
-some_by false true more = omega arith
-some_by false false more = omega arith
+some_by : (long bare same : Bool) (more : ℕ) → 0 < cond long 45 (cond bare 9 (cond same 14 19) + more)
+some_by true bare same more = omega arith
+some_by false true same more = omega arith
+some_by false false true more = omega arith
+some_by false false false more = omega arith
 
 size_some : (marks : Marks) (pts dts : ℕ) → 0 < header_size marks pts dts
-size_some marks pts dts = some_by marks.long (on_wire pts == on_wire dts) (extension_size marks)
+size_some marks pts dts = some_by marks.long marks.unstamped (on_wire pts == on_wire dts) (extension_size marks)
 
 -- a beginning with at least the header, and what of the data is in it
 front_of : (m n : ℕ) (head body : List ℕ) → length head ≡ n → n ≤ m → take m (head ++ body) ≡ head ++ take (m - n) body
@@ -129,7 +143,6 @@ unit_is_pes id base0 u fits =
     let has : length head ≡ n = header_sizes id size u.marks pts dts in
     let whole : length (head ++ u.bytes) ≡ n + size = omega (arith, length-append head u.bytes, has) in record {
       begins = λ access. begins_pes id size u.marks pts dts u.bytes access;
-      stamped = has_stamps id size u.marks pts dts;
       header = λ m h. ap header_at (front_of m n head u.bytes has h) ∙ written_is_read id size u.marks pts dts (take (m - n) u.bytes) fits
           ∙ ap (λ (k : ℕ). Ok (written_header id size u.marks pts dts, k)) has;
       some = size_some u.marks pts dts;
@@ -172,9 +185,9 @@ whole_at text h n body m t len less =
 
 -- its kind, and how it ends where nothing more comes
 pub kind_at : (access : Bool) (text : List ℕ) (h : PesHeader) (n : ℕ) (body : List ℕ) (m : ℕ) → PesText text h n body → n ≤ m →
-    begun_kind unit_kinds.Pes access (take m text) ≡ Pes true access
+    begun_kind unit_kinds.Pes access (take m text) ≡ Pes (is_stamped h.stamps) access
 unfolding begun_kind
-kind_at access text h n body m t le = rw (t.header m le) (ap (λ (stamped : Bool). Pes stamped access) t.stamped)
+kind_at access text h n body m t le = rw (t.header m le) refl
 
 pub end_without : (text : List ℕ) (h : PesHeader) (n : ℕ) (body : List ℕ) (m : ℕ) (open_ended : Bool) → PesText text h n body → n ≤ m → (h.len == 0) ≡ true →
     end_of open_ended (take m text) unit_kinds.Pes (header_at (take m text)) ≡ IsPes h open_ended (take (m - n) body)

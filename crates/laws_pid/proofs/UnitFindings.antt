@@ -23,12 +23,12 @@ use Rattle.demux.specs.Findings.{at_packet, by_role, decided_within, ended, end_
 use Rattle.demux.specs.Machine.{next_open}
 use Rattle.demux.proofs.DecidedBytes.{undecided_before}
 use Rattle.laws_pid.specs.Sent.{cut, Ending, begin_or, if_sent, last_of, is_none}
-use Rattle.laws_pid.specs.Units.{unit_start, unit_header, unit_header_size, begun_pes, unit_found}
+use Rattle.laws_pid.specs.Units.{has_pts, unit_start, unit_header, unit_header_size, begun_pes, unit_found}
 use Rattle.laws_pid.proofs.CountedPackets.{does}
 use Rattle.laws_pid.proofs.PidSteps.{finds, leaves}
 use Rattle.laws_pid.proofs.LaterPackets.{covered_from, rest_quiet, rest_decided}
 use Rattle.laws_pid.proofs.AllSendings.{Gives, ends_at}
-use Rattle.laws_pid.proofs.PesPrefixes.{PesText, unit_is_pes, open_before, open_without, whole_at, kind_at, end_without, end_within}
+use Rattle.laws_pid.proofs.PesPrefixes.{PesText, stamps_are, unit_is_pes, open_before, open_without, whole_at, kind_at, end_without, end_within}
 
 -- the first payload of a PES packet
 abbrev opening : ℕ → Bool → List ℕ → Payload
@@ -79,17 +79,17 @@ room_least true = omega arith
 room_least false = omega arith
 
 -- those of which the last one decides it find that
-text_decided : (access : Bool) (text : List ℕ) (i : ℕ) (is : List ℕ) (held : Option OpenUnit) (w : WhatView) → may_begin_pes (take (room access) text) ≡ true → is_whole w ≡ true →
-    ((m : ℕ) → 182 ≤ m → begun_kind unit_kinds.Pes access (take m text) ≡ Pes true access) → room access + 184 * length is < length text + 184 →
+text_decided : (stamped access : Bool) (text : List ℕ) (i : ℕ) (is : List ℕ) (held : Option OpenUnit) (w : WhatView) → may_begin_pes (take (room access) text) ≡ true → is_whole w ≡ true →
+    ((m : ℕ) → 182 ≤ m → begun_kind unit_kinds.Pes access (take m text) ≡ Pes stamped access) → room access + 184 * length is < length text + 184 →
     ((m : ℕ) → 182 ≤ m → m < length text → decided unit_kinds.Pes (take m text) ≡ None) → decided unit_kinds.Pes (take (room access + 184 * length is) text) ≡ Some w →
-    (finds (cut (start_by true access) text (i ∷ is)) held ≡ map (at_packet i) (ended false held) ++ record { packet = last_of i is; found = begun_pes i access w (is_none is) } ∷ [])
+    (finds (cut (start_by true access) text (i ∷ is)) held ≡ map (at_packet i) (ended false held) ++ record { packet = last_of i is; found = begun_pes i stamped access w (is_none is) } ∷ [])
     × (leaves (cut (start_by true access) text (i ∷ is)) held ≡ None)
 unfolding finds leaves cut found_within undecided unless_decided
-text_decided access text i [] held w begins whole kind h u e =
+text_decided stamped access text i [] held w begins whole kind h u e =
     let front : List ℕ = take (room access) text in
     let one : room access + 184 * 0 ≡ room access = omega arith in
     let here' : decided unit_kinds.Pes front ≡ Some w = rw one at e in
-    let k : begun_kind unit_kinds.Pes access front ≡ Pes true access = kind (room access) (room_least access) in
+    let k : begun_kind unit_kinds.Pes access front ≡ Pes stamped access = kind (room access) (room_least access) in
     let here : by_role i (does (opening i access front)) held ≡ ended false held ++ about_within (pes_at i access front) w ∷ [] =
     first_found i access front held begins ∙ ap (λ (d : Option WhatView). ended false held ++ found_within (pes_at i access front) d) here' in
     let left : next_open i (does (opening i access front)) held ≡ None = first_left i access front held begins ∙ ap (unless_decided (pes_at i access front)) here' in (
@@ -97,7 +97,7 @@ text_decided access text i [] held w begins whole kind h u e =
           ∙ ap₂ (λ (kd : Kind) (b : Bool). map (at_packet i) (ended false held) ++ record { packet = i; found = record { begun = Some (i, kd); what = w; within = b } } ∷ []) k whole),
       left,
     )
-text_decided access text i (j ∷ is) held w begins whole kind h u e =
+text_decided stamped access text i (j ∷ is) held w begins whole kind h u e =
     let front : List ℕ = take (room access) text in
     let more : room access + 184 * suc (length is) ≡ room access + 184 + 184 * length is = omega (arith, mul-suc 184 (length is)) in
     let first : decided unit_kinds.Pes front ≡ None = u (room access) (room_least access) (omega (arith, h, more)) in
@@ -108,8 +108,8 @@ text_decided access text i (j ∷ is) held w begins whole kind h u e =
     λ m less. subst (λ (t : List ℕ). decided unit_kinds.Pes t ≡ None) (take-add (room access) m text) (u (room access + m) (omega (arith, room_least access)) (omega (arith, less))) in
     let all : decided unit_kinds.Pes (front ++ take (184 * suc (length is)) (drop (room access) text)) ≡ Some w =
     subst (λ (t : List ℕ). decided unit_kinds.Pes t ≡ Some w) (covered_from (room access) (suc (length is)) [] text) e in
-    let k : begun_kind unit_kinds.Pes access (front ++ take (184 * suc (length is)) (drop (room access) text)) ≡ Pes true access =
-    subst (λ (t : List ℕ). begun_kind unit_kinds.Pes access t ≡ Pes true access) (covered_from (room access) (suc (length is)) [] text)
+    let k : begun_kind unit_kinds.Pes access (front ++ take (184 * suc (length is)) (drop (room access) text)) ≡ Pes stamped access =
+    subst (λ (t : List ℕ). begun_kind unit_kinds.Pes access t ≡ Pes stamped access) (covered_from (room access) (suc (length is)) [] text)
     (kind (room access + 184 * suc (length is)) (omega (arith, room_least access))) in
     let rest = rest_decided (drop (room access) text) j is (pes_at i access front) (length text - room access) w (omega (arith, h, more)) then all in (
       rw (none, left, rest.0) (ap (λ (kd : Kind). map (at_packet i) (ended false held) ++ record { packet = last_of j is; found = record { begun = Some (i, kd); what = w; within = false } } ∷ []) k),
@@ -117,10 +117,10 @@ text_decided access text i (j ∷ is) held w begins whole kind h u e =
     )
 
 -- how what is left open ends
-open_ends : (e : Ending) (i : ℕ) (access : Bool) (bytes : List ℕ) (w : WhatView) → begun_kind unit_kinds.Pes access bytes ≡ Pes true access → end_of e.open_ended bytes unit_kinds.Pes (header_at bytes) ≡ w →
-    ends_at e (Some (pes_at i access bytes)) ≡ record { packet = e.packet; found = begun_pes i access w false } ∷ []
+open_ends : (e : Ending) (i : ℕ) (stamped access : Bool) (bytes : List ℕ) (w : WhatView) → begun_kind unit_kinds.Pes access bytes ≡ Pes stamped access → end_of e.open_ended bytes unit_kinds.Pes (header_at bytes) ≡ w →
+    ends_at e (Some (pes_at i access bytes)) ≡ record { packet = e.packet; found = begun_pes i stamped access w false } ∷ []
 unfolding ended
-open_ends e i access bytes w k f = rw (k, f) refl
+open_ends e i stamped access bytes w k f = rw (k, f) refl
 
 -- what the packets i and `is` of a unit are to find
 abbrev UnitGives : ℕ → ℕ → Ending → AccessUnit → ℕ → List ℕ → Option OpenUnit → Type 0
@@ -141,7 +141,7 @@ unit_open : (id base0 : ℕ) (e : Ending) (u : AccessUnit) (i : ℕ) (is : List 
     PesText (pes_packet_bytes id base0 u) (unit_header id base0 u) (unit_header_size base0 u) u.bytes →
     decided unit_kinds.Pes (take (reach u is) (pes_packet_bytes id base0 u)) ≡ None →
     end_of e.open_ended (take (reach u is) (pes_packet_bytes id base0 u)) unit_kinds.Pes (header_at (take (reach u is) (pes_packet_bytes id base0 u))) ≡ w →
-    unit_found id base0 e u i is ≡ record { packet = e.packet; found = begun_pes i (has_access u) w false } →
+    unit_found id base0 e u i is ≡ record { packet = e.packet; found = begun_pes i (has_pts u) (has_access u) w false } →
     UnitGives id base0 e u i is held
 unit_open id base0 e u i is held w t stays end found =
     let text : List ℕ = pes_packet_bytes id base0 u in
@@ -149,7 +149,8 @@ unit_open id base0 e u i is held w t stays end found =
     let same = reach_is (has_access u) (length is) in
     let le : unit_header_size base0 u ≤ m = omega (arith, t.short, room_least (has_access u)) in
     let o = text_open (has_access u) text i is held (t.begins (has_access u)) stays in
-    let last = open_ends e i (has_access u) (take m text) w (kind_at (has_access u) text (unit_header id base0 u) (unit_header_size base0 u) u.bytes m t le) end in
+    let kind = kind_at (has_access u) text (unit_header id base0 u) (unit_header_size base0 u) u.bytes m t le ∙ ap (λ (s : Bool). Pes s (has_access u)) (stamps_are id base0 u) in
+    let last = open_ends e i (has_pts u) (has_access u) (take m text) w kind end in
     ap₂ (λ (a : List PidFinding) (b : Option OpenUnit). a ++ ends_at e b) o.0 o.1
     ∙ ap (λ (xs : List PidFinding). map (at_packet i) (ended false held) ++ xs) (last ∙ ap (λ (x : PidFinding). x ∷ []) (sym found))
 
@@ -194,12 +195,12 @@ unit_whole id base0 u i is fits few e held len whole =
     let same = reach_is (has_access u) (length is) in
     let t = unit_is_pes id base0 u fits in
     let test : nat_le (length text) m ≡ true = le-leb (length text) m whole in
-    let found : unit_found id base0 e u i is ≡ record { packet = last_of i is; found = begun_pes i (has_access u) (IsPes h false u.bytes) (is_none is) } = rw (len, same, test) refl in
-    let o = text_decided (has_access u) text i is held (IsPes h false u.bytes) (t.begins (has_access u)) refl
-    (λ k more. kind_at (has_access u) text h n u.bytes k t (omega (arith, t.short, more))) few
+    let found : unit_found id base0 e u i is ≡ record { packet = last_of i is; found = begun_pes i (has_pts u) (has_access u) (IsPes h false u.bytes) (is_none is) } = rw (len, same, test) refl in
+    let o = text_decided (has_pts u) (has_access u) text i is held (IsPes h false u.bytes) (t.begins (has_access u)) refl
+    (λ k more. kind_at (has_access u) text h n u.bytes k t (omega (arith, t.short, more)) ∙ ap (λ (s : Bool). Pes s (has_access u)) (stamps_are id base0 u)) few
     (λ k more less. open_before text h n u.bytes k t (omega (arith, t.short, more)) len less) (whole_at text h n u.bytes m t len whole) in
     ap₂ (λ (a : List PidFinding) (b : Option OpenUnit). a ++ ends_at e b) o.0 o.1
-    ∙ append-nil (map (at_packet i) (ended false held) ++ record { packet = last_of i is; found = begun_pes i (has_access u) (IsPes h false u.bytes) (is_none is) } ∷ [])
+    ∙ append-nil (map (at_packet i) (ended false held) ++ record { packet = last_of i is; found = begun_pes i (has_pts u) (has_access u) (IsPes h false u.bytes) (is_none is) } ∷ [])
     ∙ ap (λ (x : PidFinding). map (at_packet i) (ended false held) ++ x ∷ []) (sym found)
 
 -- a unit in some packets: its one finding, by cases on its length and on the bytes that came

@@ -1,5 +1,5 @@
 -- What is found of access units that are sent on one PID, each as a PES packet of its own.
-use Rattle.std.specs.Prelude.{ℕ, ◌+◌, ◌-◌, ◌*◌, ◌==◌, nat_le, Bool, true, false, if◌then◌else◌, List, ◌∷◌, length, take, Some}
+use Rattle.std.specs.Prelude.{ℕ, ◌+◌, ◌-◌, ◌*◌, ◌==◌, nat_le, not, Bool, true, false, if◌then◌else◌, List, ◌∷◌, length, take, Some}
 use Rattle.pes_packet.specs.AccessUnits.{AccessUnit}
 use Rattle.pes_packet.specs.Encoding.{header_size, pes_packet_bytes}
 use Rattle.pes_packet.specs.Payloads.{piece_count}
@@ -33,9 +33,13 @@ unit_header id base0 u = written_header id (length u.bytes) u.marks (u.pts + bas
 abbrev pub unit_header_size : ℕ → AccessUnit → ℕ
 unit_header_size base0 u = header_size u.marks (u.pts + base0) (u.dts + base0)
 
--- a PES packet with a PTS that begins in packet i, which has the random_access_indicator or not
-abbrev pub begun_pes : ℕ → Bool → WhatView → Bool → Found
-begun_pes i access what within = record { begun = Some (i, Pes true access); what = what; within = within }
+-- a unit has a PTS on the wire
+abbrev pub has_pts : AccessUnit → Bool
+has_pts u = not u.marks.unstamped
+
+-- a PES packet, with a PTS or not, that begins in packet i, which has the random_access_indicator or not
+abbrev pub begun_pes : ℕ → Bool → Bool → WhatView → Bool → Found
+begun_pes i stamped access what within = record { begun = Some (i, Pes stamped access); what = what; within = within }
 
 -- the number of bytes of a unit that these packets have room for
 abbrev pub carried_in : Bool → List ℕ → ℕ
@@ -46,7 +50,7 @@ carried_in access packets = 184 * length packets - field_size access
 unfoldable pub unit_found : ℕ → ℕ → Ending → AccessUnit → ℕ → List ℕ → PidFinding
 unit_found id base0 e u i is =
     if (unit_header id base0 u).len == 0
-    then record { packet = e.packet; found = begun_pes i (has_access u) (IsPes (unit_header id base0 u) e.open_ended (take (carried_in (has_access u) (i ∷ is) - unit_header_size base0 u) u.bytes)) false }
+    then record { packet = e.packet; found = begun_pes i (has_pts u) (has_access u) (IsPes (unit_header id base0 u) e.open_ended (take (carried_in (has_access u) (i ∷ is) - unit_header_size base0 u) u.bytes)) false }
     else (if nat_le (length (pes_packet_bytes id base0 u)) (carried_in (has_access u) (i ∷ is))
-    then record { packet = last_of i is; found = begun_pes i (has_access u) (IsPes (unit_header id base0 u) false u.bytes) (is_none is) }
-    else record { packet = e.packet; found = begun_pes i (has_access u) (IsTruncated (take (carried_in (has_access u) (i ∷ is)) (pes_packet_bytes id base0 u))) false })
+    then record { packet = last_of i is; found = begun_pes i (has_pts u) (has_access u) (IsPes (unit_header id base0 u) false u.bytes) (is_none is) }
+    else record { packet = e.packet; found = begun_pes i (has_pts u) (has_access u) (IsTruncated (take (carried_in (has_access u) (i ∷ is)) (pes_packet_bytes id base0 u))) false })

@@ -228,11 +228,11 @@ through accepted again words a o files output read_again packets faults status a
       kept = done.kept;
       origins = job.found.same;
       time = λ number clock. job.description.base0 + 2 ^ 33 - constants.constant number clock;
-      units = λ own bytes_out short k s from is at.
+      units = λ own bytes_out short k s from is at stamped.
           joined_units_again again inputs j.origins o (as_joined_job job) (constants.constant from.input from.clock) refl m.all_slots bytes_out ranges
           job.serving (subst (λ (made : Bool). AreUnitsIn made inputs j.origins job.description job.units) own job.found) short k s
           (wire_units_in inputs from) is
-          (moved_in a.options.make_dts inputs constants.constant job.description j job.units own moved job.agree job.job.merged k s from is at);
+          (moved_in a.options.make_dts inputs constants.constant job.description j job.units own moved job.agree job.job.merged k s from is at) stamped;
     }
 
 pub the_file_pipe : JoinedAcceptedLaw → JoinedAgainLaw → TheFilePipe

@@ -18,6 +18,7 @@ use Rattle.stream_jobs.specs.declared.joined_inputs.Origin.{Origin}
 use Rattle.stream_jobs.specs.declared.program_clock.ProgramClock.{ProgramClock}
 use Rattle.stream_jobs.proofs.JoinedUnits.{at_place}
 use Rattle.laws_job.specs.JoinedLaws.{JoinedAgainLaw}
+use Rattle.laws_job.specs.Laws.{AllStamped}
 use Rattle.laws_job.proofs.AcceptedUnits.{stream_there}
 use Rattle.job_run.specs.Streams.{findings_of}
 use Rattle.tsmux_cli.specs.declared.request.MuxOptions.{MuxOptions}
@@ -49,8 +50,8 @@ pub joined_units_again : JoinedAgainLaw → (inputs : List (List FindingView)) (
     j.second ≡ None → o.slots ≡ None → o.hex ≡ false →
     IsInRange j.description → IsServing j.description j.plan → AreUnitsIn false inputs origins j.description j.units → greatest_dts j.units ≤ 2 ^ 40 →
     (k : ℕ) (s : DescribedStream) (wire : List AccessUnit) → slice_get j.description.streams k ≡ Some s → AreMoved wire base (units_of k j.units) →
-    AreLater (j.description.base0 + 2 ^ 33 - base) wire (wire_units s.pid (findings_of (packets_of o j)))
-joined_units_again law inputs origins o j base second all bytes ranges serving are short k s wire is moved =
+    AllStamped wire → AreLater (j.description.base0 + 2 ^ 33 - base) wire (wire_units s.pid (findings_of (packets_of o j)))
+joined_units_again law inputs origins o j base second all bytes ranges serving are short k s wire is moved stamped =
     ap (λ (xs : List ℕ). wire_units s.pid (findings_of xs)) (packets_are o j second bytes)
     ∙ law j.description j.plan inputs origins j.units (slots_of o j) k s wire base ranges serving are (slots_within o j all) is moved
-    (all_due o j k all ranges short)
+    (all_due o j k all ranges short) stamped

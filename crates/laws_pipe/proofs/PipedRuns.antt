@@ -161,10 +161,10 @@ through accepted again words a o bytes output job_again packets faults status as
       written = done.written;
       kept = done.kept;
       time = λ clock. job.description.base0 + 2 ^ 33 - constants.constant clock;
-      units = λ own bytes_out short k s is.
+      units = λ own bytes_out short k s is stamped.
           units_again again (findings_for a.options bytes) o (as_mux_job job) (constants.constant (clock_in input.programs s.program)) refl m.all_slots bytes_out ranges job.serving
           (subst (λ (made : Bool). AreUnits made (findings_for a.options bytes) job.description job.units) own job.found) short k s is
-          (moved_units a.options (findings_for a.options bytes) job.description input job.units constants own job.agree job.job.merged k s is);
+          (moved_units a.options (findings_for a.options bytes) job.description input job.units constants own job.agree job.job.merged k s is) stamped;
     }
 
 pub the_pipe : AcceptedLaw → FoundAgainLaw → ThePipe

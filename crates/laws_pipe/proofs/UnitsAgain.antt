@@ -20,7 +20,7 @@ use Rattle.stream_jobs.specs.Jobs.{AllAgree, AreUnits, IsEntry}
 use Rattle.stream_jobs.specs.JobStreams.{TimedStreamView}
 use Rattle.stream_jobs.specs.declared.program_clock.ProgramClock.{ProgramClock}
 use Rattle.stream_jobs.proofs.JobUnits.{stands_for}
-use Rattle.laws_job.specs.Laws.{AllDue, FoundAgainLaw, schedule_for}
+use Rattle.laws_job.specs.Laws.{AllDue, AllStamped, FoundAgainLaw, schedule_for}
 use Rattle.checked_jobs.specs.JobSchedules.{schedule_by}
 use Rattle.job_run.specs.Streams.{findings_of}
 use Rattle.tsmux_cli.specs.declared.request.MuxOptions.{MuxOptions}
@@ -95,7 +95,7 @@ slots_within o j all = omega (arith, all_slots o j all)
 pub units_again : FoundAgainLaw → (findings : List FindingView) (o : MuxOptions) (j : MuxJobView) (base : ℕ) → j.second ≡ None → o.slots ≡ None → o.hex ≡ false → IsInRange j.description →
     IsServing j.description j.plan → AreUnits false findings j.description j.units → greatest_dts j.units ≤ 2 ^ 40 →
     (k : ℕ) (s : DescribedStream) → slice_get j.description.streams k ≡ Some s → AreMoved (apart_wire_units s.pid findings) base (units_of k j.units) →
-    AreLater (j.description.base0 + 2 ^ 33 - base) (apart_wire_units s.pid findings) (wire_units s.pid (findings_of (packets_of o j)))
-units_again law findings o j base second all bytes ranges serving are short k s is moved =
+    AllStamped (apart_wire_units s.pid findings) → AreLater (j.description.base0 + 2 ^ 33 - base) (apart_wire_units s.pid findings) (wire_units s.pid (findings_of (packets_of o j)))
+units_again law findings o j base second all bytes ranges serving are short k s is moved stamped =
     ap (λ (xs : List ℕ). wire_units s.pid (findings_of xs)) (packets_are o j second bytes)
-    ∙ law j.description j.plan findings j.units (slots_of o j) k s base ranges serving are (slots_within o j all) is moved (all_due o j k all ranges short)
+    ∙ law j.description j.plan findings j.units (slots_of o j) k s base ranges serving are (slots_within o j all) is moved (all_due o j k all ranges short) stamped

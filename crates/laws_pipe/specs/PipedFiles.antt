@@ -20,6 +20,7 @@ use Rattle.job_run.specs.JobArguments.{JobArgumentsView}
 use Rattle.job_run.specs.SeveralInputs.{GivesJobIn, NamedStream, all_findings, all_joined, stream_inputs}
 use Rattle.job_run.specs.StreamFiles.{HasRead}
 use Rattle.job_run.specs.Streams.{findings_of}
+use Rattle.laws_job.specs.Laws.{AllStamped}
 use Rattle.tsjob_cli.specs.FileWords.{file_arguments, file_words}
 use Rattle.tsjob_cli.specs.NamedInputs.{ReadsFiles}
 use Rattle.tsmux_cli.specs.declared.request.MuxOptions.{MuxOptions}
@@ -82,12 +83,13 @@ pub record FilesGoThrough (a : JobArgumentsView) (o : MuxOptions) (files : Files
   -- it wrote its packets, which keep every promise
   pub written : Takes packets (packets_of o (as_joined_job job))
   pub kept : IsKept o (as_joined_job job)
-  -- each stream was found in one of the inputs; and in the packets a demultiplexer finds its units that it finds on its PID there, with the marks that
+  -- each stream was found in one of the inputs; and in the packets a demultiplexer finds its units, with a PTS, that it finds on its PID there, with the marks that
   -- are asked for, later by the time of the clock by which it counts there
   pub origins : length joined.origins ≡ length job.description.streams
   pub time : ℕ → ProgramClock → ℕ
   pub units : a.options.make_dts ≡ false → o.hex ≡ false → greatest_dts job.units ≤ 2 ^ 40 →
       (k : ℕ) (s : DescribedStream) (from : Origin) → slice_get job.description.streams k ≡ Some s → slice_get joined.origins k ≡ Some from →
+      AllStamped (wire_units_in (all_findings a.options streams) from) →
       AreLater (time from.input from.clock) (wire_units_in (all_findings a.options streams) from) (wire_units s.pid (findings_of (packets_of o (as_joined_job job))))
 
 abbrev pub TheFilePipe : Type 0

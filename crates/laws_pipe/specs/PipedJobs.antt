@@ -12,7 +12,7 @@ use Rattle.stream_jobs.specs.JobInput.{JobInputView, job_input}
 use Rattle.stream_jobs.specs.JobOptions.{JobOptionsView}
 use Rattle.stream_jobs.specs.JobPrograms.{clock_in}
 use Rattle.stream_jobs.specs.declared.program_clock.ProgramClock.{ProgramClock}
-use Rattle.laws_job.specs.Laws.{later_by}
+use Rattle.laws_job.specs.Laws.{AllStamped, later_by}
 use Rattle.devices.specs.Devices.{Device, Takes}
 use Rattle.devices.specs.Lines.{Reports}
 use Rattle.devices.specs.Runs.{Ends}
@@ -72,11 +72,11 @@ pub record GoesThrough (a : JobArgumentsView) (o : MuxOptions) (bytes output : L
   -- it wrote its packets, which keep every promise
   pub written : Takes packets (packets_of o (as_mux_job job))
   pub kept : IsKept o (as_mux_job job)
-  -- and in them a demultiplexer finds the units of each of its streams that it finds in the input, with the marks that are asked for, each of a data
+  -- and in them a demultiplexer finds the units of each of its streams with a PTS that it finds in the input, with the marks that are asked for, each of a data
   -- stream with a DTS of its own, later by the time of the clock of its program there
   pub time : ProgramClock → ℕ
   pub units : a.options.make_dts ≡ false → o.hex ≡ false → greatest_dts job.units ≤ 2 ^ 40 →
-      (k : ℕ) (s : DescribedStream) → slice_get job.description.streams k ≡ Some s →
+      (k : ℕ) (s : DescribedStream) → slice_get job.description.streams k ≡ Some s → AllStamped (apart_wire_units s.pid (findings_for a.options bytes)) →
       AreLater (time (clock_in input.programs s.program)) (apart_wire_units s.pid (findings_for a.options bytes)) (wire_units s.pid (findings_of (packets_of o (as_mux_job job))))
 
 abbrev pub ThePipe : Type 0

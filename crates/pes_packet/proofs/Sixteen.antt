@@ -23,4 +23,4 @@ has_sixteen None = tt
 has_sixteen (Some bytes) = sixteen_size bytes
 
 pub marks_have_sixteen : MarksHaveSixteen
-marks_have_sixteen access header = has_sixteen header.private_data
+marks_have_sixteen access unstamped header = has_sixteen header.private_data

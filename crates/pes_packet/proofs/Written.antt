@@ -5,15 +5,15 @@ use Rattle.std.proofs.lemmas.List.{length-append, length-replicate, take_at, dro
 use Rattle.bit_fields.specs.Fields.{IsBytes, bit, flag}
 use Rattle.bit_fields.proofs.ByteLists.{IsBytes-cons, IsBytes-nil, IsBytes-append}
 use Rattle.pes_packet.specs.StreamIds.{has_flags, is_unit_id, greatest_size, fits_packet}
-use Rattle.pes_packet.specs.Encoding.{pes_start_bytes, packet_length, stamp_bytes, on_wire, header_with, pts_header, pts_dts_header, pes_header_bytes}
+use Rattle.pes_packet.specs.Encoding.{pes_start_bytes, packet_length, stamp_bytes, on_wire, header_with, bare_header, pts_header, pts_dts_header, pes_header_bytes}
 use Rattle.pes_packet.specs.HeaderMarks.{header_marks}
 use Rattle.pes_packet.specs.Marks.{flag_bits, data_length, extension, first_sixteen, sixteen, stuffing}
 use Rattle.pes_packet.specs.PrivateData.{before_extension, private_at, private_in}
 use Rattle.pes_packet.specs.Reading.{header_at}
 use Rattle.pes_packet.specs.Syntax.{IsStamp, IsStamps, IsStart, IsFlags, IsPesHeader, stamp_flags}
-use Rattle.pes_packet.specs.Laws.{written_header, plain_header, HasSixteen, MarksAreRead, WrittenIsRead, WrittenIsHeader, HeaderSizes, HeaderCounts, WithoutMarks}
+use Rattle.pes_packet.specs.Laws.{header_of, written_header, plain_header, HasSixteen, MarksAreRead, WrittenIsRead, WrittenIsHeader, HeaderSizes, HeaderCounts, WithoutMarks}
 use Rattle.pes_packet.specs.declared.time_stamps.Stamps.{Stamps}
-use Rattle.pes_packet.specs.declared.time_stamps.Stamps.TheVariants.{Pts, PtsDts}
+use Rattle.pes_packet.specs.declared.time_stamps.Stamps.TheVariants.{Absent, Pts, PtsDts}
 use Rattle.pes_packet.specs.declared.reading.PesHeader.{PesHeader}
 use Rattle.pes_packet.specs.declared.marks.PesFlags.{PesFlags}
 use Rattle.pes_packet.specs.declared.marks.Marks.{Marks}
@@ -270,29 +270,21 @@ pts_dts_stands id size marks pts dts rest hi flagged hp hd =
     })
     (IsBytes-append (stamp_bytes 3 pts) (stamp_bytes 1 dts) (stamp_is_bytes 3 pts (omega arith) hp) (stamp_is_bytes 1 dts (omega arith) hd))
 
--- either header, by whether the stamps on the wire are one
-header_stands : (b : Bool) (id size : ℕ) (marks : Marks) (p d : ℕ) (rest : List ℕ) → id < 256 → has_flags id ≡ true → p < 2 ^ 33 → d < 2 ^ 33
-    → Stands (cond b (pts_header id size marks p) (pts_dts_header id size marks p d) ++ rest)
-    (cond b
-    (record {
-      id = id;
-      len = packet_length (3 + data_length marks 5 + size);
-      stamps = Pts p;
-      flags = marks.flags;
-      data_length = data_length marks 5;
-      private_data = option_map sixteen marks.private_data;
-    })
-    (record {
-      id = id;
-      len = packet_length (3 + data_length marks 10 + size);
-      stamps = PtsDts p d;
-      flags = marks.flags;
-      data_length = data_length marks 10;
-      private_data = option_map sixteen marks.private_data;
-    }))
-    (length (cond b (pts_header id size marks p) (pts_dts_header id size marks p d)))
-header_stands true id size marks p d rest hi flagged hp hd = pts_stands id size marks p rest hi flagged hp
-header_stands false id size marks p d rest hi flagged hp hd = pts_dts_stands id size marks p d rest hi flagged hp hd
+-- a header without a stamp
+bare_stands : (id size : ℕ) (marks : Marks) (rest : List ℕ) → id < 256 → has_flags id ≡ true
+    → Stands (bare_header id size marks ++ rest) (header_of id size marks Absent 0) (length (bare_header id size marks))
+unfolding bare_header
+bare_stands id size marks rest hi flagged =
+    with_stands id size marks 0x00 Absent [] rest hi flagged (omega arith) refl refl refl refl (omega arith) refl IsBytes-nil
+
+-- each of these headers, by whether there is no stamp, and whether the stamps on the wire are one
+header_stands : (bare b : Bool) (id size : ℕ) (marks : Marks) (p d : ℕ) (rest : List ℕ) → id < 256 → has_flags id ≡ true → p < 2 ^ 33 → d < 2 ^ 33
+    → Stands (cond bare (bare_header id size marks) (cond b (pts_header id size marks p) (pts_dts_header id size marks p d)) ++ rest)
+    (cond bare (header_of id size marks Absent 0) (cond b (header_of id size marks (Pts p) 5) (header_of id size marks (PtsDts p d) 10)))
+    (length (cond bare (bare_header id size marks) (cond b (pts_header id size marks p) (pts_dts_header id size marks p d))))
+header_stands true b id size marks p d rest hi flagged hp hd = bare_stands id size marks rest hi flagged
+header_stands false true id size marks p d rest hi flagged hp hd = pts_stands id size marks p rest hi flagged hp
+header_stands false false id size marks p d rest hi flagged hp hd = pts_dts_stands id size marks p d rest hi flagged hp hd
 
 -- the header of a unit is one
 pub written_stands : (id size : ℕ) (marks : Marks) (pts dts : ℕ) (rest : List ℕ) → IsTrue (fits_packet id size)
@@ -304,7 +296,7 @@ written_stands id size marks pts dts rest fits =
     let ids = unit_ids id parts.0 in
     let hp : on_wire pts < 2 ^ 33 = omega arith in
     let hd : on_wire dts < 2 ^ 33 = omega arith in
-    header_stands (on_wire pts == on_wire dts) id size marks (on_wire pts) (on_wire dts) rest (unit_id_below id ids) (flagged_ids id ids) hp hd
+    header_stands marks.unstamped (on_wire pts == on_wire dts) id size marks (on_wire pts) (on_wire dts) rest (unit_id_below id ids) (flagged_ids id ids) hp hd
 
 pub written_is_header : WrittenIsHeader
 written_is_header id size marks pts dts rest fits = (written_stands id size marks pts dts rest fits).is
@@ -319,66 +311,66 @@ unfolding header_with pes_start_bytes
 with_size id size marks second wire short =
     omega (arith, length-append wire (extension marks.private_data ++ stuffing marks (length wire)), filled_by marks.long marks.private_data (length wire) short)
 
-sizes : (b : Bool) (id size : ℕ) (marks : Marks) (p d : ℕ)
-    → length (cond b (pts_header id size marks p) (pts_dts_header id size marks p d)) ≡ cond b (9 + data_length marks 5) (9 + data_length marks 10)
-unfolding pts_header pts_dts_header stamp_bytes
-sizes true id size marks p d = with_size id size marks 0x80 (stamp_bytes 2 p) (omega arith)
-sizes false id size marks p d = with_size id size marks 0xC0 (stamp_bytes 3 p ++ stamp_bytes 1 d) (omega arith)
+sizes : (bare b : Bool) (id size : ℕ) (marks : Marks) (p d : ℕ)
+    → length (cond bare (bare_header id size marks) (cond b (pts_header id size marks p) (pts_dts_header id size marks p d)))
+    ≡ cond bare (9 + data_length marks 0) (cond b (9 + data_length marks 5) (9 + data_length marks 10))
+unfolding bare_header pts_header pts_dts_header stamp_bytes
+sizes true b id size marks p d = with_size id size marks 0x00 [] (omega arith)
+sizes false true id size marks p d = with_size id size marks 0x80 (stamp_bytes 2 p) (omega arith)
+sizes false false id size marks p d = with_size id size marks 0xC0 (stamp_bytes 3 p ++ stamp_bytes 1 d) (omega arith)
 
-size_is : (b long private : Bool) → cond b (9 + cond long 36 (5 + cond private 17 0)) (9 + cond long 36 (10 + cond private 17 0))
-    ≡ cond long 45 (cond b 14 19 + cond private 17 0)
-size_is true true private = refl
-size_is false true private = refl
-size_is true false true = refl
-size_is true false false = refl
-size_is false false true = refl
-size_is false false false = refl
+size_is : (bare b long private : Bool)
+    → cond bare (9 + cond long 36 (0 + cond private 17 0)) (cond b (9 + cond long 36 (5 + cond private 17 0)) (9 + cond long 36 (10 + cond private 17 0)))
+    ≡ cond long 45 (cond bare 9 (cond b 14 19) + cond private 17 0)
+size_is true b true private = refl
+size_is true b false true = refl
+size_is true b false false = refl
+size_is false true true private = refl
+size_is false false true private = refl
+size_is false true false true = refl
+size_is false true false false = refl
+size_is false false false true = refl
+size_is false false false false = refl
 
 pub header_sizes : HeaderSizes
 unfolding pes_header_bytes
 header_sizes id size marks pts dts =
-    sizes (on_wire pts == on_wire dts) id size marks (on_wire pts) (on_wire dts) ∙ size_is (on_wire pts == on_wire dts) marks.long (is_some marks.private_data)
+    sizes marks.unstamped (on_wire pts == on_wire dts) id size marks (on_wire pts) (on_wire dts)
+    ∙ size_is marks.unstamped (on_wire pts == on_wire dts) marks.long (is_some marks.private_data)
 
-count_fits : (b long private : Bool) (size : ℕ) → size + cond long 26 (cond private 17 0) ≤ 65_522
-    → 6 + cond b (packet_length (3 + cond long 36 (5 + cond private 17 0) + size)) (packet_length (3 + cond long 36 (10 + cond private 17 0) + size))
-    ≡ cond long 45 (cond b 14 19 + cond private 17 0) + size
-count_fits true true private size h = omega (arith, packet_length_all (3 + 36 + size) (omega arith))
-count_fits false true private size h = omega (arith, packet_length_all (3 + 36 + size) (omega arith))
-count_fits true false true size h = omega (arith, packet_length_all (3 + 22 + size) (omega arith))
-count_fits true false false size h = omega (arith, packet_length_all (3 + 5 + size) (omega arith))
-count_fits false false true size h = omega (arith, packet_length_all (3 + 27 + size) (omega arith))
-count_fits false false false size h = omega (arith, packet_length_all (3 + 10 + size) (omega arith))
+-- PES_packet_length of a header with n bytes of stamps
+count_with : (n : ℕ) (long private : Bool) (size : ℕ) → n ≤ 10 → size + cond long 26 (cond private 17 0) ≤ 65_522
+    → 6 + packet_length (3 + cond long 36 (n + cond private 17 0) + size) ≡ cond long 45 (9 + n + cond private 17 0) + size
+count_with n true private size short h = omega (arith, packet_length_all (3 + 36 + size) (omega arith))
+count_with n false true size short h = omega (arith, packet_length_all (3 + (n + 17) + size) (omega arith))
+count_with n false false size short h = omega (arith, packet_length_all (3 + (n + 0) + size) (omega arith))
+
+count_fits : (bare b long private : Bool) (size : ℕ) → size + cond long 26 (cond private 17 0) ≤ 65_522
+    → 6 + cond bare (packet_length (3 + cond long 36 (0 + cond private 17 0) + size))
+    (cond b (packet_length (3 + cond long 36 (5 + cond private 17 0) + size)) (packet_length (3 + cond long 36 (10 + cond private 17 0) + size)))
+    ≡ cond long 45 (cond bare 9 (cond b 14 19) + cond private 17 0) + size
+count_fits true b long private size h = count_with 0 long private size (omega arith) h
+count_fits false true long private size h = count_with 5 long private size (omega arith) h
+count_fits false false long private size h = count_with 10 long private size (omega arith) h
 
 -- without what the field takes
 less_field : (header : ℕ) (access : Bool) (size : ℕ) → size + (header + cond access 2 0) ≤ 65_522 → size + header ≤ 65_522
 less_field header true size h = omega (arith, h)
 less_field header false size h = omega (arith, h)
 
-length_written : (b : Bool) (x y : PesHeader) → (cond b x y).len ≡ cond b x.len y.len
-length_written true x y = refl
-length_written false x y = refl
+length_written : (bare b : Bool) (x y z : PesHeader) → (cond bare x (cond b y z)).len ≡ cond bare x.len (cond b y.len z.len)
+length_written true b x y z = refl
+length_written false true x y z = refl
+length_written false false x y z = refl
 
 pub header_counts : HeaderCounts
 unfolding written_header
 header_counts id size marks pts dts h =
-    let pts_alone : PesHeader = record {
-      id = id;
-      len = packet_length (3 + data_length marks 5 + size);
-      stamps = Pts (on_wire pts);
-      flags = marks.flags;
-      data_length = data_length marks 5;
-      private_data = option_map sixteen marks.private_data;
-    } in
-    let with_dts : PesHeader = record {
-      id = id;
-      len = packet_length (3 + data_length marks 10 + size);
-      stamps = PtsDts (on_wire pts) (on_wire dts);
-      flags = marks.flags;
-      data_length = data_length marks 10;
-      private_data = option_map sixteen marks.private_data;
-    } in
-    ap (λ (n : ℕ). 6 + n) (length_written (on_wire pts == on_wire dts) pts_alone with_dts)
-    ∙ count_fits (on_wire pts == on_wire dts) marks.long (is_some marks.private_data) size
+    let bare : PesHeader = header_of id size marks Absent 0 in
+    let pts_alone : PesHeader = header_of id size marks (Pts (on_wire pts)) 5 in
+    let with_dts : PesHeader = header_of id size marks (PtsDts (on_wire pts) (on_wire dts)) 10 in
+    ap (λ (n : ℕ). 6 + n) (length_written marks.unstamped (on_wire pts == on_wire dts) bare pts_alone with_dts)
+    ∙ count_fits marks.unstamped (on_wire pts == on_wire dts) marks.long (is_some marks.private_data) size
     (less_field (cond marks.long 26 (cond (is_some marks.private_data) 17 0)) marks.random_access size h)
     ∙ ap (λ (n : ℕ). n + size) (sym (header_sizes id size marks pts dts))
 
@@ -387,38 +379,33 @@ unfolding pes_header_bytes pts_header pts_dts_header header_with pes_start_bytes
 without_marks id size pts dts = refl
 
 -- 36 bytes of header data are of a long header alone
-long_of_pts : (long private : Bool) → (cond long 36 (5 + cond private 17 0) == 36) ≡ long
-long_of_pts true private = refl
-long_of_pts false true = refl
-long_of_pts false false = refl
-
-long_of_both : (long private : Bool) → (cond long 36 (10 + cond private 17 0) == 36) ≡ long
-long_of_both true private = refl
-long_of_both false true = refl
-long_of_both false false = refl
+long_of : (n : ℕ) (long private : Bool) → n ≤ 10 → (cond long 36 (n + cond private 17 0) == 36) ≡ long
+long_of n true private short = refl
+long_of n false true short = ne_eqb (n + 17) 36 (λ e. omega arith)
+long_of n false false short = ne_eqb (n + 0) 36 (λ e. omega arith)
 
 twice : (private : Option (List ℕ)) → IfSome private (λ bytes. length bytes ≡ 16) → option_map sixteen (option_map sixteen private) ≡ private
 twice private h = same_private (option_map sixteen private) (has_sixteen private) ∙ same_private private h
 
 -- marks by what a header says
 marks_by : (marks : Marks) (long : Bool) (private : Option (List ℕ)) → long ≡ marks.long → private ≡ marks.private_data
-    → ◌≡◌ {A = Marks} (record { random_access = marks.random_access; flags = marks.flags; long = long; private_data = private }) marks
+    → ◌≡◌ {A = Marks} (record { random_access = marks.random_access; flags = marks.flags; long = long; unstamped = marks.unstamped; private_data = private }) marks
 marks_by marks long private el ep = rw (el, ep) refl
 
-either_marks : (b : Bool) (marks : Marks) (id l m : ℕ) (s t : Stamps) → HasSixteen marks
-    → header_marks marks.random_access (cond b
-    (record { id = id; len = l; stamps = s; flags = marks.flags; data_length = data_length marks 5; private_data = option_map sixteen marks.private_data })
-    (record { id = id; len = m; stamps = t; flags = marks.flags; data_length = data_length marks 10; private_data = option_map sixteen marks.private_data }))
+marks_with : (marks : Marks) (id size : ℕ) (stamps : Stamps) (n : ℕ) → n ≤ 10 → HasSixteen marks
+    → header_marks marks.random_access marks.unstamped (header_of id size marks stamps n) ≡ marks
+marks_with marks id size stamps n short h =
+    marks_by marks (data_length marks n == 36) (option_map sixteen (option_map sixteen marks.private_data))
+    (long_of n marks.long (is_some marks.private_data) short) (twice marks.private_data h)
+
+each_marks : (bare b : Bool) (marks : Marks) (id size : ℕ) (p d : ℕ) → HasSixteen marks
+    → header_marks marks.random_access marks.unstamped
+    (cond bare (header_of id size marks Absent 0) (cond b (header_of id size marks (Pts p) 5) (header_of id size marks (PtsDts p d) 10)))
     ≡ marks
-either_marks true marks id l m s t h =
-    marks_by marks (data_length marks 5 == 36) (option_map sixteen (option_map sixteen marks.private_data))
-    (long_of_pts marks.long (is_some marks.private_data)) (twice marks.private_data h)
-either_marks false marks id l m s t h =
-    marks_by marks (data_length marks 10 == 36) (option_map sixteen (option_map sixteen marks.private_data))
-    (long_of_both marks.long (is_some marks.private_data)) (twice marks.private_data h)
+each_marks true b marks id size p d h = marks_with marks id size Absent 0 (omega arith) h
+each_marks false true marks id size p d h = marks_with marks id size (Pts p) 5 (omega arith) h
+each_marks false false marks id size p d h = marks_with marks id size (PtsDts p d) 10 (omega arith) h
 
 pub marks_are_read : MarksAreRead
 unfolding written_header
-marks_are_read id size marks pts dts h =
-    either_marks (on_wire pts == on_wire dts) marks id (packet_length (3 + data_length marks 5 + size)) (packet_length (3 + data_length marks 10 + size))
-    (Pts (on_wire pts)) (PtsDts (on_wire pts) (on_wire dts)) h
+marks_are_read id size marks pts dts h = each_marks marks.unstamped (on_wire pts == on_wire dts) marks id size (on_wire pts) (on_wire dts) h

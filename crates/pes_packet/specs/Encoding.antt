@@ -1,5 +1,6 @@
 -- What is written (ISO/IEC 13818-1, 2.4.3.6 and 2.4.3.7): the flags of a unit in the first flag byte, then 80 and a PTS, or C0,
--- a PTS and a DTS, and one more with a PES extension of PES_private_data; 45 bytes where the unit asks for a long header.
+-- a PTS and a DTS, or 00 where the unit asks for no stamp, and one more with a PES extension of PES_private_data; 45 bytes where the unit
+-- asks for a long header.
 use Rattle.std.specs.Prelude.{ℕ, ◌+◌, ◌*◌, ◌/◌, ◌%◌, ◌^◌, ◌==◌, nat_le, if◌then◌else◌, is_some, List, [], ◌∷◌, ◌++◌, length}
 use Rattle.bit_fields.specs.Fields.{bit}
 use Rattle.pes_packet.specs.AccessUnits.{AccessUnit}
@@ -40,15 +41,21 @@ pts_header id size marks pts = header_with id size marks 0x80 (stamp_bytes 2 pts
 unfoldable pub pts_dts_header : ℕ → ℕ → Marks → ℕ → ℕ → List ℕ
 pts_dts_header id size marks pts dts = header_with id size marks 0xC0 (stamp_bytes 3 pts ++ stamp_bytes 1 dts)
 
--- the header of a unit: a DTS exactly where the two stamps on the wire differ
+-- a header without a stamp
+unfoldable pub bare_header : ℕ → ℕ → Marks → List ℕ
+bare_header id size marks = header_with id size marks 0x00 []
+
+-- the header of a unit: no stamp if it asks for none, else a DTS exactly where the two stamps on the wire differ
 unfoldable pub pes_header_bytes : ℕ → ℕ → Marks → ℕ → ℕ → List ℕ
 pes_header_bytes id size marks pts dts =
-    if on_wire pts == on_wire dts then pts_header id size marks (on_wire pts)
-    else pts_dts_header id size marks (on_wire pts) (on_wire dts)
+    if marks.unstamped then bare_header id size marks
+    else (if on_wire pts == on_wire dts then pts_header id size marks (on_wire pts)
+    else pts_dts_header id size marks (on_wire pts) (on_wire dts))
 
 -- the size in bytes of the header of a unit
 abbrev pub header_size : Marks → ℕ → ℕ → ℕ
-header_size marks pts dts = if marks.long then 45 else ((if on_wire pts == on_wire dts then 14 else 19) + extension_size marks)
+header_size marks pts dts =
+    if marks.long then 45 else ((if marks.unstamped then 9 else (if on_wire pts == on_wire dts then 14 else 19)) + extension_size marks)
 
 -- the PES packet of a unit, header and bytes, its stamps moved by the first value of the program clock reference
 unfoldable pub pes_packet_bytes : ℕ → ℕ → AccessUnit → List ℕ

@@ -9,30 +9,28 @@ use Rattle.pes_packet.specs.Encoding.{packet_length, on_wire, pes_start_bytes, s
 use Rattle.pes_packet.specs.Syntax.{IsPesHeader}
 use Rattle.pes_packet.specs.Payloads.{pieces, piece_count, part_of, unit_pieces}
 use Rattle.pes_packet.specs.declared.refusal.PesError.TheVariants.{Short}
-use Rattle.pes_packet.specs.declared.time_stamps.Stamps.TheVariants.{Pts, PtsDts}
+use Rattle.pes_packet.specs.declared.time_stamps.Stamps.TheVariants.{Absent, Pts, PtsDts}
+use Rattle.pes_packet.specs.declared.time_stamps.Stamps.{Stamps}
 use Rattle.pes_packet.specs.declared.reading.PesHeader.{PesHeader}
 use Rattle.pes_packet.specs.declared.marks.Marks.{Marks}
 
--- the header that is written for a unit, as it is read: a DTS exactly where the stamps on the wire differ
+-- a header with these stamps, of so many bytes, as it is read
+abbrev pub header_of : ℕ → ℕ → Marks → Stamps → ℕ → PesHeader
+header_of id size marks stamps n = record {
+  id = id;
+  len = packet_length (3 + data_length marks n + size);
+  stamps = stamps;
+  flags = marks.flags;
+  data_length = data_length marks n;
+  private_data = option_map sixteen marks.private_data;
+}
+
+-- the header that is written for a unit, as it is read: no stamp if the unit asks for none, else a DTS exactly where the stamps on the wire differ
 unfoldable pub written_header : ℕ → ℕ → Marks → ℕ → ℕ → PesHeader
 written_header id size marks pts dts =
-    if on_wire pts == on_wire dts
-    then record {
-      id = id;
-      len = packet_length (3 + data_length marks 5 + size);
-      stamps = Pts (on_wire pts);
-      flags = marks.flags;
-      data_length = data_length marks 5;
-      private_data = option_map sixteen marks.private_data;
-    }
-    else record {
-      id = id;
-      len = packet_length (3 + data_length marks 10 + size);
-      stamps = PtsDts (on_wire pts) (on_wire dts);
-      flags = marks.flags;
-      data_length = data_length marks 10;
-      private_data = option_map sixteen marks.private_data;
-    }
+    if marks.unstamped then header_of id size marks Absent 0
+    else (if on_wire pts == on_wire dts then header_of id size marks (Pts (on_wire pts)) 5
+    else header_of id size marks (PtsDts (on_wire pts) (on_wire dts)) 10)
 
 -- a written header, whatever follows it, is read again as the same value
 abbrev pub WrittenIsRead : Type 0
@@ -55,13 +53,13 @@ HasSixteen marks = IfSome marks.private_data (λ bytes. length bytes ≡ 16)
 abbrev pub MarksAreRead : Type 0
 MarksAreRead =
     (id size : ℕ) (marks : Marks) (pts dts : ℕ) → HasSixteen marks
-    → header_marks marks.random_access (written_header id size marks pts dts) ≡ marks
+    → header_marks marks.random_access marks.unstamped (written_header id size marks pts dts) ≡ marks
 
 -- whatever header it is
 abbrev pub MarksHaveSixteen : Type 0
-MarksHaveSixteen = (access : Bool) (header : PesHeader) → HasSixteen (header_marks access header)
+MarksHaveSixteen = (access unstamped : Bool) (header : PesHeader) → HasSixteen (header_marks access unstamped header)
 
--- a written header has 45 bytes where it is long, else 14, or 19 with a DTS, and 17 more with PES_private_data
+-- a written header has 45 bytes where it is long, else 9 without a stamp, 14, or 19 with a DTS, and 17 more with PES_private_data
 abbrev pub HeaderSizes : Type 0
 HeaderSizes = (id size : ℕ) (marks : Marks) (pts dts : ℕ) → length (pes_header_bytes id size marks pts dts) ≡ header_size marks pts dts
 

@@ -10,7 +10,7 @@ no_flags = record { priority = false; aligned = false; copyright = false; origin
 
 -- nothing beside the stamps
 abbrev pub no_marks : Marks
-no_marks = record { random_access = false; flags = no_flags; long = false; private_data = None }
+no_marks = record { random_access = false; flags = no_flags; long = false; unstamped = false; private_data = None }
 
 -- the flags in the lowest four bits of the first flag byte: PES_priority, data_alignment_indicator, copyright, original_or_copy
 abbrev pub flags_in : ℕ → PesFlags

@@ -24,8 +24,8 @@ pub fn marks_have_sixteen()
     ensures { MarksHaveSixteen }
 {}
 
-/// States that a header that `write_header` writes has 45 bytes where it is long, else 14, or 19 with a DTS, and 17 more
-/// with PES_private_data.
+/// States that a header that `write_header` writes has 45 bytes where it is long, else 9 without a stamp, 14, or 19 with a
+/// DTS, and 17 more with PES_private_data.
 pub fn header_sizes()
     ensures { HeaderSizes }
 {}

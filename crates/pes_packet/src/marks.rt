@@ -59,6 +59,8 @@ pub struct Marks {
     pub flags: PesFlags,
     /// Whether its PES header has 45 bytes, stuffed after the stamps, as EN 300 472 and EN 301 775 want it.
     pub long: bool,
+    /// Whether its PES header has no stamp (PTS_DTS_flags 00): data that is due when it comes.
+    pub unstamped: bool,
     /// PES_private_data of its PES header, as the AD_descriptor of an audio description (TS 101 154, annex E).
     pub private_data: Option<[u8; 16]>,
 }
@@ -69,6 +71,7 @@ impl Marks {
         random_access: false,
         flags: PesFlags::NONE,
         long: false,
+        unstamped: false,
         private_data: None,
     };
 

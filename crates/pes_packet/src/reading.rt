@@ -35,14 +35,15 @@ pub struct PesHeader {
 
 impl PesHeader {
     /// Gives the marks that the header says: its flags, whether it has 45 bytes, and PES_private_data; the
-    /// random_access_indicator is its packet's.
-    pub fn marks(&self, random_access: bool) -> Marks
-        ensures { result ≡ header_marks random_access self.now }
+    /// random_access_indicator is its packet's, and `unstamped` says that no stamp was read.
+    pub fn marks(&self, random_access: bool, unstamped: bool) -> Marks
+        ensures { result ≡ header_marks random_access unstamped self.now }
     {
         Marks {
             random_access,
             flags: self.flags,
             long: self.data_length == 36,
+            unstamped,
             private_data: exactly(self.private_data),
         }
     }

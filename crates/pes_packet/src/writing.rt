@@ -3,7 +3,7 @@
 ghost use Rattle.std.specs.Prelude.{◌≡◌, ◌<◌, ◌≤◌, ◌+◌, ◌++◌, ◌^◌, ℕ, length, replicate, IsTrue};
 ghost use Rattle.arrayvec.specs.ArrayVec.{array_vec_len};
 ghost use Rattle.pes_packet.specs.StreamIds.{fits_packet};
-ghost use Rattle.pes_packet.specs.Encoding.{on_wire, pes_start_bytes, packet_length, header_with, pts_header, pts_dts_header};
+ghost use Rattle.pes_packet.specs.Encoding.{on_wire, pes_start_bytes, packet_length, header_with, bare_header, pts_header, pts_dts_header};
 ghost use Rattle.pes_packet.specs.Encoding.{pes_header_bytes, pes_packet_bytes};
 
 use crate::access_unit::Unit;
@@ -27,7 +27,7 @@ pub fn on_wire(base0: u64, stamp: u64) -> u64
 #[tactic(auto, unfolding(crate::specs::Encoding::pes_packet_bytes))]
 pub fn packet_size<A: Allocator>(base0: u64, unit: &Unit<A>) -> u64
     ensures size { (id : ℕ) → result ≡ length (pes_packet_bytes id base0 unit.now) }
-    ensures least { 14 ≤ result }
+    ensures least { 9 ≤ result }
     ensures most { result < 2 ^ 63 + 45 }
 {
     header_sizes();
@@ -35,7 +35,9 @@ pub fn packet_size<A: Allocator>(base0: u64, unit: &Unit<A>) -> u64
     if unit.marks.long {
         return 45 + size;
     }
-    let header = if on_wire(base0, unit.pts) == on_wire(base0, unit.dts) {
+    let header = if unit.marks.unstamped {
+        9
+    } else if on_wire(base0, unit.pts) == on_wire(base0, unit.dts) {
         14
     } else {
         19
@@ -44,9 +46,10 @@ pub fn packet_size<A: Allocator>(base0: u64, unit: &Unit<A>) -> u64
 }
 
 /// Writes the header of a PES packet: stream_id `id`, a unit of `size` bytes with its marks, its stamps in
-/// units of 90 kHz, each modulo 2^33. A DTS is written exactly where the two stamps on the wire differ, so
-/// the header has 14 bytes or 19, and 17 more with PES_private_data, or 45 where the marks ask for a long one. PES_packet_length is 0 where 16
-/// bits do not count the packet: if the unit and what its marks take have at most 65,522 bytes, they do.
+/// units of 90 kHz, each modulo 2^33. No stamp is written where the marks ask for none, else a DTS exactly where the two
+/// stamps on the wire differ, so the header has 9 bytes, 14 or 19, and 17 more with PES_private_data, or 45 where the marks
+/// ask for a long one. PES_packet_length is 0 where 16 bits do not count the packet: if the unit and what its marks take
+/// have at most 65,522 bytes, they do.
 /// `fits_packet` tests the requirements.
 #[tactic(auto, unfolding(crate::specs::Encoding::pes_header_bytes))]
 pub fn write_header(id: u8, size: usize, marks: Marks, pts: u64, dts: u64) -> ArrayVec<u8, 45>
@@ -55,7 +58,9 @@ pub fn write_header(id: u8, size: usize, marks: Marks, pts: u64, dts: u64) -> Ar
 {
     let pts = pts % STAMP_MODULUS;
     let dts = dts % STAMP_MODULUS;
-    if pts == dts {
+    if marks.unstamped {
+        bare_header(id, size, marks)
+    } else if pts == dts {
         pts_header(id, size, marks, pts)
     } else {
         pts_dts_header(id, size, marks, pts, dts)
@@ -80,12 +85,12 @@ fn pes_start_bytes(id: u8, len: u16) -> [u8; 6]
 }
 
 // Stuffing bytes of any number that a header has.
-const STUFFING: [u8; 31] = [0xff; 31];
+const STUFFING: [u8; 36] = [0xff; 36];
 
 // Appends stuffing bytes.
 fn append_stuffing(header: &mut ArrayVec<u8, 45>, count: usize)
     requires room { array_vec_len header.old + count ≤ 45 }
-    requires most { count ≤ 31 }
+    requires most { count ≤ 36 }
     ensures items { header.new.items ≡ header.old.items ++ replicate count 0xFF }
     ensures len { array_vec_len header.new ≡ array_vec_len header.old + count }
 {
@@ -97,8 +102,7 @@ fn append_stuffing(header: &mut ArrayVec<u8, 45>, count: usize)
 fn header_with(id: u8, size: usize, marks: Marks, second: u8, stamps: &[u8]) -> ArrayVec<u8, 45>
     requires size { size ≤ 4_000_000 }
     requires second { second < 255 }
-    requires lower { 5 ≤ length stamps.now }
-    requires upper { length stamps.now ≤ 10 }
+    requires stamps { length stamps.now ≤ 10 }
     ensures { result.items ≡ header_with id size marks second stamps.now }
 {
     let first = 0x80 + marks.flags.bits();
@@ -122,6 +126,15 @@ fn header_with(id: u8, size: usize, marks: Marks, second: u8, stamps: &[u8]) -> 
     append(&mut header, stamps);
     append(&mut header, extension.as_slice());
     header
+}
+
+// A header without a stamp.
+#[tactic(auto, unfolding(crate::specs::Encoding::bare_header))]
+fn bare_header(id: u8, size: usize, marks: Marks) -> ArrayVec<u8, 45>
+    requires { size ≤ 4_000_000 }
+    ensures { result.items ≡ bare_header id size marks }
+{
+    header_with(id, size, marks, 0x00, &[])
 }
 
 // A header with a PTS alone.

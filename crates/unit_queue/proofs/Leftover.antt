@@ -13,27 +13,29 @@ use Rattle.unit_timing.specs.Schedule.{first_slot as first_own_slot}
 use Rattle.unit_queue.specs.OwnedStreams.{OwnedStream, pes_bytes, packet_count, first_slot, end_slot}
 use Rattle.unit_queue.specs.Places.{place_at, left_at}
 
--- a header has 14 bytes or more, so that each unit has a packet
-some_by : (long same : Bool) (more : ℕ) → 14 ≤ cond long 45 (cond same 14 19 + more)
-some_by true same more = omega arith
-some_by false true more = omega arith
-some_by false false more = omega arith
+-- a header has 9 bytes or more, so that each unit has a packet
+some_by : (long bare same : Bool) (more : ℕ) → 9 ≤ cond long 45 (cond bare 9 (cond same 14 19) + more)
+some_by true bare same more = omega arith
+some_by false true same more = omega arith
+some_by false false true more = omega arith
+some_by false false false more = omega arith
 
-header_some : (marks : Marks) (pts dts : ℕ) → 14 ≤ header_size marks pts dts
-header_some marks pts dts = some_by marks.long (on_wire pts == on_wire dts) (extension_size marks)
+header_some : (marks : Marks) (pts dts : ℕ) → 9 ≤ header_size marks pts dts
+header_some marks pts dts = some_by marks.long marks.unstamped (on_wire pts == on_wire dts) (extension_size marks)
 
-most_by : (long same : Bool) (more : ℕ) → cond long 45 (cond same 14 19 + more) ≤ 19 + cond long 26 more
-most_by true same more = omega arith
-most_by false true more = omega arith
-most_by false false more = omega arith
+most_by : (long bare same : Bool) (more : ℕ) → cond long 45 (cond bare 9 (cond same 14 19) + more) ≤ 19 + cond long 26 more
+most_by true bare same more = omega arith
+most_by false true same more = omega arith
+most_by false false true more = omega arith
+most_by false false false more = omega arith
 
 -- with what is in front of it, it has at most 19 bytes, and what the marks take
 pub header_most : (id size : ℕ) (marks : Marks) (pts dts : ℕ) → field_size marks.random_access + length (pes_header_bytes id size marks pts dts) ≤ 19 + marks_size marks
 header_most id size marks pts dts =
-    let most : header_size marks pts dts ≤ 19 + cond marks.long 26 (extension_size marks) = most_by marks.long (on_wire pts == on_wire dts) (extension_size marks) in
+    let most : header_size marks pts dts ≤ 19 + cond marks.long 26 (extension_size marks) = most_by marks.long marks.unstamped (on_wire pts == on_wire dts) (extension_size marks) in
     omega (arith, header_sizes id size marks pts dts, most)
 
-pub text_some : (l : OwnedStream) (u : AccessUnit) → 14 ≤ length (pes_bytes l u)
+pub text_some : (l : OwnedStream) (u : AccessUnit) → 9 ≤ length (pes_bytes l u)
 unfolding pes_packet_bytes
 text_some l u =
     let header = pes_header_bytes l.parameters.stream_id (length u.bytes) u.marks (u.pts + l.parameters.base0) (u.dts + l.parameters.base0) in

@@ -1,6 +1,6 @@
 -- Records of access units: stream 1 byte, marks 1, size 3, DTS 8, PTS 8, the highest byte first, then PES_private_data, if it is a mark, and
 -- the unit's bytes; the size counts both.
-use Rattle.std.specs.Prelude.{◌≡◌, ◌≤◌, ◌<◌, ℕ, ◌+◌, ◌-◌, ◌*◌, ◌/◌, ◌%◌, ◌^◌, ◌==◌, ◌&&◌, nat_le, nat_lt, Bool, if◌then◌else◌, List, [], ◌∷◌, ◌++◌, length, take, drop, slice_index, Option, Some, None, is_some, Result, Ok, Err}
+use Rattle.std.specs.Prelude.{◌≡◌, ◌≤◌, ◌<◌, ℕ, ◌+◌, ◌-◌, ◌*◌, ◌/◌, ◌%◌, ◌^◌, ◌==◌, nat_le, nat_lt, Bool, if◌then◌else◌, List, [], ◌∷◌, ◌++◌, length, take, drop, slice_index, Option, Some, None, is_some, Result, Ok, Err}
 use Rattle.byteorder.specs.Endian.{big_number, big_bytes}
 use Rattle.counted_io.specs.Device.{Failed}
 use Rattle.bit_fields.specs.Fields.{bit, flag}
@@ -18,10 +18,10 @@ head_size = 21
 abbrev pub max_unit_size : ℕ
 max_unit_size = 4_000_000
 
--- the marks of a unit in one byte: 0x40 the random_access_indicator, the bit that it has in an adaptation field, 0x20 PES_private_data, 0x10 a
--- header of 45 bytes, the four flags as in the first flag byte of a PES header
+-- the marks of a unit in one byte: 0x80 a header without a stamp, 0x40 the random_access_indicator, the bit that it has in an adaptation field,
+-- 0x20 PES_private_data, 0x10 a header of 45 bytes, the four flags as in the first flag byte of a PES header
 abbrev pub marks_byte : Marks → ℕ
-marks_byte marks = bit marks.random_access * 64 + bit (is_some marks.private_data) * 32 + bit marks.long * 16 + flag_bits marks.flags
+marks_byte marks = bit marks.unstamped * 128 + bit marks.random_access * 64 + bit (is_some marks.private_data) * 32 + bit marks.long * 16 + flag_bits marks.flags
 
 -- the bytes of PES_private_data in a record
 abbrev pub private_bytes : Option (List ℕ) → List ℕ
@@ -38,6 +38,7 @@ marks_in byte bytes = record {
   random_access = flag byte 64;
   flags = flags_in byte;
   long = flag byte 16;
+  unstamped = flag byte 128;
   private_data = if flag byte 32 then first_sixteen bytes else None;
 }
 
@@ -53,13 +54,13 @@ word_of marks size = if nat_lt size (2 ^ 24) then marks_byte marks * 2 ^ 24 + si
 abbrev pub least_size : ℕ → ℕ
 least_size byte = if flag byte 32 then 17 else 1
 
--- each bit of the byte of marks that is set says something, and the bytes are enough
-abbrev pub is_known : ℕ → Bool
-is_known word = nat_lt (word / 2 ^ 24) 128 && nat_le (least_size (word / 2 ^ 24)) (word % 2 ^ 24)
+-- the bytes are enough for the marks
+abbrev pub is_enough : ℕ → Bool
+is_enough word = nat_le (least_size (word / 2 ^ 24)) (word % 2 ^ 24)
 
--- the size in a word; the whole word, which is 0 or over each size, if a bit that says nothing is set or the unit has no bytes
+-- the size in a word; the whole word, which is 0 or over each size, if the unit has no bytes
 unfoldable pub size_in : ℕ → ℕ
-size_in word = if is_known word then word % 2 ^ 24 else word
+size_in word = if is_enough word then word % 2 ^ 24 else word
 
 -- the word of a record
 abbrev pub word_at : List ℕ → ℕ

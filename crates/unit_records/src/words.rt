@@ -9,11 +9,10 @@ use std::alloc::Allocator;
 /// The number of sizes that three bytes name.
 const SIZES: u32 = 1 << 24;
 
-/// Gives the byte of marks of a record: 0x40 the random_access_indicator, 0x20 PES_private_data, 0x10 a PES header of 45
-/// bytes, the four flags as in the first flag byte of a PES header.
+/// Gives the byte of marks of a record: 0x80 a PES header without a stamp, 0x40 the random_access_indicator, 0x20
+/// PES_private_data, 0x10 a PES header of 45 bytes, the four flags as in the first flag byte of a PES header.
 pub fn marks_byte(marks: Marks) -> u8
-    ensures value { result ≡ marks_byte marks }
-    ensures below { result < 128 }
+    ensures { result ≡ marks_byte marks }
 {
     let flags = marks.flags.bits();
     let header = if marks.long { 16 + flags } else { flags };
@@ -22,10 +21,15 @@ pub fn marks_byte(marks: Marks) -> u8
     } else {
         header
     };
-    if marks.random_access {
+    let access = if marks.random_access {
         64 + private
     } else {
         private
+    };
+    if marks.unstamped {
+        128 + access
+    } else {
+        access
     }
 }
 
@@ -49,15 +53,15 @@ pub(crate) fn word_of(marks: Marks, size: u64) -> u32
     }
 }
 
-/// Gives the size in a word, or the word itself where a bit of its highest byte says nothing, or a unit without bytes
-/// has marks: then it is over each size that is read.
+/// Gives the size in a word, or the word itself where a unit without bytes has marks: then it is over each size that is
+/// read.
 #[tactic(auto, unfolding(crate::specs::Records::size_in))]
 pub fn size_in(word: u32) -> usize
     ensures { result ≡ size_in word }
 {
     let size = word % SIZES;
     let byte = word / SIZES;
-    if byte < 128 && least_size(byte as u8) <= size {
+    if least_size(byte as u8) <= size {
         size as usize
     } else {
         word as usize
@@ -98,6 +102,7 @@ pub(crate) fn parted<A: Allocator>(byte: u8, bytes: Vec<u8, A>) -> (Marks, Vec<u
         random_access: byte >> 6 & 1 == 1,
         flags: PesFlags::from_bits(byte),
         long: byte >> 4 & 1 == 1,
+        unstamped: byte >> 7 == 1,
         private_data: None,
     };
     if byte >> 5 & 1 == 1 {

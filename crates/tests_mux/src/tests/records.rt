@@ -31,7 +31,7 @@ fn rule(bytes: &[u8]) -> Result<Option<Parts<'_>>, UnitFileError> {
         return Ok(None);
     };
     let (marks, size) = (number_at(bytes, 1, 2), number_at(bytes, 2, 5));
-    let refused = size > 4_000_000 || marks & 0xa0 != 0 || marks != 0 && size == 0;
+    let refused = size > 4_000_000 || marks & 0x20 != 0 || marks != 0 && size == 0;
     if bytes.len() >= 5 && refused {
         return Err(UnitFileError::Size);
     }
@@ -58,6 +58,7 @@ fn after<'a>(bytes: &'a [u8], parts: &Parts<'a>) -> &'a [u8] {
 /// Returns the byte of these marks.
 fn byte_of(marks: Marks) -> u8 {
     let flags = [
+        (marks.unstamped, 128),
         (marks.random_access, 64),
         (marks.long, 16),
         (marks.flags.priority, 8),

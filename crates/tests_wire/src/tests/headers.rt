@@ -11,8 +11,8 @@ const BASE: u64 = 8_589_934_500;
 
 /// stream_id, size, marks, PTS and DTS of units, and their headers: a DTS is written where the stamps differ on the wire.
 /// The fourth is that of a PES packet of teletext (EN 300 472, 4.2), the fifth that of an aligned original of subtitles, the
-/// sixth that of a frame of audio description (TS 101 154, annex E).
-static WRITTEN: [(u8, usize, Marks, u64, u64, &[u8]); 6] = [
+/// sixth that of a frame of audio description (TS 101 154, annex E), the seventh that of data without a stamp.
+static WRITTEN: [(u8, usize, Marks, u64, u64, &[u8]); 7] = [
     (192, 3, Marks::NONE, 90_000, 90_000, PTS_HEADER),
     (
         192,
@@ -40,6 +40,7 @@ static WRITTEN: [(u8, usize, Marks, u64, u64, &[u8]); 6] = [
         b"\x00\x00\x01\xbd\x00\x0b\x85\x80\x05\x21\x00\x05\xbf\x21",
     ),
     (192, 3, DESCRIBED, 90_000, 90_000, DESCRIBED_HEADER),
+    (189, 3, UNSTAMPED, 90_000, 90_000, b"\x00\x00\x01\xbd\x00\x06\x84\x00\x00"),
 ];
 
 /// An AD_descriptor: its length 8, AD_text_tag DTGAD, version 1, a fade of 16 and a pan of 32.
@@ -52,7 +53,17 @@ const DESCRIBED: Marks = Marks {
     random_access: false,
     flags: PesFlags::NONE,
     long: false,
+    unstamped: false,
     private_data: Some(AD_DESCRIPTOR),
+};
+
+/// The marks of aligned data without a stamp.
+const UNSTAMPED: Marks = Marks {
+    random_access: false,
+    flags: ALIGNED_ALONE,
+    long: false,
+    unstamped: true,
+    private_data: None,
 };
 
 /// PTS_DTS_flags 10 and PES_extension_flag, 22 bytes of header data: the PTS, the flags of the extension, PES_private_data.
@@ -68,6 +79,7 @@ const TELETEXT: Marks = Marks {
     random_access: false,
     flags: ALIGNED_ALONE,
     long: true,
+    unstamped: false,
     private_data: None,
 };
 
@@ -89,6 +101,7 @@ const ALIGNED: Marks = Marks {
         original: true,
     },
     long: false,
+    unstamped: false,
     private_data: None,
 };
 
