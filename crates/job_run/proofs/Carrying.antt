@@ -2,6 +2,9 @@
 use Rattle.std.proofs.Common.{◌≡◌, ◌≤◌, ℕ, ◌+◌, ◌-◌, Bool, true, false, List, [], ◌++◌, length, length-append, take, drop, refl, sym, ap, ap₂, subst, ◌∙◌, arith, append_assoc, append-nil, drop-drop}
 use Rattle.std.proofs.Math.Seq.{drop-append-add}
 use Rattle.std.proofs.lemmas.List.{drop_all, drop-append-le, take-append-drop}
+use Rattle.data_times.specs.References.{LogView, logged, no_packet, references_in}
+use Rattle.data_times.specs.declared.references.ClockReference.{ClockReference}
+use Rattle.data_times.proofs.LoggedBytes.{logged_append}
 use Rattle.demux.specs.Stream.{StreamState, finished, pushed, start}
 use Rattle.demux.proofs.PushedBytes.{pushed_append}
 use Rattle.packet_sync.specs.Notes.{IsNoted, NotesView, SayAlike, no_notes}
@@ -32,6 +35,7 @@ more_came stream piece held s is so =
       carries = λ more none. ap carried (whole more) ∙ so.carries (piece ++ more) (λ e. absurd cc) ∙ ap (λ (r : List ℕ). so.gone ++ carried r) (sym (rest more));
       said = λ more none. alike_at no_notes s.packets.notes ((stream ++ piece) ++ more) (stream ++ (piece ++ more)) (held ++ more) (s.held ++ (piece ++ more)) (whole more) (rest more)
           (so.said (piece ++ more) (λ e. absurd cc));
+      log_is = so.log_is;
       demux_is = so.demux_is;
       size_is = so.size_is;
     }
@@ -41,6 +45,7 @@ no_more stream s so = record {
   gone = so.gone;
   carries = λ more none. so.carries more (λ e. absurd cc);
   said = λ more none. so.said more (λ e. absurd cc);
+  log_is = so.log_is;
   demux_is = so.demux_is;
   size_is = so.size_is;
 }
@@ -55,7 +60,7 @@ carried_as stream other ended s t e f p so =
 
 pub stretch_carried : (stream bytes : List ℕ) (ended : Bool) (at : ℕ) (rest taking : List ℕ) (s : Stretch) (notes : NotesView) (old new : PacketsView) →
     rest ≡ drop at bytes → taking ≡ take s.in_step rest → IsStretch rest ended s → IsNoted old.notes notes rest ended s →
-    new ≡ with_bytes taking (record { notes = notes; demux = old.demux; size = old.size }) →
+    new ≡ with_bytes taking (record { notes = notes; log = old.log; demux = old.demux; size = old.size }) →
     IsCarriedTo stream ended (record { held = drop at bytes; packets = old }) →
     IsCarriedTo stream ended (record { held = drop (at + (s.in_step + s.slipped)) bytes; packets = new })
 stretch_carried stream bytes ended at rest taking s notes old new is takes stretch noted e so =
@@ -72,6 +77,7 @@ stretch_carried stream bytes ended at rest taking s notes old new is takes stret
           (subst (λ (n : NotesView). SayAlike old.notes (drop at bytes ++ more) n (drop (at + size) bytes ++ more)) (sym (ap (λ (q : PacketsView). q.notes) e))
           (alike_at old.notes notes (drop at bytes ++ more) (rest ++ more) (drop (at + size) bytes ++ more) (drop size rest ++ more) (ap (λ (r : List ℕ). r ++ more) (sym is)) (ap (λ (r : List ℕ). r ++ more) (sym left))
           (noted more none)));
+      log_is = ap (λ (q : PacketsView). q.log) e ∙ ap (λ (l : LogView). logged l taking) so.log_is ∙ sym (logged_append no_packet so.gone taking);
       demux_is = ap (λ (q : PacketsView). q.demux) e ∙ ap (λ (d : StreamState). pushed d taking) so.demux_is ∙ sym (pushed_append start so.gone taking);
       size_is = ap (λ (q : PacketsView). q.size) e ∙ ap (λ (n : ℕ). n + length taking) so.size_is ∙ sym (length-append so.gone taking);
     }
@@ -104,9 +110,10 @@ rest_is piece held front later joined at n f l j past within =
 
 -- 5. The end
 
-pub stream_ended : (bytes held : List ℕ) (at : ℕ) (p : PacketsView) (demux : StreamState) → length held ≤ at → IsCarriedTo bytes true (record { held = drop at held; packets = p }) → demux ≡ finished p.demux →
-    IsOfStream bytes (record { slips = p.notes.slips; fields = p.notes.fields }) demux.found p.size
-stream_ended bytes held at p demux past so f =
+pub stream_ended : (bytes held : List ℕ) (at : ℕ) (p : PacketsView) (references : List ClockReference) (demux : StreamState) → length held ≤ at →
+    IsCarriedTo bytes true (record { held = drop at held; packets = p }) → references ≡ p.log.found → demux ≡ finished p.demux →
+    IsOfStream bytes (record { slips = p.notes.slips; fields = p.notes.fields }) references demux.found p.size
+stream_ended bytes held at p references demux past so r f =
     let none : drop at held ≡ [] = drop_all at held past in
     let whole : bytes ++ [] ≡ bytes = append-nil bytes in
     let left : drop at held ++ [] ≡ [] = append-nil (drop at held) ∙ none in
@@ -116,6 +123,7 @@ stream_ended bytes held at p demux past so f =
     let said = all_noted bytes p.notes (alike_at no_notes p.notes bytes (bytes ++ []) [] (drop at held ++ []) (sym whole) (sym left) (so.said [] (λ e. refl))) in
     record {
       notes_are = ap₂ (λ x y. record { slips = x; fields = y }) said.0 said.1;
+      references_are = r ∙ ap (λ (l : LogView). l.found) so.log_is ∙ ap references_in (sym all);
       found_is = ap (λ (d : StreamState). d.found) f ∙ ap (λ (d : StreamState). (finished d).found) so.demux_is ∙ ap (λ (r : List ℕ). (finished (pushed start r)).found) (sym all);
       size_is = so.size_is ∙ ap length (sym all);
     }

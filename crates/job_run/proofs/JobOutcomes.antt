@@ -1,5 +1,5 @@
 -- What is written of an answer, and what the input that was read leads to.
-use Rattle.std.proofs.Common.{◌≡◌, ◌∙◌, ◌+◌, ◌++◌, ◌∷◌, ◌/◌, ◌==◌, ◌&&◌, ℕ, suc, Bool, true, false, List, [], length, refl, sym, ap, subst, append-nil, Option, Some, None, Result, Ok, Err, IfOk, IsUtf8, All, inl, inr, arith}
+use Rattle.std.proofs.Common.{◌≡◌, ◌∙◌, ◌+◌, ◌++◌, ◌∷◌, ◌/◌, ◌==◌, ◌&&◌, ℕ, suc, Bool, true, false, List, [], length, refl, sym, ap, ap₂, subst, append-nil, Option, Some, None, Result, Ok, Err, IfOk, IsUtf8, All, inl, inr, arith}
 use Rattle.std.specs.List.{AllZip}
 use Rattle.std.proofs.lemmas.Bool.Decides.{nat_tests}
 use Rattle.pes_packet.specs.AccessUnits.{AccessUnit}
@@ -9,6 +9,8 @@ use Rattle.slot_plan.specs.Conditions.{IsServing}
 use Rattle.slot_plan.specs.Planned.{Planned, plan_error}
 use Rattle.slot_plan.specs.Text.{plan_text}
 use Rattle.stream_jobs.specs.Answers.{Answers, Refuses}
+use Rattle.data_times.specs.DataTimes.{timed}
+use Rattle.data_times.specs.declared.references.ClockReference.{ClockReference}
 use Rattle.stream_jobs.specs.AskedMarks.{as_asked}
 use Rattle.stream_jobs.specs.Jobs.{AllAgree, AreStreams, AreUnits, FitsQueue, IsDescription, IsJob}
 use Rattle.stream_jobs.specs.JoinedInputs.{AreStreamsIn, AreUnitsIn, IsFoundIn, JoinedInputsView}
@@ -38,7 +40,7 @@ use Rattle.std.specs.Int.{bytes_high_first}
 use Rattle.unit_records.specs.Records.{private_bytes, private_size, record_head, word_of}
 use Rattle.es_feed.specs.Records.{records_of, written}
 use Rattle.job_run.specs.SeveralInputs.{GivesJobIn}
-use Rattle.job_run.specs.Streams.{IsOfStream, IsRead, PacketNotesView, ReadingView, findings_for}
+use Rattle.job_run.specs.Streams.{IsOfStream, IsRead, PacketNotesView, ReadingView, asked_findings, findings_for}
 
 -- 1. What a subcommand gives
 
@@ -186,15 +188,18 @@ without_input arguments notes count findings error o a t = refused arguments not
 -- 3. What was read leads to it
 
 -- a stream that was read
-pub carried_lead : (arguments : JobArgumentsView) (bytes : List ℕ) (notes : PacketNotesView) (size : ℕ) (marked findings found : List FindingView) (w : JobOptionsView) (o : Outcome) →
-    IsOfStream bytes notes found size → findings ≡ found → w ≡ arguments.options → marked ≡ as_asked w findings → FindingsLead arguments notes (size / 188) marked o →
+pub carried_lead : (arguments : JobArgumentsView) (bytes : List ℕ) (notes : PacketNotesView) (references : List ClockReference) (size : ℕ) (at_times marked findings found : List FindingView)
+    (w : JobOptionsView) (o : Outcome) →
+    IsOfStream bytes notes references found size → findings ≡ found → w ≡ arguments.options → marked ≡ as_asked w findings → at_times ≡ timed references marked →
+    FindingsLead arguments notes (size / 188) at_times o →
     BytesLead arguments bytes None o
-carried_lead arguments bytes notes size marked findings found w o t f asked marks l =
-    let all : marked ≡ findings_for arguments.options bytes =
+carried_lead arguments bytes notes references size at_times marked findings found w o t f asked marks times l =
+    let asked_are : marked ≡ asked_findings arguments.options bytes =
     marks ∙ ap (λ (x : JobOptionsView). as_asked x findings) asked ∙ ap (λ (x : List FindingView). as_asked arguments.options x) (f ∙ t.found_is) in
+    let all : at_times ≡ findings_for arguments.options bytes = times ∙ ap₂ (λ (r : List ClockReference) (x : List FindingView). timed r x) t.references_are asked_are in
     subst (λ (x : PacketNotesView). FindingsLead arguments x (length (carried bytes) / 188) (findings_for arguments.options bytes) o) t.notes_are
     (subst (λ (x : List FindingView). FindingsLead arguments notes (length (carried bytes) / 188) x o) all
-    (subst (λ (n : ℕ). FindingsLead arguments notes (n / 188) marked o) t.size_is l))
+    (subst (λ (n : ℕ). FindingsLead arguments notes (n / 188) at_times o) t.size_is l))
 
 pub none_lead : (arguments : JobArgumentsView) (bytes : List ℕ) (o : Outcome) → None ≡ other_packets bytes → BytesLead arguments bytes None o → Leads arguments bytes o
 none_lead arguments bytes o e l = subst (λ (x : Option OtherPackets). BytesLead arguments bytes x o) e l

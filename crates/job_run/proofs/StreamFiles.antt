@@ -1,5 +1,5 @@
 -- Streams in files: what a job takes of each, and what it leads to.
-use Rattle.std.proofs.Common.{◌≡◌, ◌∙◌, ◌<◌, ◌+◌, ◌/◌, ◌++◌, ◌∷◌, ◌||◌, ℕ, suc, zero, Bool, true, false, List, [], length, map, take, get_or, refl, sym, ap, subst, append_assoc, append-nil, Option, Some, None, Result, Ok, Err, All, inl, inr, arith, ◌≤◌, length-append, length-take-le}
+use Rattle.std.proofs.Common.{◌≡◌, ◌∙◌, ◌<◌, ◌+◌, ◌/◌, ◌++◌, ◌∷◌, ◌||◌, ℕ, suc, zero, Bool, true, false, List, [], length, map, take, get_or, refl, sym, ap, ap₂, subst, append_assoc, append-nil, Option, Some, None, Result, Ok, Err, All, inl, inr, arith, ◌≤◌, length-append, length-take-le}
 use Rattle.std.proofs.Common.{add-one, drop}
 use Rattle.std.proofs.Math.Seq.{drop-cons}
 use Rattle.std.proofs.lemmas.List.{drop_all, take_all, take_more}
@@ -25,6 +25,8 @@ use Rattle.job_run.specs.InputLines.{are_lost, input_line, name_of, note_lines}
 use Rattle.job_run.specs.RefusalLine.{refusal_line}
 use Rattle.job_run.specs.SlipLines.{packets_line}
 use Rattle.stream_jobs.specs.Answers.{Answers, Refuses}
+use Rattle.data_times.specs.DataTimes.{timed}
+use Rattle.data_times.specs.declared.references.ClockReference.{ClockReference}
 use Rattle.stream_jobs.specs.AskedMarks.{as_asked}
 use Rattle.stream_jobs.specs.JobOptions.{JobOptionsView}
 use Rattle.stream_jobs.specs.JobInput.{JobInputView, job_input}
@@ -38,7 +40,7 @@ use Rattle.job_run.specs.JobArguments.{JobArgumentsView}
 use Rattle.job_run.specs.Outcomes.{ReportsWhy, Withholds, is_told_less, status_of, told_lines, unless_quiet}
 use Rattle.job_run.specs.SeveralInputs.{GivesIn, InputsLead, JoinedLead, NamedStream, all_findings, all_joined, are_streams_less, input_or_line, names_of, packets_input, stream_input, stream_inputs, streams_lines, under, with_first}
 use Rattle.job_run.specs.StreamFiles.{AreNamedInputs, AreTaken, EndsAt, FilesLead, HasRead, IsInput, IsInputIn, IsInputOf, IsLedTo, IsNamedInput, IsRefusalOf, IsTakenFrom, IsTakenOf, JoinedLeads, TakenLead, TakenView, read_line, stopped_by, taken_lines, told_under}
-use Rattle.job_run.specs.Streams.{IsOfStream, IsRead, PacketNotesView, ReadingView, findings_for, notes_of}
+use Rattle.job_run.specs.Streams.{IsOfStream, IsRead, PacketNotesView, ReadingView, asked_findings, findings_for, notes_of}
 
 -- 1. One stream
 
@@ -90,15 +92,18 @@ of_bytes a bytes (Err o) none is = record {
   is = is.is;
 }
 
-pub carried_is_input : (a : JobArgumentsView) (bytes : List ℕ) (notes : PacketNotesView) (size : ℕ) (marked findings found : List FindingView) (w : JobOptionsView) (r : Result TakenView Outcome) →
-    IsOfStream bytes notes found size → findings ≡ found → other_packets bytes ≡ None → w ≡ a.options → marked ≡ as_asked w findings → IsInputOf a notes (size / 188) marked r → IsInput a bytes r
-carried_is_input a bytes notes size marked findings found w r of same none asked marks is =
-    let all : marked ≡ findings_for a.options bytes =
+pub carried_is_input : (a : JobArgumentsView) (bytes : List ℕ) (notes : PacketNotesView) (references : List ClockReference) (size : ℕ) (at_times marked findings found : List FindingView)
+    (w : JobOptionsView) (r : Result TakenView Outcome) →
+    IsOfStream bytes notes references found size → findings ≡ found → other_packets bytes ≡ None → w ≡ a.options → marked ≡ as_asked w findings → at_times ≡ timed references marked →
+    IsInputOf a notes (size / 188) at_times r → IsInput a bytes r
+carried_is_input a bytes notes references size at_times marked findings found w r of same none asked marks times is =
+    let asked_are : marked ≡ asked_findings a.options bytes =
     marks ∙ ap (λ (x : JobOptionsView). as_asked x findings) asked ∙ ap (λ (x : List FindingView). as_asked a.options x) (same ∙ of.found_is) in
+    let all : at_times ≡ findings_for a.options bytes = times ∙ ap₂ (λ (r : List ClockReference) (x : List FindingView). timed r x) of.references_are asked_are in
     of_bytes a bytes r none
     (subst (λ (x : PacketNotesView). IsInputOf a x (length (carried bytes) / 188) (findings_for a.options bytes) r) of.notes_are
     (subst (λ (x : List FindingView). IsInputOf a notes (length (carried bytes) / 188) x r) all
-    (subst (λ (n : ℕ). IsInputOf a notes (n / 188) marked r) of.size_is is)))
+    (subst (λ (n : ℕ). IsInputOf a notes (n / 188) at_times r) of.size_is is)))
 
 -- of packets of another size
 pub other_is_input : (a : JobArgumentsView) (bytes : List ℕ) (packets : OtherPackets) (o : Outcome) → Some packets ≡ other_packets bytes → o ≡ reported (packets_line packets) → IsInput a bytes (Err o)

@@ -4,6 +4,9 @@ use Rattle.devices.specs.Devices.{Device}
 use Rattle.devices.specs.WholeInput.{IsReadAs, ReadsInput}
 use Rattle.devices.specs.declared.halt.Halt.{Halt}
 use Rattle.demux.specs.Views.{FindingView}
+use Rattle.data_times.specs.DataTimes.{timed}
+use Rattle.data_times.specs.References.{LogView, logged, no_packet, references_in}
+use Rattle.data_times.specs.declared.references.ClockReference.{ClockReference}
 use Rattle.demux.specs.Stream.{StreamState, start, pushed, finished}
 use Rattle.packet_sync.specs.FieldsLeftOut.{fields_left_out}
 use Rattle.packet_sync.specs.Notes.{NotesView, SayAlike, no_notes}
@@ -20,9 +23,13 @@ use Rattle.stream_jobs.specs.JobOptions.{JobOptionsView}
 abbrev pub findings_of : List ℕ → List FindingView
 findings_of bytes = (finished (pushed start bytes)).found
 
--- those of which a job by these options is made: the findings in the bytes that are in no slip, with the marks that are asked for
+-- those in the bytes that are in no slip, with the marks that are asked for
+abbrev pub asked_findings : JobOptionsView → List ℕ → List FindingView
+asked_findings options bytes = as_asked options (findings_of (carried bytes))
+
+-- those of which a job by these options is made: with the moments of data that has no stamps
 abbrev pub findings_for : JobOptionsView → List ℕ → List FindingView
-findings_for options bytes = as_asked options (findings_of (carried bytes))
+findings_for options bytes = timed (references_in (carried bytes)) (asked_findings options bytes)
 
 -- what is said of the packets of a stream: its slips, and the fields that are not written again
 pub record PacketNotesView : Type 0 where
@@ -32,26 +39,28 @@ pub record PacketNotesView : Type 0 where
 abbrev pub notes_of : List ℕ → PacketNotesView
 notes_of bytes = record { slips = slips bytes; fields = fields_left_out bytes }
 
--- this is said of it, and this is found in the bytes that are in no slip, which are so many
-pub record IsOfStream (bytes : List ℕ) (notes : PacketNotesView) (found : List FindingView) (size : ℕ) : Type 0 where
+-- this is said of it, and these references and this are found in the bytes that are in no slip, which are so many
+pub record IsOfStream (bytes : List ℕ) (notes : PacketNotesView) (references : List ClockReference) (found : List FindingView) (size : ℕ) : Type 0 where
   pub notes_are : notes ≡ notes_of bytes
+  pub references_are : references ≡ references_in (carried bytes)
   pub found_is : found ≡ findings_of (carried bytes)
   pub size_is : size ≡ length (carried bytes)
 
 -- 2. A stream that comes
 
--- what is kept of the bytes that are carried for certain: what is said of their packets, the demultiplexer, and how many they are
+-- what is kept of the bytes that are carried for certain: what is said of their packets, the clock references, the demultiplexer, and how many they are
 pub record PacketsView : Type 0 where
   pub notes : NotesView
+  pub log : LogView
   pub demux : StreamState
   pub size : ℕ
 
 abbrev pub no_packets : PacketsView
-no_packets = record { notes = no_notes; demux = start; size = 0 }
+no_packets = record { notes = no_notes; log = no_packet; demux = start; size = 0 }
 
--- with bytes through the demultiplexer
+-- with bytes through the log and the demultiplexer
 abbrev pub with_bytes : List ℕ → PacketsView → PacketsView
-with_bytes bytes p = record { notes = p.notes; demux = pushed p.demux bytes; size = p.size + length bytes }
+with_bytes bytes p = record { notes = p.notes; log = logged p.log bytes; demux = pushed p.demux bytes; size = p.size + length bytes }
 
 -- the bytes of which it is not known yet whether they are carried, and what is kept of those before
 pub record CarriedView : Type 0 where
@@ -63,6 +72,7 @@ pub record IsCarriedTo (bytes : List ℕ) (ended : Bool) (s : CarriedView) : Typ
   pub gone : List ℕ
   pub carries : (more : List ℕ) → (ended ≡ true → more ≡ []) → carried (bytes ++ more) ≡ gone ++ carried (s.held ++ more)
   pub said : (more : List ℕ) → (ended ≡ true → more ≡ []) → SayAlike no_notes (bytes ++ more) s.packets.notes (s.held ++ more)
+  pub log_is : s.packets.log ≡ logged no_packet gone
   pub demux_is : s.packets.demux ≡ pushed start gone
   pub size_is : s.packets.size ≡ length gone
 

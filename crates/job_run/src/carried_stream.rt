@@ -3,6 +3,7 @@ ghost use Rattle.std.specs.Prelude.{◌≡◌, ◌≤◌, ◌++◌, [], IfOk, Li
 ghost use Rattle.demux.specs.Stream.{finished};
 ghost use Rattle.job_run.specs.Streams as spec;
 
+use data_times::{ClockReference, ReferenceLog};
 use demux::Demux;
 use packet_sync::{FieldLeftOut, Slip, StreamNotes};
 use std::alloc::{AllocError, Global};
@@ -28,10 +29,12 @@ impl Model for PacketNotes {
     ghost view = { λ n. record { slips = n.slips.items; fields = n.fields.items } };
 }
 
-/// A stream that was read: what is said of its packets, what is found in the bytes that are in no slip, and how many these are.
+/// A stream that was read: what is said of its packets, the clock references and what else is found in the bytes that are in no
+/// slip, and how many these are.
 #[derive(Drop)]
 pub(crate) struct ReadStream {
     pub notes: PacketNotes,
+    pub references: Vec<ClockReference>,
     pub demux: Demux,
     pub size: usize,
 }
@@ -40,6 +43,7 @@ pub(crate) struct ReadStream {
 #[derive(Drop)]
 struct CarriedPackets {
     notes: StreamNotes,
+    log: ReferenceLog,
     demux: Demux,
     size: usize,
 }
@@ -50,7 +54,7 @@ impl Model for CarriedPackets {
 
     ghost Value = { PacketsView };
 
-    ghost view = { λ p. record { notes = p.notes; demux = p.demux; size = p.size } };
+    ghost view = { λ p. record { notes = p.notes; log = p.log; demux = p.demux; size = p.size } };
 }
 
 // Takes the end of the stream.
@@ -70,6 +74,7 @@ impl CarriedPackets {
     {
         CarriedPackets {
             notes: StreamNotes::new(alloc),
+            log: ReferenceLog::new(alloc),
             demux: Demux::new(alloc),
             size: 0,
         }
@@ -82,6 +87,7 @@ impl CarriedPackets {
         let Some(size) = self.size.checked_add(bytes.len()) else {
             return Err(AllocError);
         };
+        self.log.push(bytes)?;
         let Ok(()) = self.demux.push(bytes) else {
             return Err(AllocError);
         };
@@ -176,18 +182,25 @@ impl CarriedStream {
     /// Ends the stream.
     pub(crate) fn end(self) -> Result<ReadStream, AllocError>
         ensures { (bytes : List ℕ) → spec.IsCarriedTo bytes false self →
-            IfOk result (λ r. spec.IsOfStream bytes r.notes r.demux.found r.size) }
+            IfOk result (λ r. spec.IsOfStream bytes r.notes r.references.items r.demux.found r.size) }
     {
         let mut packets = self.packets;
         packets.take_decided(self.held.as_slice(), true)?;
         let CarriedPackets {
             notes,
+            log,
             mut demux,
             size,
         } = packets;
         end_stream(&mut demux)?;
         let StreamNotes { slips, fields, .. } = notes;
         let notes = PacketNotes { slips, fields };
-        Ok(ReadStream { notes, demux, size })
+        let references = log.into_references();
+        Ok(ReadStream {
+            notes,
+            references,
+            demux,
+            size,
+        })
     }
 }

@@ -369,9 +369,15 @@ fn carried_outcome(
     ensures { (bytes : List ℕ) → IsRead bytes stream → other_packets bytes ≡ None →
         IfOk result (λ a. spec.BytesLead arguments.now bytes None a) }
 {
-    let ReadStream { notes, demux, size } = stream.end()?;
+    let ReadStream {
+        notes,
+        references,
+        demux,
+        size,
+    } = stream.end()?;
     let count = size as u64 / 188;
-    let findings = mark_as_asked(alloc, &arguments.options(), demux.into_findings())?;
+    let marked = mark_as_asked(alloc, &arguments.options(), demux.into_findings())?;
+    let findings = time_data(alloc, &references, marked)?;
     let outcome = findings_outcome(alloc, arguments, &notes, count, findings)?;
     Ok(outcome)
 }

@@ -87,7 +87,7 @@ impl StreamReading {
     /// Ends the stream, which has no other packets.
     pub(crate) fn end(self) -> Result<ReadStream, AllocError>
         ensures { (bytes : List ℕ) → spec.IsRead bytes self → other_packets bytes ≡ None →
-            IfOk result (λ r. spec.IsOfStream bytes r.notes r.demux.found r.size) }
+            IfOk result (λ r. spec.IsOfStream bytes r.notes r.references.items r.demux.found r.size) }
     {
         self.stream.end()
     }

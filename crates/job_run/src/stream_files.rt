@@ -15,6 +15,7 @@ use crate::input_lines::write_input;
 use crate::job_arguments::JobArguments;
 use crate::outcome::{JobOutcome, only_text, packets_outcome, refused_outcome, told_of};
 use crate::reading::{StreamReading, read_stream};
+use data_times::time_data;
 use demux::Finding;
 use devices::{Halt, NamedFiles};
 use other_tables::{OtherTable, other_tables};
@@ -86,9 +87,15 @@ fn carried_input(
     ensures { (bytes : List ℕ) → IsRead bytes stream → other_packets bytes ≡ None →
         IfOk result (spec.IsInput arguments.now bytes) }
 {
-    let ReadStream { notes, demux, size } = stream.end()?;
+    let ReadStream {
+        notes,
+        references,
+        demux,
+        size,
+    } = stream.end()?;
     let count = size as u64 / 188;
-    let findings = mark_as_asked(alloc, &arguments.options(), demux.into_findings())?;
+    let marked = mark_as_asked(alloc, &arguments.options(), demux.into_findings())?;
+    let findings = time_data(alloc, &references, marked)?;
     let taken = taken_or_refused(alloc, arguments, &notes, count, findings)?;
     Ok(taken)
 }

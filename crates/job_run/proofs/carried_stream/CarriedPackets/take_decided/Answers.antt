@@ -10,7 +10,7 @@ loop-at-preserved c =
     let rest = c.split_at.result.1.now in
     let s = c.in_ok-stretch.stretch in
     let i = c.loop-at.invariant in
-    let old : PacketsView = record { notes = c.self.inside.notes; demux = c.self.inside.demux; size = c.self.inside.size } in
+    let old : PacketsView = record { notes = c.self.inside.notes; log = c.self.inside.log; demux = c.self.inside.demux; size = c.self.inside.size } in
     record {
       within = omega (arith, c.in_ok-stretch.ensures.within, ap (length {A = ℕ}) c.split_at.ensures.back, length-drop at bytes, i.within);
       carried = λ stream so. stretch_carried stream bytes c.args.ended at rest (take s.in_step rest) s c.take_stretch.new.self old c.push.new.self c.split_at.ensures.back refl

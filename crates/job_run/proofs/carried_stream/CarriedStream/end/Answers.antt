@@ -9,13 +9,13 @@ returns c = λ bytes so.
     let held = c.as_slice.result.now in
     let at = c.in_ok-take_decided.field-0 in
     let notes : NotesView = record { slips = c.notes.inside.slips.items; fields = c.notes.inside.fields.items; packet = c.notes.inside.packet; start = c.notes.inside.start } in
-    let p : PacketsView = record { notes = notes; demux = c.packets.inside.demux; size = c.packets.inside.size } in
+    let p : PacketsView = record { notes = notes; log = c.packets.inside.log; demux = c.packets.inside.demux; size = c.packets.inside.size } in
     let same : p ≡ c.take_decided.new.self =
-    ap (λ (n : NotesView). record { notes = n; demux = c.packets.inside.demux; size = c.packets.inside.size }) c.notes.view_is ∙ c.packets.view_is in
+    ap (λ (n : NotesView). record { notes = n; log = c.packets.inside.log; demux = c.packets.inside.demux; size = c.packets.inside.size }) c.notes.view_is ∙ c.packets.view_is in
     let begun : IsCarriedTo bytes true (record { held = held; packets = c.self.inside.packets }) =
     no_more bytes (record { held = held; packets = c.self.inside.packets })
     (carried_as bytes bytes _ _ (record { held = held; packets = c.self.inside.packets }) refl (sym c.as_slice.ensures.value) refl
     (subst (λ (x : CarriedView). IsCarriedTo bytes false x) (sym c.self.view_is) so)) in
-    stream_ended bytes held at p c.end_stream.new.demux (c.in_ok-take_decided.ensures.last refl)
+    stream_ended bytes held at p c.into_references-references.result.items c.end_stream.new.demux (c.in_ok-take_decided.ensures.last refl)
     (subst (λ (x : PacketsView). IsCarriedTo bytes true (record { held = drop at held; packets = x })) (sym same) (c.in_ok-take_decided.ensures.carried bytes begun))
-    c.in_ok-end_stream.ensures
+    c.into_references-references.ensures c.in_ok-end_stream.ensures
