@@ -1,1 +1,3 @@
 pub mod LoggedBytes
+pub mod PassedFindings
+pub mod OtherPids

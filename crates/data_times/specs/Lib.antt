@@ -1,2 +1,3 @@
 pub mod References
 pub mod DataTimes
+pub mod Laws

@@ -50,6 +50,7 @@ impl ShownClocks {
     }
 
     // Each clock shows the first of these references that it has, if it shows nothing yet.
+    #[tactic(auto, using(crate::proofs::PassedFindings::shown_more, crate::proofs::PassedFindings::shown_end))]
     fn show_first(&mut self, references: &[ClockReference]) -> Result<(), AllocError>
         ensures { OnOk result (self.new ≡ spec.first_shown self.old references.now) }
     {
@@ -96,7 +97,8 @@ impl<'r> ClockLine<'r> {
         })
     }
 
-    /// A packet comes: the clocks show the references up to it.
+    /// Lets a packet pass: the clocks show the references up to it.
+    #[tactic(auto, using(crate::proofs::PassedFindings::pass_more, crate::proofs::PassedFindings::pass_stop, crate::proofs::PassedFindings::pass_end))]
     pub(crate) fn pass(&mut self, packet: u64) -> Result<(), AllocError>
         ensures { OnOk result (self.new ≡ spec.passed packet self.old) }
     {

@@ -6,12 +6,15 @@
 //!
 //! - [`ReferenceLog`]: the clock references in bytes that come (`specs/References`).
 //! - [`time_data`]: findings, each PES packet of a PID whose data has no stamps with its moment (`specs/DataTimes`).
+//! - [`others_stay`]: what is found of other PIDs stays as it is.
 #![tactic(auto)]
 
 mod clock_line;
+mod laws;
 mod references;
 mod seen_stamps;
 mod timing;
 
+pub use laws::others_stay;
 pub use references::{ClockReference, ReferenceLog};
 pub use timing::time_data;

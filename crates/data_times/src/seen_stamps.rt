@@ -1,6 +1,8 @@
 //! Which PIDs have data without stamps.
 
-ghost use Rattle.std.specs.Prelude.{◌≡◌, IfOk, OnOk, map};
+ghost use Rattle.std.specs.Prelude.{◌≡◌, IfOk, OnOk, map, nat_eq};
+ghost use Rattle.std.specs.Map.{lookup};
+ghost use Rattle.demux.specs.OpenUnits.{is_stamped};
 ghost use Rattle.demux.specs.Shown.{finding_view, what_view};
 ghost use Rattle.data_times.specs.DataTimes as spec;
 
@@ -30,7 +32,7 @@ impl Model for SeenStamps {
 
 // Whether a header has a PTS.
 fn is_stamped(stamps: Stamps) -> bool
-    ensures { result ≡ spec.is_stamped stamps }
+    ensures { result ≡ is_stamped stamps }
 {
     match stamps {
         Stamps::Absent => false,
@@ -58,7 +60,7 @@ fn data_pts(what: &What<'_>) -> Option<bool>
 impl SeenStamps {
     // Returns whether a PES packet with a PTS was seen on a PID, if it has any.
     fn of(&self, pid: u16) -> Option<bool>
-        ensures { result ≡ spec.lookup (spec.nat_eq pid) self.now }
+        ensures { result ≡ lookup (nat_eq pid) self.now }
     {
         self.seen.entries().get(&pid).copied()
     }
@@ -93,6 +95,7 @@ impl SeenStamps {
 }
 
 /// Returns what is seen in findings.
+#[tactic(auto, using(crate::proofs::PassedFindings::seen_more, crate::proofs::PassedFindings::seen_end))]
 pub(crate) fn seen_in(alloc: Global, findings: &[Finding<'_>]) -> Result<SeenStamps, AllocError>
     ensures { IfOk result (λ seen. seen ≡ spec.seen_in (map finding_view findings.now)) }
 {

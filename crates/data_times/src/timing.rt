@@ -129,6 +129,7 @@ fn timed_finding<'a>(moment: Option<u64>, finding: Finding<'a>) -> Finding<'a>
 }
 
 // The findings of a stream with these programs, with their moments.
+#[tactic(auto, using(crate::proofs::PassedFindings::timed_more, crate::proofs::PassedFindings::timed_end))]
 fn timed_from(
     alloc: Global,
     found: &FoundPrograms,
@@ -142,7 +143,7 @@ fn timed_from(
     let mut timed = Vec::with_capacity(alloc, findings.len())?;
     let mut line = line;
     let mut left = VecDeque::from(findings);
-    'findings: while let Some(finding) = left.pop_front() {
+    while let Some(finding) = left.pop_front() {
         line.pass(finding.packet)?;
         let moment = moment_on(found, seen, &line.clocks, finding.pid);
         timed.push(timed_finding(moment, finding))?;

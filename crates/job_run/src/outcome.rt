@@ -26,6 +26,7 @@ use crate::refusal_line::write_refusal;
 use crate::slip_lines::{write_packets, write_slips};
 use crate::table_lines::{are_missed, told_tables, write_other_tables};
 use crate::warning_lines::{is_damaged, told_warnings, write_warnings};
+use data_times::time_data;
 use demux::Finding;
 use other_tables::{OtherTable, other_tables};
 use packet_sync::{FieldLeftOut, OtherPackets, Slip};

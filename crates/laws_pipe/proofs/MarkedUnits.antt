@@ -3,6 +3,9 @@ use Rattle.std.proofs.Common.{◌≡◌, ◌∙◌, ◌&&◌, ℕ, Bool, true, f
 use Rattle.pes_packet.specs.AccessUnits.{AccessUnit}
 use Rattle.demux.specs.Laws.{found_of, has_pid}
 use Rattle.demux.specs.Views.{FindingView}
+use Rattle.data_times.specs.DataTimes.{is_unstamped, seen_in, timed}
+use Rattle.data_times.specs.declared.references.ClockReference.{ClockReference}
+use Rattle.data_times.proofs.OtherPids.{others_stay}
 use Rattle.packet_sync.specs.Slips.{carried}
 use Rattle.es_units.specs.CarriedUnits.{CarriedUnit, RoleView, Ignored, carried_units, role_of, wire_units}
 use Rattle.es_units.proofs.CarriedUnits.{same_units}
@@ -65,7 +68,26 @@ pub wire_alike : (whole streamed : MarkingView) (pid : ℕ) (fs : List FindingVi
     wire_units pid (all_marked whole fs) ≡ wire_units pid (all_marked streamed fs)
 wire_alike whole streamed pid fs alike = ap (λ (us : List CarriedUnit). map (λ (u : CarriedUnit). u.unit) us) (carried_alike whole streamed pid fs alike)
 
--- 3. No access points
+-- 3. Data without stamps is on other PIDs
+
+timed_alike : (references : List ClockReference) (pid : ℕ) (fs : List FindingView) → is_unstamped (seen_in fs) pid ≡ false → found_of pid (timed references fs) ≡ found_of pid fs
+timed_alike references pid fs stamped = others_stay references fs pid stamped
+
+pub alone_timed : (references : List ClockReference) (pid : ℕ) (fs : List FindingView) → is_unstamped (seen_in fs) pid ≡ false →
+    one_by_one pid (timed references fs) ≡ one_by_one pid fs
+alone_timed references pid fs stamped =
+    sym (own_alone pid (timed references fs)) ∙ ap (one_by_one pid) (timed_alike references pid fs stamped) ∙ own_alone pid fs
+
+pub carried_timed : (references : List ClockReference) (pid : ℕ) (fs : List FindingView) → is_unstamped (seen_in fs) pid ≡ false →
+    carried_units pid (timed references fs) ≡ carried_units pid fs
+carried_timed references pid fs stamped =
+    sym (same_units pid (timed references fs)) ∙ ap (carried_units pid) (timed_alike references pid fs stamped) ∙ same_units pid fs
+
+pub wire_timed : (references : List ClockReference) (pid : ℕ) (fs : List FindingView) → is_unstamped (seen_in fs) pid ≡ false →
+    wire_units pid (timed references fs) ≡ wire_units pid fs
+wire_timed references pid fs stamped = ap (λ (us : List CarriedUnit). map (λ (u : CarriedUnit). u.unit) us) (carried_timed references pid fs stamped)
+
+-- 4. No access points
 
 pub ask_alike : AskAlike
 unfolding marking_of access_of

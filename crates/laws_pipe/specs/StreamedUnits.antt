@@ -6,6 +6,7 @@ use Rattle.pes_packet.specs.Units.{units_of}
 use Rattle.description.specs.Described.{Described}
 use Rattle.description.specs.Ranges.{IsInRange}
 use Rattle.packet_sync.specs.Slips.{carried}
+use Rattle.data_times.specs.DataTimes.{is_unstamped, seen_in}
 use Rattle.es_units.specs.Merging.{AreMerged}
 use Rattle.es_feed.specs.EachStream.{one_by_one, units_fed}
 use Rattle.es_feed.specs.Feeding.{Fed}
@@ -24,7 +25,7 @@ use Rattle.devices.specs.Runs.{Ends}
 use Rattle.job_run.specs.declared.job_arguments.Subcommand.TheVariants.{Units}
 use Rattle.job_run.specs.JobArguments.{JobArgumentsView}
 use Rattle.job_run.specs.Outcomes.{Leads}
-use Rattle.job_run.specs.Streams.{findings_for, findings_of}
+use Rattle.job_run.specs.Streams.{asked_findings, findings_for, findings_of}
 use Rattle.tsjob_cli.specs.Arguments.{arguments_in}
 use Rattle.tsjob_cli.specs.StreamedUnits.{GoesBy, earliest, marking_by}
 
@@ -63,6 +64,8 @@ pub record AreAlike (a : JobArgumentsView) (w : JobOptionsView) (d : Described) 
   pub one_clock : All (λ t. clock_of input.programs t ≡ clock) input.streams
   -- each unit is one PES packet that nothing interrupts
   pub alone : All (λ t. one_by_one t.pid (findings_for a.options bytes) ≡ true) input.streams
+  -- none is of data without stamps
+  pub stamped : All (λ t. is_unstamped (seen_in (asked_findings a.options bytes)) t.pid ≡ false) input.streams
   -- the same marks are asked for
   pub marks : All (λ t. AreMarkedAlike (marking_of a.options (findings_of (carried bytes))) (marking_by w d) t.pid) input.streams
   -- the first unit of a stream is due no later than three seconds after the first one of another

@@ -1,0 +1,58 @@
+-- What is found of a PID that is not timed.
+use Rattle.std.proofs.Common.{◌≡◌, ℕ, ◌==◌, Bool, true, false, if◌then◌else◌, Option, Some, None, List, [], ◌∷◌, refl, ap, ◌∙◌}
+use Rattle.std.proofs.lemmas.Bool.{eqb-true}
+use Rattle.demux.specs.Laws.{found_of, has_pid}
+use Rattle.demux.specs.Views.{FindingView}
+use Rattle.stream_programs.specs.Association.{AssociationView, association}
+use Rattle.stream_programs.specs.Programs.{FoundProgramsView, programs_of}
+use Rattle.data_times.specs.declared.references.ClockReference.{ClockReference}
+use Rattle.data_times.specs.DataTimes.{Clocks, LineView, SeenStamps, at_begin, is_unstamped, moment_on, passed, seen_in, timed_by, timed_finding, timed_from}
+use Rattle.data_times.specs.Laws.{OthersStay}
+
+own_pid : (pid : ℕ) (p : Option ℕ) → has_pid pid p ≡ true → p ≡ Some pid
+own_pid pid None is = absurd cc
+own_pid pid (Some other) is = ap Some (eqb-true other pid is)
+
+-- it has no moment
+no_moment : (found : FoundProgramsView) (seen : SeenStamps) (clocks : Clocks) (pid : ℕ) (p : Option ℕ) → is_unstamped seen pid ≡ false → p ≡ Some pid →
+    moment_on found seen clocks p ≡ None
+unfolding moment_on
+no_moment found seen clocks pid p stamped own = rw (own, stamped) refl
+
+same_pid : (moment : Option ℕ) (f : FindingView) → (timed_finding moment f).pid ≡ f.pid
+unfolding timed_finding
+same_pid None f = refl
+same_pid (Some t) f = refl
+
+stays : (found : FoundProgramsView) (seen : SeenStamps) (clocks : Clocks) (pid : ℕ) (f : FindingView) → is_unstamped seen pid ≡ false → has_pid pid f.pid ≡ true →
+    timed_finding (moment_on found seen clocks f.pid) f ≡ f
+unfolding timed_finding
+stays found seen clocks pid f stamped own = rw (no_moment found seen clocks pid f.pid stamped (own_pid pid f.pid own)) refl
+
+if_own : Bool → FindingView → List FindingView → List FindingView
+if_own own f fs = if own then f ∷ fs else fs
+
+one_by : (own : Bool) (f g : FindingView) (fs gs : List FindingView) → (own ≡ true → g ≡ f) → gs ≡ fs → if_own own g gs ≡ if_own own f fs
+unfolding if_own
+one_by true f g fs gs same rest = let e : g ≡ f = same refl in rw (e, rest) refl
+one_by false f g fs gs same rest = rest
+
+all_stay : (found : FoundProgramsView) (seen : SeenStamps) (line : LineView) (pid : ℕ) (fs : List FindingView) → is_unstamped seen pid ≡ false →
+    found_of pid (timed_from found seen line fs) ≡ found_of pid fs
+unfolding timed_from if_own
+all_stay found seen line pid [] stamped = refl
+all_stay found seen line pid (f ∷ fs) stamped =
+    let next : LineView = passed f.packet line in
+    let g : FindingView = timed_finding (moment_on found seen next.clocks f.pid) f in
+    let rest = all_stay found seen next pid fs stamped in
+    ap (λ (p : Option ℕ). if_own (has_pid pid p) g (found_of pid (timed_from found seen next fs))) (same_pid (moment_on found seen next.clocks f.pid) f)
+    ∙ one_by (has_pid pid f.pid) f g (found_of pid fs) (found_of pid (timed_from found seen next fs)) (λ own. stays found seen next.clocks pid f stamped own) rest
+
+by_tables : (references : List ClockReference) (a : Option AssociationView) (findings : List FindingView) (pid : ℕ) → is_unstamped (seen_in findings) pid ≡ false →
+    found_of pid (timed_by references a findings) ≡ found_of pid findings
+unfolding timed_by
+by_tables references None findings pid stamped = refl
+by_tables references (Some a) findings pid stamped = all_stay (programs_of a.programs findings) (seen_in findings) (at_begin references) pid findings stamped
+
+pub others_stay : OthersStay
+others_stay references findings pid stamped = by_tables references (association findings) findings pid stamped
