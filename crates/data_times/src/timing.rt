@@ -19,10 +19,7 @@ fn clock_of(found: &FoundPrograms, pid: u16) -> Option<u16>
     ensures { result ≡ spec.clock_of found.now pid }
 {
     let stream = found.streams.iter().find(|s| s.pid == pid)?;
-    let program = found
-        .programs
-        .iter()
-        .find(|p| p.number == stream.program)?;
+    let program = found.programs.iter().find(|p| p.number == stream.program)?;
     Some(program.pcr_pid)
 }
 

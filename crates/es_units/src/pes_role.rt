@@ -126,10 +126,7 @@ pub(crate) fn role_of<'f, A: Allocator>(pid: u16, finding: &'f Finding<'_, A>) -
         What::Pes { header, body, .. } => pes_role(
             first_packet(finding.packet, finding.begun),
             header.id,
-            header.marks(
-                is_access_point(finding.begun),
-                is_unstamped(finding.begun),
-            ),
+            header.marks(is_access_point(finding.begun), is_unstamped(finding.begun)),
             header.stamps,
             body.bytes(),
         ),

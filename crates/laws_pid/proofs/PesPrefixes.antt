@@ -34,21 +34,21 @@ pub record PesText (text : List ℕ) (h : PesHeader) (n : ℕ) (body : List ℕ)
 
 -- ---- the PES packet of a unit is one
 
+begins_by : (access bare same : Bool) (id size : ℕ) (marks : Marks) (p d : ℕ) (body : List ℕ) →
+    may_begin_pes (take (room_of (start_by true access)) (cond bare (bare_header id size marks) (cond same (pts_header id size marks p) (pts_dts_header id size marks p d)) ++ body)) ≡ true
+unfolding bare_header pts_header pts_dts_header header_with pes_start_bytes
+begins_by true true same id size marks p d body = refl
+begins_by true false true id size marks p d body = refl
+begins_by true false false id size marks p d body = refl
+begins_by false true same id size marks p d body = refl
+begins_by false false true id size marks p d body = refl
+begins_by false false false id size marks p d body = refl
+
 begins_pes : (id size : ℕ) (marks : Marks) (pts dts : ℕ) (body : List ℕ) (access : Bool) →
     may_begin_pes (take (room_of (start_by true access)) (pes_header_bytes id size marks pts dts ++ body)) ≡ true
 unfolding pes_header_bytes
-begins_pes id size marks pts dts body access = by access marks.unstamped (on_wire pts == on_wire dts)
-  where
-    by : (access bare same : Bool) →
-        may_begin_pes (take (room_of (start_by true access)) (cond bare (bare_header id size marks)
-        (cond same (pts_header id size marks (on_wire pts)) (pts_dts_header id size marks (on_wire pts) (on_wire dts))) ++ body)) ≡ true
-    unfolding bare_header pts_header pts_dts_header header_with pes_start_bytes
-    by true true same = refl
-    by true false true = refl
-    by true false false = refl
-    by false true same = refl
-    by false false true = refl
-    by false false false = refl
+begins_pes id size marks pts dts body access =
+    begins_by access marks.unstamped (on_wire pts == on_wire dts) id size marks (on_wire pts) (on_wire dts) body
 
 stamped_by : (bare same : Bool) (id size : ℕ) (marks : Marks) (p d : ℕ) →
     is_stamped (cond bare (header_of id size marks Absent 0) (cond same (header_of id size marks (Pts p) 5) (header_of id size marks (PtsDts p d) 10))).stamps ≡ not bare

@@ -1,5 +1,5 @@
 -- PES packets with a PTS begin in time on each PID, if units come often and the sections are distinguishable.
-use Rattle.std.proofs.Common.{◌≡◌, ℕ, zero, suc, ◌+◌, ◌-◌, ◌*◌, ◌/◌, ◌^◌, ◌<◌, ◌≤◌, ◌==◌, Bool, false, List, [], ◌∷◌, ◌++◌, length, map, take, drop, Some, slice_get, refl, sym, ap, subst, ◌∙◌, arith, All, inl, inr, if◌then◌else◌}
+use Rattle.std.proofs.Common.{◌≡◌, ℕ, zero, suc, ◌+◌, ◌-◌, ◌*◌, ◌/◌, ◌^◌, ◌<◌, ◌≤◌, ◌==◌, Bool, true, false, List, [], ◌∷◌, ◌++◌, length, map, take, drop, Some, slice_get, refl, sym, ap, subst, ◌∙◌, arith, All, inl, inr, if◌then◌else◌}
 use Rattle.std.proofs.Math.Nat.{mul-le-mul_right}
 use Rattle.std.proofs.lemmas.Bool.{cases_Bool}
 use Rattle.std.proofs.lemmas.List.{length-drop, length-take, drop_all}
@@ -28,6 +28,8 @@ use Rattle.monitor.specs.Gaps.{late}
 use Rattle.monitor.specs.Begins.{found_on, pts_begins}
 use Rattle.monitor.specs.Faults.{pts_late}
 use Rattle.laws_pid.specs.Laws.{found_on as told_on}
+use Rattle.laws_pid.specs.Sent.{each_found}
+use Rattle.laws_pid.specs.Units.{unit_found}
 use Rattle.mux_core.specs.Scheduled.{Scheduled}
 use Rattle.mux_core.specs.Histories.{owned_stream, table_of, content_at}
 use Rattle.mux_core.specs.Headline.{UnitsKept}
@@ -39,7 +41,7 @@ use Rattle.laws_run.proofs.Lateness.{short_gap}
 use Rattle.laws_run.proofs.NothingElse.{sent_or_silent}
 use Rattle.laws_run.proofs.RunFindings.{is_run, silent_back, given_back}
 use Rattle.laws_run.proofs.Soundness.{as_told}
-use Rattle.laws_run.proofs.UnitHeads.{head_in, heads, told_stamps, stamps_told, unit_heads, no_heads}
+use Rattle.laws_run.proofs.UnitHeads.{all_sent, bare_heads, head_in, heads, told_stamps, stamps_told, unit_heads, no_heads}
 use Rattle.laws_run.proofs.UnitsTimely.{IsCarried, from_release, reached, Timely, timely}
 
 -- ---- units one after another
@@ -162,11 +164,19 @@ sent_in_time : (d : Scheduled) (units : ℕ → List AccessUnit) (n pid : ℕ) �
     pts_late d.description.rate (run_bytes (content_at d units) 0 n) pid ≡ []
 sent_in_time d units n pid r promised kept steady few told count (inl (k, s, is, same)) =
     let bytes : List ℕ = run_bytes (content_at d units) 0 n in
+    let l = owned_stream d k s in
     let back = (given_back d units n r kept few).streams k s is in
-    by_told d.description.rate pid bytes (heads (sent_units (owned_stream d k s) n (units k))) told count
-    (ap (λ (q : ℕ). told_stamps (told_on q bytes)) (sym same) ∙ ap told_stamps back ∙ stamps_told s.pid _
-    ∙ unit_heads s.stream_id d.description.base0 n (sent_units (owned_stream d k s) n (units k)))
-    (stream_in_time d units n k s r promised kept (steady.streams k s is) is)
+    let on : told_stamps (told_on pid bytes) ≡ pts_begins (each_found (unit_found s.stream_id d.description.base0) n (sent_units l n (units k))) =
+    ap (λ (q : ℕ). told_stamps (told_on q bytes)) (sym same) ∙ ap told_stamps back ∙ stamps_told s.pid _ in
+    elim (steady.streams k s is) [
+      | inl (stamped, often) ↦
+          by_told d.description.rate pid bytes (heads (sent_units l n (units k))) told count
+          (on ∙ unit_heads s.stream_id d.description.base0 n (sent_units l n (units k)) (all_sent false l 0 (units k) (own_slots l.own 0 n) stamped))
+          (stream_in_time d units n k s r promised kept often is)
+      | inr bare ↦
+          by_told d.description.rate pid bytes [] told count
+          (on ∙ bare_heads s.stream_id d.description.base0 n (sent_units l n (units k)) (all_sent true l 0 (units k) (own_slots l.own 0 n) bare)) refl
+    ]
 sent_in_time d units n pid r promised kept steady few told count (inr (t, lt, same)) =
     let bytes : List ℕ = run_bytes (content_at d units) 0 n in
     let back = (given_back d units n r kept few).tables t lt (steady.tables t lt) in

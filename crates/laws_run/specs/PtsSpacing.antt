@@ -1,6 +1,6 @@
 -- When a monitor reports nothing at all of the finished bytes of a run: units come often, and the sections are distinguishable from PES
 -- packets and stuffing.
-use Rattle.std.specs.Prelude.{◌≡◌, ℕ, ◌+◌, ◌-◌, ◌^◌, ◌<◌, ◌≤◌, false, List, [], ◌∷◌, slice_get, Some, None}
+use Rattle.std.specs.Prelude.{◌≡◌, ◌⊎◌, ℕ, ◌+◌, ◌-◌, ◌^◌, ◌<◌, ◌≤◌, true, false, List, [], ◌∷◌, slice_get, Some, None, All}
 use Rattle.pes_packet.specs.AccessUnits.{AccessUnit}
 use Rattle.pes_packet.specs.Units.{units_of}
 use Rattle.slot_contents.specs.Contents.{run_bytes}
@@ -31,9 +31,13 @@ unfoldable pub ComeOften : ℕ → List AccessUnit → Type 0
 ComeOften lead [] = Unit {0}
 ComeOften lead (u ∷ us) = FollowSoon lead u.dts us
 
+-- each of these units has a PTS, and they come often; or none has a PTS
+abbrev pub HasSpacing : ℕ → List AccessUnit → Type 0
+HasSpacing lead us = (All (λ u. u.marks.unstamped ≡ false) us × ComeOften lead us) ⊎ All (λ u. u.marks.unstamped ≡ true) us
+
 -- so of each stream, and no ready-made section is taken for a PES packet or for stuffing
 pub record HasPtsSpacing (d : Scheduled) (units : ℕ → List AccessUnit) : Type 0 where
-  pub streams : (k : ℕ) (s : DescribedStream) → slice_get d.description.streams k ≡ Some s → ComeOften s.lead (units k)
+  pub streams : (k : ℕ) (s : DescribedStream) → slice_get d.description.streams k ≡ Some s → HasSpacing s.lead (units k)
   pub tables : (t : ℕ) → t < table_count d.description → IsDistinguishable d.description t
 
 -- by all fifteen rules a run has no fault

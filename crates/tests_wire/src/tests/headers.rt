@@ -40,7 +40,14 @@ static WRITTEN: [(u8, usize, Marks, u64, u64, &[u8]); 7] = [
         b"\x00\x00\x01\xbd\x00\x0b\x85\x80\x05\x21\x00\x05\xbf\x21",
     ),
     (192, 3, DESCRIBED, 90_000, 90_000, DESCRIBED_HEADER),
-    (189, 3, UNSTAMPED, 90_000, 90_000, b"\x00\x00\x01\xbd\x00\x06\x84\x00\x00"),
+    (
+        189,
+        3,
+        UNSTAMPED,
+        90_000,
+        90_000,
+        b"\x00\x00\x01\xbd\x00\x06\x84\x00\x00",
+    ),
 ];
 
 /// An AD_descriptor: its length 8, AD_text_tag DTGAD, version 1, a fade of 16 and a pan of 32.
