@@ -1,5 +1,6 @@
 -- The counter breaks that are found in a stream are the continuity errors of its packets.
-use Rattle.std.proofs.Common.{◌≡◌, ◌∙◌, ℕ, zero-add, ◌+◌, ◌-◌, ◌/◌, ◌^◌, ◌<◌, ◌==◌, Bool, true, false, cond, nat_eq, List, [], ◌∷◌, ◌++◌, length, map, filter, Option, Some, None, Result, Ok, Err, refl, sym, ap, ap₂, subst, arith, append_assoc}
+use Rattle.std.proofs.Common.{◌≡◌, ◌∙◌, ℕ, zero-add, ◌+◌, ◌-◌, ◌/◌, ◌^◌, ◌<◌, ◌==◌, Bool, true, false, cond, nat_eq, List, [], ◌∷◌, ◌++◌, length, map, filter}
+use Rattle.std.proofs.Common.{Option, Some, None, Result, Ok, Err, refl, sym, ap, ap₂, subst, arith, append_assoc}
 use Rattle.std.specs.Prelude.{not, option_map, unwrap_or}
 use Rattle.std.specs.List.{cons_option, enumerate_from, filter_map, flat_map}
 use Rattle.std.specs.Map.{lookup}
@@ -15,7 +16,8 @@ use Rattle.demux.specs.Marks.{LastView, break_at, mark, seen}
 use Rattle.demux.specs.Machine.{PidState, found_by, fresh, step, step_marked}
 use Rattle.demux.specs.Shown.{with_pid}
 use Rattle.demux.specs.Findings.{ended}
-use Rattle.demux.specs.Stream.{States, StreamState, ended_found, findings_by, finished, found_in, next_packet, start, state_of, states_by, taken, with_state, without_pid}
+use Rattle.demux.specs.Stream.{States, StreamState, ended_found, findings_by, finished, found_in, next_packet, start, state_of, states_by, taken, with_state}
+use Rattle.demux.specs.Stream.{without_pid}
 use Rattle.demux.specs.Stream as stream
 use Rattle.demux.specs.FoundSoFar.{found_in_all, taken_all}
 use Rattle.tr101290.specs.Continuity.{Lasts, after, before_if, error_at, error_of, errors_from, last_of}
@@ -42,7 +44,8 @@ last_kept : (pid q : ℕ) (x : Option LastView) (es : Lasts) (t : Bool) → (q =
 last_kept pid q x es true e = ap (λ (o : Option (Option LastView)). unwrap_or o None) (kept pid q x es true e)
 last_kept pid q x es false e = ap (λ (o : Option (Option LastView)). unwrap_or o None) (kept pid q x es false e)
 
-state_kept : (pid q : ℕ) (state : PidState) (states : States) (t : Bool) → (q == pid) ≡ t → state_of pid (with_state q state states) ≡ cond t state (state_of pid states)
+state_kept : (pid q : ℕ) (state : PidState) (states : States) (t : Bool) → (q == pid) ≡ t →
+    state_of pid (with_state q state states) ≡ cond t state (state_of pid states)
 state_kept pid q state [] t e = rw (turned_test pid q ∙ e) refl
 state_kept pid q state (y ∷ es) t e = by t e (q == y.0) refl (state_kept pid q state es t e)
   where
@@ -66,7 +69,8 @@ agree_next : (lasts : Lasts) (states : States) (entry : Entry) (q : ℕ) → Agr
 agree_next lasts states entry q h pid = by (q == pid) refl
   where
     by : (t : Bool) → (q == pid) ≡ t →
-        last_of pid (insert_entry nat_eq lasts q (Some (seen (mark (last_of q lasts) entry)))) ≡ (state_of pid (with_state q (step (state_of q states) entry) states)).last
+        last_of pid (insert_entry nat_eq lasts q (Some (seen (mark (last_of q lasts) entry)))) ≡
+        (state_of pid (with_state q (step (state_of q states) entry) states)).last
     by true e =
         last_kept pid q (Some (seen (mark (last_of q lasts) entry))) lasts true e
         ∙ ap (λ (l : Option LastView). Some (seen (mark l entry))) (h q)
@@ -92,17 +96,20 @@ unfolding before_if break_fault
 error_fault pid index None errors = refl
 error_fault pid index (Some b) errors = refl
 
-faults_append : (xs ys : List FindingView) → filter (is_by 4) (faults_of_all (xs ++ ys)) ≡ filter (is_by 4) (faults_of_all xs) ++ filter (is_by 4) (faults_of_all ys)
+faults_append : (xs ys : List FindingView) → filter (is_by 4) (faults_of_all (xs ++ ys)) ≡ filter (is_by 4) (faults_of_all xs)
+    ++ filter (is_by 4) (faults_of_all ys)
 unfolding faults_of_all
 faults_append [] ys = refl
 faults_append (x ∷ xs) ys =
     filter-append (is_by 4) (faults_on x.packet x.pid x.what) (faults_of_all (xs ++ ys))
     ∙ ap (λ (l : List StreamFault). filter (is_by 4) (faults_on x.packet x.pid x.what) ++ l) (faults_append xs ys)
     ∙ sym (append_assoc (filter (is_by 4) (faults_on x.packet x.pid x.what)) (filter (is_by 4) (faults_of_all xs)) (filter (is_by 4) (faults_of_all ys)))
-    ∙ ap (λ (l : List StreamFault). l ++ filter (is_by 4) (faults_of_all ys)) (sym (filter-append (is_by 4) (faults_on x.packet x.pid x.what) (faults_of_all xs)))
+    ∙ ap (λ (l : List StreamFault). l ++ filter (is_by 4) (faults_of_all ys))
+    (sym (filter-append (is_by 4) (faults_on x.packet x.pid x.what) (faults_of_all xs)))
 
 -- a null packet has no error, and a packet that counts has its break
-null_packet : (lasts : Lasts) (entry : Entry) (rest : List Entry) → (entry.packet.header.pid == 8191) ≡ true → errors_at lasts (entry ∷ rest) ≡ errors_at lasts rest
+null_packet : (lasts : Lasts) (entry : Entry) (rest : List Entry) → (entry.packet.header.pid == 8191) ≡ true →
+    errors_at lasts (entry ∷ rest) ≡ errors_at lasts rest
 unfolding errors_from error_at after before_if
 null_packet lasts entry rest n = rw n refl
 
@@ -141,7 +148,8 @@ record Stepped (lasts : Lasts) (states : States) (index : ℕ) (bytes : List ℕ
   errors : errors_at lasts (filter is_sound (cons_option (entry_of index bytes r) rest))
       ≡ filter (is_by 4) (faults_of_all (findings_by index bytes states r)) ++ errors_at next (filter is_sound rest)
 
-one : (lasts : Lasts) (states : States) (index : ℕ) (bytes : List ℕ) (r : Result PacketView PacketError) (rest : List Entry) → Agree lasts states → Stepped lasts states index bytes r rest
+one : (lasts : Lasts) (states : States) (index : ℕ) (bytes : List ℕ) (r : Result PacketView PacketError) (rest : List Entry) → Agree lasts states →
+    Stepped lasts states index bytes r rest
 unfolding states_by findings_by entry_of faults_of_all faults_on
 one lasts states index bytes (Err error) rest h = record { next = lasts; agree = h; errors = refl }
 one lasts states index bytes (Ok packet) rest h = by packet.header.transport_error_indicator refl (packet.header.pid == 8191) refl
@@ -170,7 +178,8 @@ unfolding found_in_all found_in taken faults_of_all errors_from
 along lasts s [] f h = refl
 along lasts s (bytes ∷ packets) f h =
     let e : next_packet s.packets ≡ s.packets + 1 = omega arith in
-    let p = one lasts s.states s.packets bytes (packet_at bytes) (filter_map (λ p. entry_of p.0 p.1 (packet_at p.1)) (enumerate_from (s.packets + 1) packets)) h in
+    let p = one lasts s.states s.packets bytes (packet_at bytes) (filter_map (λ p. entry_of p.0 p.1 (packet_at p.1)) (enumerate_from (s.packets + 1) packets))
+    h in
     p.errors
     ∙ ap (λ (l : List StreamFault). filter (is_by 4) (faults_of_all (found_in s bytes)) ++ l)
     (ap (λ (i : ℕ). errors_at p.next (sound_in (enumerate_from i packets))) (sym e) ∙ along p.next (taken s bytes) packets (omega arith) p.agree)

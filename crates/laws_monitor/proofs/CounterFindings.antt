@@ -1,5 +1,6 @@
 -- Of what is found at a packet, what is no counter break.
-use Rattle.std.proofs.Common.{◌≡◌, ◌∙◌, ℕ, zero, suc, ◌+◌, ◌-◌, ◌==◌, Bool, true, false, cond, List, [], ◌∷◌, ◌++◌, length, take, drop, map, filter, Option, Some, None, Result, Ok, Err, refl, sym, ap}
+use Rattle.std.proofs.Common.{◌≡◌, ◌∙◌, ℕ, zero, suc, ◌+◌, ◌-◌, ◌==◌, Bool, true, false, cond, List, [], ◌∷◌, ◌++◌, length, take, drop, map, filter, Option}
+use Rattle.std.proofs.Common.{Some, None, Result, Ok, Err, refl, sym, ap}
 use Rattle.std.specs.Prelude.{nat_lt}
 use Rattle.std.proofs.lemmas.List.Elements.{filter-append}
 use Rattle.psi_tables.specs.Views.{SectionView}
@@ -10,14 +11,17 @@ use Rattle.pes_packet.specs.Reading.{header_at}
 use Rattle.pes_packet.specs.declared.reading.PesHeader.{PesHeader}
 use Rattle.pes_packet.specs.declared.refusal.PesError.{PesError}
 use Rattle.pes_packet.specs.declared.refusal.PesError.TheVariants as pes_errors
-use Rattle.demux.specs.Views.{Found, FindingView, WhatView, IsDuplicate, BreaksCounter, IsScrambled, IsTruncated, IsSection, IsBadSection, IsPes, IsBadPes, IsBadPacket, IsErrored}
+use Rattle.demux.specs.Views.{Found, FindingView, WhatView, IsDuplicate, BreaksCounter, IsScrambled, IsTruncated, IsSection, IsBadSection, IsPes, IsBadPes}
+use Rattle.demux.specs.Views.{IsBadPacket, IsErrored}
 use Rattle.demux.specs.Marks.{LastView, Marked, break_at, is_repeat, mark, repeats}
 use Rattle.ts_packet.specs.PidList.{Entry}
 use Rattle.demux.specs.Roles.{Role, NoPayload, ScrambledPayload, PesStart, SectionStart, PointerPastEnd, Continuation, role}
-use Rattle.demux.specs.OpenUnits.{OpenUnit, about_within, appended, decided, max_unbounded_pes, of_header, of_pes, of_section, plain, section, sections_in, taken_by}
+use Rattle.demux.specs.OpenUnits.{OpenUnit, about_within, appended, decided, max_unbounded_pes, of_header, of_pes, of_section, plain, section, sections_in}
+use Rattle.demux.specs.OpenUnits.{taken_by}
 use Rattle.demux.specs.declared.open_unit.UnitKind.{UnitKind}
 use Rattle.demux.specs.declared.open_unit.UnitKind.TheVariants as unit_kinds
-use Rattle.demux.specs.Findings.{by_break, by_role, cut_short, decided_within, end_of, ended, found_appended, found_at, found_if, found_or_cut, found_within, last_bytes, last_bytes_by}
+use Rattle.demux.specs.Findings.{by_break, by_role, cut_short, decided_within, end_of, ended, found_appended, found_at, found_if, found_or_cut, found_within}
+use Rattle.demux.specs.Findings.{last_bytes, last_bytes_by}
 use Rattle.demux.specs.Machine.{PidState, found_by}
 use Rattle.demux.specs.Shown.{with_pid}
 use Rattle.monitor.specs.declared.fault.StreamFault.{StreamFault}
@@ -75,7 +79,8 @@ of_header_quiet : (bytes : List ℕ) (h : PesHeader × ℕ) → quiet_if (of_hea
 unfolding of_header
 of_header_quiet bytes h = by (h.0.len == 0) (nat_lt max_unbounded_pes (length bytes)) (nat_lt (length bytes) (6 + h.0.len))
   where
-    by : (a b c : Bool) → quiet_if (cond a (cond b (Some (IsTruncated bytes)) None) (cond c None (Some (IsPes h.0 false (take (6 + h.0.len - h.1) (drop h.1 bytes))))))
+    by : (a b c : Bool) →
+        quiet_if (cond a (cond b (Some (IsTruncated bytes)) None) (cond c None (Some (IsPes h.0 false (take (6 + h.0.len - h.1) (drop h.1 bytes))))))
     by true true c = truncated_quiet bytes
     by true false c = tt
     by false b true = tt
@@ -156,12 +161,14 @@ last_quiet bytes (Some unit) = by unit.kind
   where
     by : (kind : UnitKind) → all_quiet (last_bytes_by bytes unit kind)
     by unit_kinds.Pes = ended_quiet false (Some unit)
-    by unit_kinds.Section = or_cut_quiet (appended unit bytes) (decided unit_kinds.Section (unit.bytes ++ bytes)) (decided_quiet unit_kinds.Section (unit.bytes ++ bytes))
+    by unit_kinds.Section =
+        or_cut_quiet (appended unit bytes) (decided unit_kinds.Section (unit.bytes ++ bytes)) (decided_quiet unit_kinds.Section (unit.bytes ++ bytes))
 
 appended_quiet : (payload : List ℕ) (held : Option OpenUnit) → all_quiet (found_appended payload held)
 unfolding found_appended
 appended_quiet payload None = tt
-appended_quiet payload (Some unit) = if_quiet (appended unit payload) (decided unit.kind (unit.bytes ++ payload)) (decided_quiet unit.kind (unit.bytes ++ payload))
+appended_quiet payload (Some unit) =
+    if_quiet (appended unit payload) (decided unit.kind (unit.bytes ++ payload)) (decided_quiet unit.kind (unit.bytes ++ payload))
 
 sections_quiet : (index k : ℕ) (bytes : List ℕ) → all_quiet (sections_in index k bytes)
 unfolding sections_in
@@ -185,8 +192,10 @@ role_quiet index NoPayload held = tt
 role_quiet index ScrambledPayload held = (scrambled_quiet, cut_quiet held)
 role_quiet index (PesStart access payload) held =
     join (ended false held) (decided_within (record { packet = index; kind = unit_kinds.Pes; access = access; bytes = payload })) (ended_quiet false held)
-    (within_quiet (record { packet = index; kind = unit_kinds.Pes; access = access; bytes = payload }) (decided unit_kinds.Pes payload) (decided_quiet unit_kinds.Pes payload))
-role_quiet index (SectionStart before bytes) held = join (last_bytes before held) (sections_in index 0 bytes) (last_quiet before held) (sections_quiet index 0 bytes)
+    (within_quiet (record { packet = index; kind = unit_kinds.Pes; access = access; bytes = payload }) (decided unit_kinds.Pes payload)
+    (decided_quiet unit_kinds.Pes payload))
+role_quiet index (SectionStart before bytes) held =
+    join (last_bytes before held) (sections_in index 0 bytes) (last_quiet before held) (sections_quiet index 0 bytes)
 role_quiet index PointerPastEnd held = (bad_section_quiet section_errors.Body, cut_quiet held)
 role_quiet index (Continuation payload) held = appended_quiet payload held
 
@@ -213,7 +222,8 @@ unfolding by_break break_fault faults_of_all faults_on finding_rule failing rule
 break_faults pid packet None r held = quiet_faults pid packet (by_role packet r held) (role_quiet packet r held)
 break_faults pid packet (Some b) r held =
     ap (λ (l : List StreamFault). fault rules.Counter (Some pid) packet ∷ l)
-    (quiet_faults pid packet (cut_short held ++ by_role packet r None) (join (cut_short held) (by_role packet r None) (cut_quiet held) (role_quiet packet r None)))
+    (quiet_faults pid packet (cut_short held ++ by_role packet r None)
+    (join (cut_short held) (by_role packet r None) (cut_quiet held) (role_quiet packet r None)))
 
 -- a packet that repeats the one before it breaks nothing
 no_break_of : (last : Option LastView) (entry : Entry) → is_repeat last entry ≡ true → break_at last entry ≡ None
@@ -229,6 +239,8 @@ counter_at pid s entry = by (is_repeat s.last entry) refl
     m = mark s.last entry
 
     by : (t : Bool) → is_repeat s.last entry ≡ t →
-        faults_at pid entry.index (cond t (plain IsDuplicate ∷ []) (by_break entry.index (break_at s.last entry) (role m) s.open_unit)) ≡ break_fault pid entry.index (break_at s.last entry)
-    by true e = quiet_faults pid entry.index (plain IsDuplicate ∷ []) (duplicate_quiet, tt) ∙ sym (ap (break_fault pid entry.index) (no_break_of s.last entry e))
+        faults_at pid entry.index (cond t (plain IsDuplicate ∷ []) (by_break entry.index (break_at s.last entry) (role m) s.open_unit)) ≡ break_fault pid
+        entry.index (break_at s.last entry)
+    by true e = quiet_faults pid entry.index (plain IsDuplicate ∷ []) (duplicate_quiet, tt)
+        ∙ sym (ap (break_fault pid entry.index) (no_break_of s.last entry e))
     by false e = break_faults pid entry.index (break_at s.last entry) (role m) s.open_unit

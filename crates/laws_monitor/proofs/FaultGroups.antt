@@ -1,5 +1,6 @@
 -- The faults of a stream by one rule: those of its group.
-use Rattle.std.proofs.Common.{◌≡◌, ◌∙◌, ℕ, ◌/◌, ◌%◌, ◌==◌, Bool, true, false, cond, List, [], ◌∷◌, ◌++◌, length, map, filter, Option, Some, None, Result, Ok, Err, refl, ap}
+use Rattle.std.proofs.Common.{◌≡◌, ◌∙◌, ℕ, ◌/◌, ◌%◌, ◌==◌, Bool, true, false, cond, List, [], ◌∷◌, ◌++◌, length, map, filter, Option, Some, None, Result, Ok}
+use Rattle.std.proofs.Common.{Err, refl, ap}
 use Rattle.std.specs.List.{enumerate_from, flat_map}
 use Rattle.psi_tables.specs.declared.error.SectionError.TheVariants as section_errors
 use Rattle.ts_packet.specs.declared.packet.PacketError.{PacketError}
@@ -7,14 +8,16 @@ use Rattle.ts_packet.specs.declared.packet.PacketError.TheVariants as refusals
 use Rattle.ts_packet.specs.Views.{PacketView}
 use Rattle.ts_packet.specs.Reading.{packet_at}
 use Rattle.ts_packet.specs.PidList.{cut_packets}
-use Rattle.demux.specs.Views.{PidFinding, WhatView, IsDuplicate, BreaksCounter, IsScrambled, IsTruncated, IsSection, IsBadSection, IsPes, IsBadPes, IsBadPacket, IsErrored}
+use Rattle.demux.specs.Views.{PidFinding, WhatView, IsDuplicate, BreaksCounter, IsScrambled, IsTruncated, IsSection, IsBadSection, IsPes, IsBadPes, IsBadPacket}
+use Rattle.demux.specs.Views.{IsErrored}
 use Rattle.monitor.specs.declared.fault.StreamFault.{StreamFault}
 use Rattle.monitor.specs.declared.fault.Rule.{Rule}
 use Rattle.monitor.specs.declared.fault.Rule.TheVariants as rules
 use Rattle.monitor.specs.InOrder.{rule_number}
 use Rattle.monitor.specs.Begins.{found_on}
 use Rattle.monitor.specs.NamedPids.{namings}
-use Rattle.monitor.specs.Faults.{cut_faults, faults_of, faults_of_findings, faults_of_packets, finding_faults, map_late, on_each, packet_faults, packet_pids, pat_late, pcr_late, pts_late, table_late}
+use Rattle.monitor.specs.Faults.{cut_faults, faults_of, faults_of_findings, faults_of_packets, finding_faults, map_late, on_each, packet_faults, packet_pids}
+use Rattle.monitor.specs.Faults.{pat_late, pcr_late, pts_late, table_late}
 use Rattle.monitor.specs.Rules.{failing, fault, finding_rule, packet_rule}
 use Rattle.laws_monitor.specs.FaultsByRule.{is_by}
 use Rattle.laws_monitor.proofs.FaultLists.{left_alone, none_at, none_on_each, right_alone}
@@ -137,7 +140,8 @@ pub record OfPackets (p : StreamFault → Bool) : Type 0 where
   pub pts : Without p rules.Pts
   pub cut : Without p rules.Cut
 
-packets_alone : (p : StreamFault → Bool) (rate limit : ℕ) (bytes : List ℕ) → OfPackets p → filter p (faults_of rate limit bytes) ≡ filter p (faults_of_packets rate limit bytes)
+packets_alone : (p : StreamFault → Bool) (rate limit : ℕ) (bytes : List ℕ) → OfPackets p →
+    filter p (faults_of rate limit bytes) ≡ filter p (faults_of_packets rate limit bytes)
 unfolding faults_of
 packets_alone p rate limit bytes h =
     left_alone p (faults_of_packets rate limit bytes) (faults_of_findings rate bytes)
@@ -148,15 +152,18 @@ pub refusal_group : (p : StreamFault → Bool) (rate limit : ℕ) (bytes : List 
     filter p (faults_of rate limit bytes) ≡ filter p (packet_faults (enumerate_from 0 (cut_packets bytes)))
 refusal_group p rate limit bytes h pcr =
     packets_alone p rate limit bytes h
-    ∙ left_alone p (packet_faults (enumerate_from 0 (cut_packets bytes)) ++ cut_faults bytes) (on_each rules.Pcr (pcr_late rate limit bytes) (packet_pids bytes))
+    ∙ left_alone p (packet_faults (enumerate_from 0 (cut_packets bytes)) ++ cut_faults bytes)
+    (on_each rules.Pcr (pcr_late rate limit bytes) (packet_pids bytes))
     (none_on_each p rules.Pcr (pcr_late rate limit bytes) (packet_pids bytes) pcr)
     ∙ left_alone p (packet_faults (enumerate_from 0 (cut_packets bytes))) (cut_faults bytes) (none_cut p bytes h.cut)
 
 -- 13: clock references
-pub pcr_group : (p : StreamFault → Bool) (rate limit : ℕ) (bytes : List ℕ) → OfPackets p → Without p rules.Sync → Without p rules.Packet → Without p rules.Error →
+pub pcr_group : (p : StreamFault → Bool) (rate limit : ℕ) (bytes : List ℕ) → OfPackets p → Without p rules.Sync → Without p rules.Packet →
+    Without p rules.Error →
     filter p (faults_of rate limit bytes) ≡ filter p (on_each rules.Pcr (pcr_late rate limit bytes) (packet_pids bytes))
 pcr_group p rate limit bytes h s q e =
     packets_alone p rate limit bytes h
-    ∙ right_alone p (packet_faults (enumerate_from 0 (cut_packets bytes)) ++ cut_faults bytes) (on_each rules.Pcr (pcr_late rate limit bytes) (packet_pids bytes))
+    ∙ right_alone p (packet_faults (enumerate_from 0 (cut_packets bytes)) ++ cut_faults bytes)
+    (on_each rules.Pcr (pcr_late rate limit bytes) (packet_pids bytes))
     (right_alone p (packet_faults (enumerate_from 0 (cut_packets bytes))) (cut_faults bytes) (none_of_packets p (enumerate_from 0 (cut_packets bytes)) s q e)
     ∙ none_cut p bytes h.cut)

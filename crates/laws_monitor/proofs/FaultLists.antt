@@ -1,5 +1,6 @@
 -- Lists of faults: some of them, in order.
-use Rattle.std.proofs.Common.{◌≡◌, ◌∙◌, ◌⊎◌, inl, inr, ℕ, ◌==◌, Bool, true, false, cond, List, [], ◌∷◌, ◌++◌, map, filter, Option, Some, refl, sym, ap, ap₂, subst, arith}
+use Rattle.std.proofs.Common.{◌≡◌, ◌∙◌, ◌⊎◌, inl, inr, ℕ, ◌==◌, Bool, true, false, cond, List, [], ◌∷◌, ◌++◌, map, filter, Option, Some, refl, sym, ap, ap₂}
+use Rattle.std.proofs.Common.{subst, arith}
 use Rattle.std.specs.Prelude.{◌&&◌, ◌||◌}
 use Rattle.std.specs.List.{flat_map}
 use Rattle.std.proofs.lemmas.List.Elements.{filter-append}
@@ -60,7 +61,8 @@ rising_filter p (x ∷ xs) h = by (p x) (rising_filter p xs h.1)
     by false k = k
 
 pub filter_in_order : (p : StreamFault → Bool) (xs : List StreamFault) → filter p (in_order xs) ≡ in_order (filter p xs)
-filter_in_order p xs = settled (filter p (in_order xs)) (in_order (filter p xs)) (rising_filter p (in_order xs) (rising_in_order xs)) (rising_in_order (filter p xs))
+filter_in_order p xs =
+    settled (filter p (in_order xs)) (in_order (filter p xs)) (rising_filter p (in_order xs) (rising_in_order xs)) (rising_in_order (filter p xs))
     (λ z. has_filter p z (in_order xs) ∙ ap (λ (b : Bool). p z && b) (has_in_order z xs) ∙ sym (has_filter p z xs) ∙ sym (has_in_order z (filter p xs)))
 
 -- so the part of an ordered list, by any list with the same members in that part
@@ -79,7 +81,8 @@ append_none (x ∷ xs) = ap (λ (l : List StreamFault). x ∷ l) (append_none xs
 pub left_alone : (p : StreamFault → Bool) (xs ys : List StreamFault) → filter p ys ≡ [] → filter p (xs ++ ys) ≡ filter p xs
 left_alone p xs ys e = filter-append p xs ys ∙ ap (λ (l : List StreamFault). filter p xs ++ l) e ∙ append_none (filter p xs)
 
-pub none_at : (p : StreamFault → Bool) (rule : Rule) (pid : Option ℕ) (xs : List ℕ) → ((k : ℕ) → p (fault rule pid k) ≡ false) → filter p (map (fault rule pid) xs) ≡ []
+pub none_at : (p : StreamFault → Bool) (rule : Rule) (pid : Option ℕ) (xs : List ℕ) → ((k : ℕ) → p (fault rule pid k) ≡ false) →
+    filter p (map (fault rule pid) xs) ≡ []
 none_at p rule pid [] h = refl
 none_at p rule pid (x ∷ xs) h = rw (h x) (none_at p rule pid xs h)
 

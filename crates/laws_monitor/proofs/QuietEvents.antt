@@ -43,12 +43,15 @@ use Rattle.es_view.specs.declared.view_options.ViewOptions.{ViewOptions}
 use Rattle.es_view.specs.Clocks.{ClockEntries, clock_of}
 use Rattle.es_view.specs.Tallies.{is_late}
 use Rattle.es_view.specs.EntryEvents.{ahead_event, ahead_events, ended_events, excess_event, late_event, late_events, main_excess_event, with_size}
-use Rattle.es_view.specs.VideoEvents.{elementary_excess_event, elementary_late_event, elementary_late_events, events_of_both, late_events_by, multiplexing_excess_event, video_ended_events}
+use Rattle.es_view.specs.VideoEvents.{elementary_excess_event, elementary_late_event, elementary_late_events, events_of_both, late_events_by}
+use Rattle.es_view.specs.VideoEvents.{multiplexing_excess_event, video_ended_events}
 use Rattle.es_view.specs.VideoFigures.{limits_of}
 use Rattle.es_view.specs.HeldEvents.{held_event, tally_events, unit_event}
 use Rattle.es_view.specs.EntryStays.{busy_ended, busy_event, delayed_event, delayed_events, overstay_of}
-use Rattle.es_view.specs.EntryFrames.{FramedPayload, busy_seen, count_of, frame_events, frames_among, frames_events, front_events, front_held, leak_ended, part_of, payload_events, place_of, stays_ended, whole_events, frame_tick}
-use Rattle.es_view.specs.Entries.{EntryState, Framed, ahead_by, arriving_at, beginning_in, entry_events, events_entered, held_after, last_buffer, payload_at, place_at, seen_held, seen_tally, unit_stay, units_of}
+use Rattle.es_view.specs.EntryFrames.{FramedPayload, busy_seen, count_of, frame_events, frames_among, frames_events, front_events, front_held, leak_ended}
+use Rattle.es_view.specs.EntryFrames.{part_of, payload_events, place_of, stays_ended, whole_events, frame_tick}
+use Rattle.es_view.specs.Entries.{EntryState, Framed, ahead_by, arriving_at, beginning_in, entry_events, events_entered, held_after, last_buffer, payload_at}
+use Rattle.es_view.specs.Entries.{place_at, seen_held, seen_tally, unit_stay, units_of}
 use Rattle.ts_watch.specs.Choices.{ChoiceView, takes}
 use Rattle.ts_watch.specs.SystemEvents.{excess_by, excess_events, excess_if}
 use Rattle.ts_watch.specs.SystemEvents as systems
@@ -83,14 +86,16 @@ one_unless false e h = rw h refl
 
 -- 2. Windows
 
-pub windows : (options : ViewOptions) (named : NamedView) (names : Option (List NameState)) (window : WindowView) → Quiet (window_events options named names window)
+pub windows : (options : ViewOptions) (named : NamedView) (names : Option (List NameState)) (window : WindowView) →
+    Quiet (window_events options named names window)
 unfolding fault_in
 windows options named names window = each (window_event options named names window.number) window.counts (λ x. refl)
 
 tallies : (options : ViewOptions) (window : ℕ) (place : Place) (t : Tally) → Quiet (tally_events options window place t)
 unfolding fault_in
 tallies options window place t =
-    join (cond ((t.window == window) && nat_lt 0 t.window_transport) (held_event place t ∷ []) []) (cond ((t.window == window) && nat_lt 0 t.window_units) (unit_event options place t ∷ []) [])
+    join (cond ((t.window == window) && nat_lt 0 t.window_transport) (held_event place t ∷ []) [])
+    (cond ((t.window == window) && nat_lt 0 t.window_units) (unit_event options place t ∷ []) [])
     (one_if ((t.window == window) && nat_lt 0 t.window_transport) (held_event place t) refl)
     (one_if ((t.window == window) && nat_lt 0 t.window_units) (unit_event options place t) refl)
 
@@ -109,7 +114,8 @@ unfolding fault_in
 ends options place e =
     join (map (excess_event options (with_size place tb_size)) e.transport) (map (main_excess_event options place) e.main ++ late_events options place e.unit)
     (each (excess_event options (with_size place tb_size)) e.transport (λ x. refl))
-    (join (map (main_excess_event options place) e.main) (late_events options place e.unit) (each (main_excess_event options place) e.main (λ x. refl)) (lates options place e.unit))
+    (join (map (main_excess_event options place) e.main) (late_events options place e.unit) (each (main_excess_event options place) e.main (λ x. refl))
+    (lates options place e.unit))
 
 aheads : (place : Place) (o : Option ℕ) → Quiet (ahead_events place o)
 unfolding ahead_events fault_in
@@ -140,7 +146,8 @@ of_both options place limits multiplexing elementary unit =
     (join (map (elementary_excess_event options (with_size place limits.elementary)) (option_to_list elementary)) (elementary_late_events options place unit)
     (each (elementary_excess_event options (with_size place limits.elementary)) (option_to_list elementary) (λ x. refl)) (video_lates options place unit))
 
-video_ends : (options : ViewOptions) (place : Place) (limits : Option VideoLimits) (e : VideoEnteredView) (unit : Option VideoUnit) → Quiet (video_ended_events options place limits e unit)
+video_ends : (options : ViewOptions) (place : Place) (limits : Option VideoLimits) (e : VideoEnteredView) (unit : Option VideoUnit) →
+    Quiet (video_ended_events options place limits e unit)
 unfolding video_ended_events
 video_ends options place None e unit = refl
 video_ends options place (Some limits) e unit = of_both options place limits e.multiplexing e.elementary unit
@@ -155,13 +162,16 @@ unfolding frames_events
 frames options place at h [] = refl
 frames options place at h (p ∷ ps) =
     join (frame_events options place at h p) (frames_events options place at (after_part h options.arrival (part_of options at h p)) ps)
-    (join (ended_events options place (entered_part h options.arrival (part_of options at h p))) _ (ends options place (entered_part h options.arrival (part_of options at h p)))
+    (join (ended_events options place (entered_part h options.arrival (part_of options at h p))) _
+    (ends options place (entered_part h options.arrival (part_of options at h p)))
     (delays options place buffers.Main at.limit (overstay_of options at.limit (part_of options at h p).byte (frame_tick at.tick p))))
     (frames options place at (after_part h options.arrival (part_of options at h p)) ps)
 
-payloads : (options : ViewOptions) (place : Place) (limit : ℕ) (p : FramedPayload) (w : WalkView) (tick : ℕ) (h : Held) → Quiet (payload_events options place limit p w tick h)
+payloads : (options : ViewOptions) (place : Place) (limit : ℕ) (p : FramedPayload) (w : WalkView) (tick : ℕ) (h : Held) →
+    Quiet (payload_events options place limit p w tick h)
 payloads options place limit p w tick h =
-    join (front_events options place p.arriving (count_of p w) h) _ (ends options place (entered_first h options.arrival p.arriving (min (count_of p w) (size_of p.arriving))))
+    join (front_events options place p.arriving (count_of p w) h) _
+    (ends options place (entered_first h options.arrival p.arriving (min (count_of p w) (size_of p.arriving))))
     (frames options place (place_of limit p tick) (front_held options p w h) (frames_among p w))
 
 busy_ends : (options : ViewOptions) (place : Place) (buffer : BufferKind) (before after : BusyWatch) → Quiet (busy_ended options place buffer before after)
@@ -185,9 +195,11 @@ unfolding events_entered
 entering options index clock place e packet None = wholes options place (arriving_at options index clock e packet) e.video e.held
 entering options index clock place e packet (Some f) = payloads options place e.limit (payload_at options index clock e.counter packet f) f.walk f.tick f.held
 
-entries : (options : ViewOptions) (index : ℕ) (clock : Option PcrSample) (e : EntryState) (packet : PacketView) → Quiet (entry_events options index clock e packet)
+entries : (options : ViewOptions) (index : ℕ) (clock : Option PcrSample) (e : EntryState) (packet : PacketView) →
+    Quiet (entry_events options index clock e packet)
 entries options index clock e packet =
-    join (ahead_events (place_at index e) (ahead_by clock (beginning_in e.counter packet))) _ (aheads (place_at index e) (ahead_by clock (beginning_in e.counter packet)))
+    join (ahead_events (place_at index e) (ahead_by clock (beginning_in e.counter packet))) _
+    (aheads (place_at index e) (ahead_by clock (beginning_in e.counter packet)))
     (join (delayed_events options (place_at index e) (last_buffer e.video) e.limit (unit_stay options index clock e.limit e.counter packet)) _
     (delays options (place_at index e) (last_buffer e.video) e.limit (unit_stay options index clock e.limit e.counter packet))
     (join (events_entered options index clock (place_at index e) e packet e.framed) _ (entering options index clock (place_at index e) e packet e.framed)
@@ -195,17 +207,20 @@ entries options index clock e packet =
 
 -- 4. The streams of a report
 
-entries_in : (options : ViewOptions) (index : ℕ) (clocks : ClockEntries) (packet : PacketView) (o : Option EntryState) → Quiet (events_in options index clocks packet o)
+entries_in : (options : ViewOptions) (index : ℕ) (clocks : ClockEntries) (packet : PacketView) (o : Option EntryState) →
+    Quiet (events_in options index clocks packet o)
 unfolding events_in
 entries_in options index clocks packet None = refl
 entries_in options index clocks packet (Some e) = entries options index (clock_of clocks e.clock_pid) e packet
 
-entries_if : (options : ViewOptions) (index : ℕ) (clocks : ClockEntries) (t : TableState) (packet : PacketView) (o : Option ℕ) → Quiet (events_if options index clocks t packet o)
+entries_if : (options : ViewOptions) (index : ℕ) (clocks : ClockEntries) (t : TableState) (packet : PacketView) (o : Option ℕ) →
+    Quiet (events_if options index clocks t packet o)
 unfolding events_if
 entries_if options index clocks t packet None = refl
 entries_if options index clocks t packet (Some place) = entries_in options index clocks packet (slice_get t.entries place)
 
-pub streams : (options : ViewOptions) (index : ℕ) (clocks : ClockEntries) (t : TableState) (packet : PacketView) → Quiet (events_of options index clocks t packet)
+pub streams : (options : ViewOptions) (index : ℕ) (clocks : ClockEntries) (t : TableState) (packet : PacketView) →
+    Quiet (events_of options index clocks t packet)
 streams options index clocks t packet = entries_if options index clocks t packet (lookup (nat_eq packet.header.pid) t.places)
 
 begins_if : (index : ℕ) (t : TableState) (packet : PacketView) (o : Option FoundStreamView) → Quiet (begin_events_if index t packet o)

@@ -139,7 +139,8 @@ unfolding stream_report rule_number
 pcr_law rate request bytes at some short =
     part_in_order (is_by 13) (faults_of rate 100 bytes) (filter (is_by 13) (viewed_faults request bytes))
     (λ z. ap (has z) (pcr_group (is_by 13) rate 100 bytes pcr_packets (λ o k. refl) (λ o k. refl) (λ o k. refl))
-    ∙ alike_filter (is_by 13) (on_each rules.Pcr (pcr_late rate 100 bytes) (packet_pids bytes)) (map (late_fault rules.Pcr) lates) (λ y. sym (pcr_alike rate 100 bytes y)) z
+    ∙ alike_filter (is_by 13) (on_each rules.Pcr (pcr_late rate 100 bytes) (packet_pids bytes)) (map (late_fault rules.Pcr) lates)
+    (λ y. sym (pcr_alike rate 100 bytes y)) z
     ∙ ap (has z) (late_pcr lates ∙ sym (viewed_clocks rate request bytes at some short)))
   where
     lates : List LatePacket

@@ -1,5 +1,6 @@
 -- Sections of a table that begin late.
-use Rattle.std.proofs.Common.{◌≡◌, ◌∙◌, ℕ, ◌-◌, ◌*◌, ◌<◌, ◌≤◌, ◌==◌, Bool, true, false, cond, nat_eq, List, [], ◌∷◌, ◌++◌, map, filter, Option, Some, None, refl, sym, ap, ap₂, arith}
+use Rattle.std.proofs.Common.{◌≡◌, ◌∙◌, ℕ, ◌-◌, ◌*◌, ◌<◌, ◌≤◌, ◌==◌, Bool, true, false, cond, nat_eq, List, [], ◌∷◌, ◌++◌, map, filter, Option, Some, None}
+use Rattle.std.proofs.Common.{refl, sym, ap, ap₂, arith}
 use Rattle.std.specs.Prelude.{nat_lt, option_map}
 use Rattle.std.specs.List.{cons_option, filter_map}
 use Rattle.std.specs.Map.{lookup}
@@ -11,7 +12,8 @@ use Rattle.demux.specs.Views.{PidFinding, WhatView}
 use Rattle.demux.specs.Laws.{with_pid_at}
 use Rattle.demux.specs.declared.finding.Kind.{Kind}
 use Rattle.demux.specs.declared.finding.Kind.TheVariants.{Table, Pes}
-use Rattle.tr101290.specs.Intervals.{IntervalState, before_in, error_at, error_if, key_of, no_section, places_after, places_at, section_key, taken, time_between, time_of_packets}
+use Rattle.tr101290.specs.Intervals.{IntervalState, before_in, error_at, error_if, key_of, no_section, places_after, places_at, section_key, taken}
+use Rattle.tr101290.specs.Intervals.{time_between, time_of_packets}
 use Rattle.tr101290.specs.Limits.{limit_of, milliseconds}
 use Rattle.tr101290.specs.Parts.{has_parts}
 use Rattle.tr101290.specs.Sections.{begin_of, section_begin, section_by}
@@ -91,12 +93,15 @@ one_error rate limit timing section (Some p) l some t m b =
 
 module _ (rate limit pid table_id : ℕ) (some : 0 < rate) (m : milliseconds pid table_id ≡ Some limit) (whole : has_parts pid table_id ≡ false) where
   error_is : (s : IntervalState) (section : SectionBegin) → s.timing ≡ ConstantRate rate → IsOf pid table_id section →
-      map (λ (e : TableError). e.section.packet) (option_to_list (error_at s section)) ≡ step (limit * rate) (last_place (places_at s (key_of pid table_id))) section.packet
+      map (λ (e : TableError). e.section.packet) (option_to_list (error_at s section)) ≡ step (limit * rate) (last_place (places_at s (key_of pid table_id)))
+      section.packet
   error_is s section t h =
       rw (h.pid_is, h.table_is, whole)
-      (one_error rate limit s.timing section (places_at s (key_of pid table_id)) (limit_of pid table_id) some t (ap (option_map (λ ms. ms * 27000)) m) h.place_is)
+      (one_error rate limit s.timing section (places_at s (key_of pid table_id)) (limit_of pid table_id) some t (ap (option_map (λ ms. ms * 27000)) m)
+      h.place_is)
 
-  next_is : (s : IntervalState) (section : SectionBegin) → IsOf pid table_id section → last_place (places_at (taken s section) (key_of pid table_id)) ≡ Some section.packet
+  next_is : (s : IntervalState) (section : SectionBegin) → IsOf pid table_id section →
+      last_place (places_at (taken s section) (key_of pid table_id)) ≡ Some section.packet
   next_is s section h =
       ap last_place (kept (key_of pid table_id) (section_key section) (places_after (places_at s (section_key section)) section) s.entries true same)
       ∙ ap (λ (n : ℕ). Some n) (last_after (places_at s (section_key section)) section ∙ h.place_is)
@@ -129,7 +134,8 @@ one_begin pid table_id packet (Some (place, Table other)) what rest = by (other 
     kept_begins = filter (λ (s : SectionBegin). s.table_id == table_id) rest
 
     by : (t : Bool) → (other == table_id) ≡ t →
-        map (λ (s : SectionBegin). s.packet) (filter (λ (s : SectionBegin). s.table_id == table_id) (cons_option (section_by (Some pid) (Some (place, Table other)) what) rest))
+        map (λ (s : SectionBegin). s.packet)
+        (filter (λ (s : SectionBegin). s.table_id == table_id) (cons_option (section_by (Some pid) (Some (place, Table other)) what) rest))
         ≡ cons_option (cond t (Some place) None) (map (λ (s : SectionBegin). s.packet) kept_begins)
     by true e = rw e refl
     by false e = rw e refl

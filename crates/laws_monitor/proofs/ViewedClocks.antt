@@ -1,5 +1,6 @@
 -- The clock references of each PID that come late, at a constant rate, packet by packet of a report.
-use Rattle.std.proofs.Common.{◌≡◌, ◌∙◌, ℕ, ◌+◌, ◌-◌, ◌*◌, ◌/◌, ◌^◌, ◌<◌, ◌≤◌, ◌==◌, Bool, true, false, cond, nat_eq, List, [], ◌∷◌, ◌++◌, length, map, filter, Option, Some, None, Result, Ok, Err, true≢false, refl, sym, ap, ap₂, arith, append_assoc}
+use Rattle.std.proofs.Common.{◌≡◌, ◌∙◌, ℕ, ◌+◌, ◌-◌, ◌*◌, ◌/◌, ◌^◌, ◌<◌, ◌≤◌, ◌==◌, Bool, true, false, cond, nat_eq, List, [], ◌∷◌, ◌++◌, length, map, filter}
+use Rattle.std.proofs.Common.{Option, Some, None, Result, Ok, Err, true≢false, refl, sym, ap, ap₂, arith, append_assoc}
 use Rattle.std.specs.Prelude.{is_some, nat_lt, option_map, unwrap_or}
 use Rattle.std.specs.List.{enumerate_from}
 use Rattle.std.specs.Map.{lookup}
@@ -93,7 +94,8 @@ gap rate index pid timing (Some last) (Some before) sample line some t h b =
     is = ap (λ (x : Option ℕ). unwrap_or x 0) h
 
     of : Bool → List StreamFault
-    of long = repetition_of pid (cond long (Some (record { byte = byte_at index; value = time_of_bytes rate (byte_at index - byte_at before); limit = 2700000 })) None)
+    of long = repetition_of pid
+        (cond long (Some (record { byte = byte_at index; value = time_of_bytes rate (byte_at index - byte_at before); limit = 2700000 })) None)
 
     place : byte_at index / 188 ≡ index
     place = omega arith
@@ -122,7 +124,8 @@ same_next rate last w q index sample h b = record { timing = λ pid. timing_by p
     timing_by pid true e = ap (λ (s : PcrState). s.timing) (watch_next w q pid sample true e) ∙ h.timing q
     timing_by pid false e = ap (λ (s : PcrState). s.timing) (watch_next w q pid sample false e) ∙ h.timing pid
 
-    places_by : (pid : ℕ) (t : Bool) → (q == pid) ≡ t → last_byte (watch_of (with_sample w q sample) pid).clock.last ≡ option_map byte_at (lookup (nat_eq pid) (insert_entry nat_eq last q index))
+    places_by : (pid : ℕ) (t : Bool) → (q == pid) ≡ t →
+        last_byte (watch_of (with_sample w q sample) pid).clock.last ≡ option_map byte_at (lookup (nat_eq pid) (insert_entry nat_eq last q index))
     places_by pid true e =
         ap (λ (s : PcrState). last_byte s.clock.last) (watch_next w q pid sample true e)
         ∙ ap (λ (n : ℕ). Some n) b
@@ -147,28 +150,34 @@ none_taken : (rate : ℕ) (m : RecurrenceState) (w : WatchesState) → m.limit_t
 unfolding marked_all
 none_taken rate m w l h = record { limit = l; same = h; late = append-nil (map (late_fault rules.Pcr) m.late) }
 
-one_taken : (rate : ℕ) (m : RecurrenceState) (w : WatchesState) (pid index : ℕ) (sample : PcrSample) → 0 < rate → m.limit_times_rate ≡ 100 * rate → Same rate m.last w →
-    sample.byte ≡ byte_at index → Taken rate m w ((pid, index) ∷ []) (repetition_of pid (repetition_error (sample_report w pid sample))) (with_sample w pid sample)
+one_taken : (rate : ℕ) (m : RecurrenceState) (w : WatchesState) (pid index : ℕ) (sample : PcrSample) → 0 < rate → m.limit_times_rate ≡ 100 * rate →
+    Same rate m.last w →
+    sample.byte ≡ byte_at index →
+    Taken rate m w ((pid, index) ∷ []) (repetition_of pid (repetition_error (sample_report w pid sample))) (with_sample w pid sample)
 unfolding marked_all
 one_taken rate m w pid index sample some l h b = record {
   limit = l;
   same = same_next rate m.last w pid index sample h b;
   late = ap (λ (xs : List StreamFault). map (late_fault rules.Pcr) m.late ++ xs)
-      (gap rate index pid (watch_of w pid).timing (watch_of w pid).clock.last (lookup (nat_eq pid) m.last) sample (line_in (step_after (watch_of w pid).clock.last sample)) some (h.timing pid) (h.places pid) b
+      (gap rate index pid (watch_of w pid).timing (watch_of w pid).clock.last (lookup (nat_eq pid) m.last) sample
+      (line_in (step_after (watch_of w pid).clock.last sample)) some (h.timing pid) (h.places pid) b
       ∙ ap (λ (n : ℕ). map (late_fault rules.Pcr) (late_at n pid (lookup (nat_eq pid) m.last) index)) (sym l))
       ∙ sym (map-append (late_fault rules.Pcr) m.late (late_at m.limit_times_rate pid (lookup (nat_eq pid) m.last) index));
 }
 
 -- by its reference
-by_sample : (rate : ℕ) (m : RecurrenceState) (w : WatchesState) (pid index : ℕ) (adaptation : Option AdaptationView) → 0 < rate → m.limit_times_rate ≡ 100 * rate →
+by_sample : (rate : ℕ) (m : RecurrenceState) (w : WatchesState) (pid index : ℕ) (adaptation : Option AdaptationView) → 0 < rate →
+    m.limit_times_rate ≡ 100 * rate →
     Same rate m.last w → is_near index ≡ true →
-    Taken rate m w (pair_of pid index (has_pcr adaptation)) (late_reference pid (report_if w pid (sample_in index adaptation))) (taken_if w pid (sample_in index adaptation))
+    Taken rate m w (pair_of pid index (has_pcr adaptation)) (late_reference pid (report_if w pid (sample_in index adaptation)))
+    (taken_if w pid (sample_in index adaptation))
 unfolding sample_in sample_with report_if taken_if late_reference
 by_sample rate m w pid index None some l h near = none_taken rate m w l h
 by_sample rate m w pid index (Some NoFlags) some l h near = none_taken rate m w l h
 by_sample rate m w pid index (Some (WithFlags parts)) some l h near = by parts.pcr refl
   where
-    by : (o : Option Reference) → parts.pcr ≡ o → Taken rate m w (pair_of pid index (is_some o)) (late_reference pid (report_if w pid (sample_with index parts.discontinuity_indicator o)))
+    by : (o : Option Reference) → parts.pcr ≡ o →
+        Taken rate m w (pair_of pid index (is_some o)) (late_reference pid (report_if w pid (sample_with index parts.discontinuity_indicator o)))
         (taken_if w pid (sample_with index parts.discontinuity_indicator o))
     by None e = none_taken rate m w l h
     by (Some pcr) e = rw near (one_taken rate m w pid index (sample_of index parts.discontinuity_indicator pcr) some l h refl)
@@ -190,7 +199,8 @@ of_read rate m s bytes (Ok packet) some l h near = by packet.header.transport_er
 
 clocks_along : (rate : ℕ) (m : RecurrenceState) (s : ViewState) (packets : List (List ℕ)) → 0 < rate → m.limit_times_rate ≡ 100 * rate →
     Same rate m.last s.seen.watches → 188 * (s.seen.packets + length packets) ≤ 2 ^ 40 →
-    map (late_fault rules.Pcr) m.late ++ part (is_by 13) (events_all s packets) ≡ map (late_fault rules.Pcr) (marked_all m (pcr_pairs (enumerate_from s.seen.packets packets))).late
+    map (late_fault rules.Pcr) m.late
+    ++ part (is_by 13) (events_all s packets) ≡ map (late_fault rules.Pcr) (marked_all m (pcr_pairs (enumerate_from s.seen.packets packets))).late
 unfolding events_all marked_all
 clocks_along rate m s [] some l h n = append-nil (map (late_fault rules.Pcr) m.late)
 clocks_along rate m s (bytes ∷ packets) some l h n =
@@ -201,7 +211,8 @@ clocks_along rate m s (bytes ∷ packets) some l h n =
     let next = marked_all m (pcr_pair s.seen.packets (packet_at bytes)) in
     let rest = part (is_by 13) (events_all (after_packet s bytes) packets) in
     ap (λ (xs : List StreamFault). map (late_fault rules.Pcr) m.late ++ xs)
-    (part_append (is_by 13) (events_at s bytes) (events_all (after_packet s bytes) packets) ∙ ap (λ (xs : List StreamFault). xs ++ rest) (clock_at_packet s bytes))
+    (part_append (is_by 13) (events_at s bytes) (events_all (after_packet s bytes) packets)
+    ∙ ap (λ (xs : List StreamFault). xs ++ rest) (clock_at_packet s bytes))
     ∙ sym (append_assoc (map (late_fault rules.Pcr) m.late) (late_if s.seen (packet_at bytes)) rest)
     ∙ ap (λ (xs : List StreamFault). xs ++ rest) p.late
     ∙ clocks_along rate next (after_packet s bytes) packets some p.limit p.same (omega arith)
@@ -218,7 +229,9 @@ unfolding timing_of
 timing_at rate arrival e = rw e refl
 
 pub viewed_clocks : (rate : ℕ) (request : RequestView) (bytes : List ℕ) → request.options.arrival ≡ AtRate rate → 0 < rate → length bytes ≤ 2 ^ 40 →
-    filter (is_by 13) (viewed_faults request bytes) ≡ map (late_fault rules.Pcr) (marked_all (no_marks (100 * rate)) (pcr_pairs (enumerate_from 0 (cut_packets bytes)))).late
+    filter (is_by 13) (viewed_faults request bytes) ≡ map (late_fault rules.Pcr)
+    (marked_all (no_marks (100 * rate)) (pcr_pairs (enumerate_from 0 (cut_packets bytes)))).late
 viewed_clocks rate request bytes at some short =
     let k : length (cut_packets bytes) ≡ length bytes / 188 = packet_count (length bytes / 188) bytes in
-    clocks_along rate (no_marks (100 * rate)) (start request) (cut_packets bytes) some refl (same_first rate (timing_of request.options.arrival) (timing_at rate request.options.arrival at)) (omega arith)
+    clocks_along rate (no_marks (100 * rate)) (start request) (cut_packets bytes) some refl
+    (same_first rate (timing_of request.options.arrival) (timing_at rate request.options.arrival at)) (omega arith)

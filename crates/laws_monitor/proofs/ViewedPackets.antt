@@ -1,5 +1,6 @@
 -- What the report finds in a packet, as faults of the monitor: refusals, clock references, sections and counters.
-use Rattle.std.proofs.Common.{◌≡◌, ◌∙◌, ℕ, ◌-◌, ◌/◌, ◌==◌, Bool, true, false, cond, List, [], ◌∷◌, ◌++◌, map, filter, Option, Some, None, Result, Ok, Err, refl, sym, ap, ap₂}
+use Rattle.std.proofs.Common.{◌≡◌, ◌∙◌, ℕ, ◌-◌, ◌/◌, ◌==◌, Bool, true, false, cond, List, [], ◌∷◌, ◌++◌, map, filter, Option, Some, None, Result, Ok, Err, refl}
+use Rattle.std.proofs.Common.{sym, ap, ap₂}
 use Rattle.std.specs.Prelude.{◌&&◌, option_map, unwrap_or}
 use Rattle.std.specs.List.{filter_map}
 use Rattle.std.proofs.lemmas.List.{append-nil}
@@ -39,12 +40,15 @@ use Rattle.es_view.specs.declared.view_options.ViewOptions.{ViewOptions}
 use Rattle.ts_tables.specs.NamedStreams.{NamedView}
 use Rattle.ts_watch.specs.ClockEvents.{error_event, error_events, inaccuracy_events, report_events, report_events_if, variable_events}
 use Rattle.ts_watch.specs.declared.clock_events.ClockRule.TheVariants as clock_rules
-use Rattle.ts_watch.specs.RuleEvents.{RuleState, accuracy_events, exact_events, is_map, is_scrambled, judge_taken, judged_events, packet_events, place_at, pts_events, scrambled_events, stamp_events, varies_now}
+use Rattle.ts_watch.specs.RuleEvents.{RuleState, accuracy_events, exact_events, is_map, is_scrambled, judge_taken, judged_events, packet_events, place_at}
+use Rattle.ts_watch.specs.RuleEvents.{pts_events, scrambled_events, stamp_events, varies_now}
 use Rattle.ts_watch.specs.PidLabels.{label_of}
-use Rattle.ts_watch.specs.TableEvents.{TimesState, begin_events, check_word_event, check_word_events, distance_events, error_events as table_error_events, finding_events, findings_events, is_wrong, other_events, section_in, soon_events, whole_in, with_finding}
+use Rattle.ts_watch.specs.TableEvents.{TimesState, begin_events, check_word_event, check_word_events, distance_events, error_events as table_error_events}
+use Rattle.ts_watch.specs.TableEvents.{finding_events, findings_events, is_wrong, other_events, section_in, soon_events, whole_in, with_finding}
 use Rattle.ts_report.specs.Seen.{SeenState, cause_of, clock_errors, counter_events, counter_events_by, next_window, refused_events, report_on, timing_of}
 use Rattle.ts_report.specs.StreamTables.{TableState}
-use Rattle.ts_report.specs.Views.{ViewState, after_read, all_window_events, buffer_events_at, clocked, counter_events_at, events_at, events_read, last_window, packet_events as view_packet_events, system_events_at, table_events_at, with_begun, with_buffers}
+use Rattle.ts_report.specs.Views.{ViewState, after_read, all_window_events, buffer_events_at, clocked, counter_events_at, events_at, events_read, last_window}
+use Rattle.ts_report.specs.Views.{packet_events as view_packet_events, system_events_at, table_events_at, with_begun, with_buffers}
 use Rattle.monitor.specs.declared.fault.StreamFault.{StreamFault}
 use Rattle.monitor.specs.declared.fault.Rule.{Rule}
 use Rattle.monitor.specs.declared.fault.Rule.TheVariants as rules
@@ -71,9 +75,12 @@ both_none p xs ys h k = part_append p xs ys ∙ ap₂ (λ (a b : List StreamFaul
 
 -- 2. Sections
 
-table_none : (p : StreamFault → Bool) (e : TableError) → Without p rules.Nit → Without p rules.Sdt → Without p rules.Tdt → part p (table_error_events (Some e)) ≡ []
+table_none : (p : StreamFault → Bool) (e : TableError) → Without p rules.Nit → Without p rules.Sdt → Without p rules.Tdt →
+    part p (table_error_events (Some e)) ≡ []
 unfolding table_error_events fault_in
-table_none p e n s t = by ((e.section.pid == 0x10) && (e.section.table_id == 0x40)) ((e.section.pid == 0x11) && (e.section.table_id == 0x42)) ((e.section.pid == 0x14) && (e.section.table_id == 0x70))
+table_none p e n s t =
+    by ((e.section.pid == 0x10) && (e.section.table_id == 0x40)) ((e.section.pid == 0x11) && (e.section.table_id == 0x42))
+    ((e.section.pid == 0x14) && (e.section.table_id == 0x70))
   where
     of : Option Rule → List StreamFault
     of rule = filter p (filter_map (λ (r : Option Rule). option_map (λ rule. fault rule (Some e.section.pid) e.section.packet) r) (rule ∷ []))
@@ -84,12 +91,14 @@ table_none p e n s t = by ((e.section.pid == 0x10) && (e.section.table_id == 0x4
     by false false true = rw (t (Some e.section.pid) e.section.packet) refl
     by false false false = refl
 
-table_if_none : (p : StreamFault → Bool) (o : Option TableError) → Without p rules.Nit → Without p rules.Sdt → Without p rules.Tdt → part p (table_error_events o) ≡ []
+table_if_none : (p : StreamFault → Bool) (o : Option TableError) → Without p rules.Nit → Without p rules.Sdt → Without p rules.Tdt →
+    part p (table_error_events o) ≡ []
 unfolding table_error_events
 table_if_none p None n s t = refl
 table_if_none p (Some e) n s t = table_none p e n s t
 
-begin_none : (p : StreamFault → Bool) (s : TimesState) (o : Option SectionBegin) → Without p rules.Nit → Without p rules.Sdt → Without p rules.Tdt → part p (begin_events s o) ≡ []
+begin_none : (p : StreamFault → Bool) (s : TimesState) (o : Option SectionBegin) → Without p rules.Nit → Without p rules.Sdt → Without p rules.Tdt →
+    part p (begin_events s o) ≡ []
 unfolding begin_events
 begin_none p s None n d t = refl
 begin_none p s (Some section) n d t = table_if_none p (intervals.error_at s.intervals section) n d t
@@ -156,7 +165,8 @@ references : (pid : ℕ) (o : Option PcrReport) → filter_map fault_in (report_
 unfolding report_events_if late_reference
 references pid None = refl
 references pid (Some report) =
-    filter_map-append fault_in (error_events clock_rules.Repetition pid (repetition_error report)) (error_events clock_rules.Discontinuity pid (discontinuity_error report))
+    filter_map-append fault_in (error_events clock_rules.Repetition pid (repetition_error report))
+    (error_events clock_rules.Discontinuity pid (discontinuity_error report))
     ∙ ap₂ (λ (a b : List StreamFault). a ++ b) (repetitions pid (repetition_error report)) (discontinuities pid (discontinuity_error report))
     ∙ append-nil (repetition_of pid (repetition_error report))
 
@@ -218,7 +228,8 @@ window_quiet s = by (s.seen.window.number == next_window s.seen)
     by false = all
 
 -- what stands before and after the errors of its clock reference
-packet_read : (s : ViewState) (packet : PacketView) → filter_map fault_in (view_packet_events s packet) ≡ late_reference packet.header.pid (report_on s.seen packet)
+packet_read : (s : ViewState) (packet : PacketView) →
+    filter_map fault_in (view_packet_events s packet) ≡ late_reference packet.header.pid (report_on s.seen packet)
 packet_read s packet =
     filter_map-append fault_in (last_window s) _
     ∙ ap₂ (λ (a b : List StreamFault). a ++ b) (window_quiet s)
@@ -242,12 +253,14 @@ refusal index refusals.ReservedControl = refl
 refusal index refusals.FieldTooLong = refl
 refusal index refusals.PartTooLong = refl
 
-pub reads : (s : ViewState) (r : Result PacketView PacketError) → filter_map fault_in (events_read s r) ≡ failing None s.seen.packets (packet_rule r) ++ late_if s.seen r
+pub reads : (s : ViewState) (r : Result PacketView PacketError) → filter_map fault_in (events_read s r) ≡ failing None s.seen.packets (packet_rule r)
+    ++ late_if s.seen r
 unfolding events_read late_if fault_in failing cause_rule packet_rule
 reads s (Err error) = refusal s.seen.packets error ∙ sym (append-nil (failing None s.seen.packets (packet_rule (Err error))))
 reads s (Ok packet) = by packet.header.transport_error_indicator refl
   where
-    by : (t : Bool) → packet.header.transport_error_indicator ≡ t → filter_map fault_in (cond t (refused_events s.seen causes.TransportError) (view_packet_events s packet))
+    by : (t : Bool) → packet.header.transport_error_indicator ≡ t →
+        filter_map fault_in (cond t (refused_events s.seen causes.TransportError) (view_packet_events s packet))
         ≡ failing None s.seen.packets (cond t (Some rules.Error) None) ++ cond t [] (late_reference packet.header.pid (report_on s.seen packet))
     by true e = refl
     by false e = packet_read s packet
@@ -273,7 +286,8 @@ unfolding counter_events counter_read
 counters s bytes (Err error) = refl
 counters s bytes (Ok packet) = by packet.header.transport_error_indicator
   where
-    by : (t : Bool) → filter_map fault_in (cond t [] (counter_events_by (error_at s.counters (record { index = s.packets - 1; bytes = bytes; packet = packet }))))
+    by : (t : Bool) →
+        filter_map fault_in (cond t [] (counter_events_by (error_at s.counters (record { index = s.packets - 1; bytes = bytes; packet = packet }))))
         ≡ cond t [] (counter_if (error_at s.counters (record { index = s.packets - 1; bytes = bytes; packet = packet })))
     by true = refl
     by false = counters_by (error_at s.counters (record { index = s.packets - 1; bytes = bytes; packet = packet }))

@@ -1,5 +1,6 @@
 -- Packet by packet of a report, the faults by each rule.
-use Rattle.std.proofs.Common.{◌≡◌, ◌∙◌, ℕ, ◌+◌, ◌-◌, ◌/◌, ◌^◌, ◌<◌, ◌==◌, Bool, true, false, cond, List, [], ◌∷◌, ◌++◌, length, map, filter, Option, Some, None, Result, Ok, Err, refl, sym, ap, ap₂, arith, append_assoc}
+use Rattle.std.proofs.Common.{◌≡◌, ◌∙◌, ℕ, ◌+◌, ◌-◌, ◌/◌, ◌^◌, ◌<◌, ◌==◌, Bool, true, false, cond, List, [], ◌∷◌, ◌++◌, length, map, filter, Option, Some, None}
+use Rattle.std.proofs.Common.{Result, Ok, Err, refl, sym, ap, ap₂, arith, append_assoc}
 use Rattle.std.specs.Prelude.{min}
 use Rattle.std.specs.List.{cons_option, enumerate_from, filter_map, flat_map}
 use Rattle.std.proofs.lemmas.List.{append-nil}
@@ -17,7 +18,8 @@ use Rattle.tr101290.specs.declared.report.PcrReport.{PcrReport}
 use Rattle.tr101290.specs.declared.continuity.ContinuityError.{ContinuityError}
 use Rattle.events.specs.declared.event.Event.{Event}
 use Rattle.ts_report.specs.Seen.{SeenState, report_on, with_counter_read}
-use Rattle.ts_report.specs.Views.{ViewState, after_packet, after_read, counter_events_at, events_all, events_at, events_read, start, table_events_at, with_tables, without_stream}
+use Rattle.ts_report.specs.Views.{ViewState, after_packet, after_read, counter_events_at, events_all, events_at, events_read, start, table_events_at}
+use Rattle.ts_report.specs.Views.{with_tables, without_stream}
 use Rattle.ts_watch.specs.Choices.{RequestView}
 use Rattle.monitor.specs.declared.fault.StreamFault.{StreamFault}
 use Rattle.monitor.specs.declared.fault.Rule.{Rule}
@@ -32,7 +34,8 @@ use Rattle.laws_monitor.specs.ViewedFaults.{fault_in, viewed_faults}
 use Rattle.laws_monitor.proofs.FaultGroups.{Without, none_packet}
 use Rattle.laws_monitor.proofs.FaultLists.{left_alone, right_alone}
 use Rattle.laws_monitor.proofs.Continuity.{sound_in}
-use Rattle.laws_monitor.proofs.ViewedPackets.{counter_if, counter_read, counters, late_if, late_reference, part, part_append, reads, repetition_of, sections_none}
+use Rattle.laws_monitor.proofs.ViewedPackets.{counter_if, counter_read, counters, late_if, late_reference, part, part_append, reads, repetition_of}
+use Rattle.laws_monitor.proofs.ViewedPackets.{sections_none}
 
 -- 1. What a packet leaves
 
@@ -86,7 +89,8 @@ unfolding late_if
 late_kept p s (Err error) h = refl
 late_kept p s (Ok packet) h = by packet.header.transport_error_indicator
   where
-    by : (t : Bool) → filter p (cond t [] (late_reference packet.header.pid (report_on s packet))) ≡ cond t [] (late_reference packet.header.pid (report_on s packet))
+    by : (t : Bool) →
+        filter p (cond t [] (late_reference packet.header.pid (report_on s packet))) ≡ cond t [] (late_reference packet.header.pid (report_on s packet))
     by true = refl
     by false = reference_kept p packet.header.pid (report_on s packet) h
 
@@ -100,7 +104,8 @@ unfolding counter_if
 counter_one_kept p None h = refl
 counter_one_kept p (Some e) h = rw (h (Some e.pid) e.packet) refl
 
-counter_none : (p : StreamFault → Bool) (s : SeenState) (bytes : List ℕ) (r : Result PacketView PacketError) → Without p rules.Counter → filter p (counter_read s bytes r) ≡ []
+counter_none : (p : StreamFault → Bool) (s : SeenState) (bytes : List ℕ) (r : Result PacketView PacketError) → Without p rules.Counter →
+    filter p (counter_read s bytes r) ≡ []
 unfolding counter_read
 counter_none p s bytes (Err error) h = refl
 counter_none p s bytes (Ok packet) h = by packet.header.transport_error_indicator
@@ -112,7 +117,8 @@ counter_none p s bytes (Ok packet) h = by packet.header.transport_error_indicato
     by true = refl
     by false = counter_one_none p o h
 
-counter_kept : (p : StreamFault → Bool) (s : SeenState) (bytes : List ℕ) (r : Result PacketView PacketError) → With p rules.Counter → filter p (counter_read s bytes r) ≡ counter_read s bytes r
+counter_kept : (p : StreamFault → Bool) (s : SeenState) (bytes : List ℕ) (r : Result PacketView PacketError) → With p rules.Counter →
+    filter p (counter_read s bytes r) ≡ counter_read s bytes r
 unfolding counter_read
 counter_kept p s bytes (Err error) h = refl
 counter_kept p s bytes (Ok packet) h = by packet.header.transport_error_indicator
@@ -157,7 +163,8 @@ pub record Refuses (p : StreamFault → Bool) : Type 0 where
   pub pcr : Without p rules.Pcr
   pub counter : Without p rules.Counter
 
-refused_at : (p : StreamFault → Bool) (s : ViewState) (bytes : List ℕ) → Refuses p → part p (events_at s bytes) ≡ filter p (failing None s.seen.packets (packet_rule (packet_at bytes)))
+refused_at : (p : StreamFault → Bool) (s : ViewState) (bytes : List ℕ) → Refuses p →
+    part p (events_at s bytes) ≡ filter p (failing None s.seen.packets (packet_rule (packet_at bytes)))
 refused_at p s bytes h =
     at_packet p s bytes h.crc h.nit h.sdt h.tdt
     ∙ ap₂ (λ (a b : List StreamFault). (filter p (failing None s.seen.packets (packet_rule (packet_at bytes))) ++ a) ++ b)
@@ -186,7 +193,8 @@ first_error : (lasts : Lasts) (entry : Entry) (rest : List Entry) →
 unfolding errors_from before_if counter_if
 first_error lasts entry rest = by (error_at lasts entry)
   where
-    by : (o : Option ContinuityError) → map counter_fault (before_if o (errors_from (after lasts entry) rest)) ≡ counter_if o ++ map counter_fault (errors_from (after lasts entry) rest)
+    by : (o : Option ContinuityError) → map counter_fault (before_if o (errors_from (after lasts entry) rest)) ≡ counter_if o
+        ++ map counter_fault (errors_from (after lasts entry) rest)
     by None = refl
     by (Some e) = refl
 
@@ -204,7 +212,8 @@ counter_step s bytes (Ok packet) rest n = by packet.header.transport_error_indic
     of index = counter_if (error_at s.seen.counters (at index)) ++ map counter_fault (errors_from (after s.seen.counters (at index)) (filter is_sound rest))
 
     by : (t : Bool) → packet.header.transport_error_indicator ≡ t →
-        counter_read (with_tables (after_read s (Ok packet)) bytes).seen bytes (Ok packet) ++ map counter_fault (errors_from (seen_after s bytes (Ok packet)).counters (filter is_sound rest))
+        counter_read (with_tables (after_read s (Ok packet)) bytes).seen bytes (Ok packet)
+        ++ map counter_fault (errors_from (seen_after s bytes (Ok packet)).counters (filter is_sound rest))
         ≡ map counter_fault (errors_from s.seen.counters (filter is_sound (at s.seen.packets ∷ rest)))
     by true e = rw e refl
     by false e = rw e (ap of n ∙ sym (first_error s.seen.counters (at s.seen.packets) (filter is_sound rest)))
@@ -214,7 +223,8 @@ unfolding rule_number
 counter_at_packet s bytes =
     at_packet (is_by 4) s bytes (λ o k. refl) (λ o k. refl) (λ o k. refl) (λ o k. refl)
     ∙ ap₂ (λ (a b : List StreamFault). (a ++ b) ++ filter (is_by 4) (counter_read (before_counter s bytes) bytes (packet_at bytes)))
-    (none_packet (is_by 4) s.seen.packets (packet_at bytes) (λ o k. refl) (λ o k. refl) (λ o k. refl)) (late_none (is_by 4) s.seen (packet_at bytes) (λ o k. refl))
+    (none_packet (is_by 4) s.seen.packets (packet_at bytes) (λ o k. refl) (λ o k. refl) (λ o k. refl))
+    (late_none (is_by 4) s.seen (packet_at bytes) (λ o k. refl))
     ∙ counter_kept (is_by 4) (before_counter s bytes) bytes (packet_at bytes) (λ o k. refl)
 
 counters_along : (s : ViewState) (packets : List (List ℕ)) → s.seen.packets + length packets < 2 ^ 64 →
