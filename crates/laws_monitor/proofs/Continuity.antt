@@ -152,7 +152,8 @@ one : (lasts : Lasts) (states : States) (index : ℕ) (bytes : List ℕ) (r : Re
     Stepped lasts states index bytes r rest
 unfolding states_by findings_by entry_of faults_of_all faults_on
 one lasts states index bytes (Err error) rest h = record { next = lasts; agree = h; errors = refl }
-one lasts states index bytes (Ok packet) rest h = by packet.header.transport_error_indicator refl (packet.header.pid == 8191) refl
+one lasts states index bytes (Ok packet) rest h =
+    let c = cases packet.header.transport_error_indicator (packet.header.pid == 8191) refl in record { next = c.0; agree = c.1; errors = c.2 }
   where
     q : ℕ
     q = packet.header.pid
@@ -163,14 +164,14 @@ one lasts states index bytes (Ok packet) rest h = by packet.header.transport_err
     sound : List Entry
     sound = filter is_sound rest
 
-    by : (e : Bool) → packet.header.transport_error_indicator ≡ e → (z : Bool) → (q == 8191) ≡ z → Stepped lasts states index bytes (Ok packet) rest
-    by true e z n = record { next = lasts; agree = rw e h; errors = rw e refl }
-    by false e true n = record { next = lasts; agree = rw (e, n) h; errors = rw (e, n) (null_packet lasts entry sound n) }
-    by false e false n = record {
-      next = insert_entry nat_eq lasts q (Some (seen (mark (last_of q lasts) entry)));
-      agree = rw (e, n) (agree_next lasts states entry q h);
-      errors = rw (e, n) (real_packet lasts states entry sound n h);
-    }
+    found : Bool → Bool → List FindingView
+    found e z = cond e (without_pid index IsErrored ∷ []) (cond z [] (map (with_pid q index) (found_by (state_of q states) entry)))
+
+    cases : (e z : Bool) → (q == 8191) ≡ z → (next : Lasts) × Agree next (cond e states (cond z states (with_state q (step (state_of q states) entry) states)))
+        × (errors_at lasts (cond (not e) (entry ∷ sound) sound) ≡ filter (is_by 4) (faults_of_all (found e z)) ++ errors_at next sound)
+    cases true z n = (lasts, h, refl)
+    cases false true n = (lasts, h, null_packet lasts entry sound n)
+    cases false false n = (next_lasts lasts entry, agree_next lasts states entry q h, real_packet lasts states entry sound n h)
 
 along : (lasts : Lasts) (s : StreamState) (packets : List (List ℕ)) → s.packets + length packets < 2 ^ 64 → Agree lasts s.states →
     errors_at lasts (sound_in (enumerate_from s.packets packets)) ≡ filter (is_by 4) (faults_of_all (found_in_all s packets))

@@ -12,7 +12,7 @@ use Rattle.demux.specs.Views.{PidFinding, WhatView}
 use Rattle.demux.specs.Laws.{with_pid_at}
 use Rattle.demux.specs.declared.finding.Kind.{Kind}
 use Rattle.demux.specs.declared.finding.Kind.TheVariants.{Table, Pes}
-use Rattle.tr101290.specs.Intervals.{IntervalState, before_in, error_at, error_if, key_of, no_section, places_after, places_at, section_key, taken}
+use Rattle.tr101290.specs.Intervals.{IntervalState, before_in, error_at, error_if, key_of, no_section, part_before, places_after, places_at, section_key, taken}
 use Rattle.tr101290.specs.Intervals.{time_between, time_of_packets}
 use Rattle.tr101290.specs.Limits.{limit_of, milliseconds}
 use Rattle.tr101290.specs.Parts.{has_parts}
@@ -96,9 +96,20 @@ module _ (rate limit pid table_id : ℕ) (some : 0 < rate) (m : milliseconds pid
       map (λ (e : TableError). e.section.packet) (option_to_list (error_at s section)) ≡ step (limit * rate) (last_place (places_at s (key_of pid table_id)))
       section.packet
   error_is s section t h =
-      rw (h.pid_is, h.table_is, whole)
-      (one_error rate limit s.timing section (places_at s (key_of pid table_id)) (limit_of pid table_id) some t (ap (option_map (λ ms. ms * 27000)) m)
-      h.place_is)
+      ap (λ (o : Option SectionPlaces). map (λ (e : TableError). e.section.packet)
+      (option_to_list (error_if s.timing section o (limit_of section.pid section.table_id)))) before
+      ∙ one_error rate limit s.timing section (places_at s (key_of pid table_id)) (limit_of section.pid section.table_id) some t limit_is h.place_is
+    where
+      no_parts : has_parts section.pid section.table_id ≡ false
+      no_parts = ap₂ (λ (a b : ℕ). has_parts a b) h.pid_is h.table_is ∙ whole
+
+      before : before_in s section ≡ places_at s (key_of pid table_id)
+      before =
+          ap (λ (t : Bool). cond t (part_before s section section.part) (places_at s (section_key section))) no_parts
+          ∙ ap₂ (λ (a b : ℕ). places_at s (key_of a b)) h.pid_is h.table_is
+
+      limit_is : limit_of section.pid section.table_id ≡ Some (limit * 27000)
+      limit_is = ap₂ (λ (a b : ℕ). limit_of a b) h.pid_is h.table_is ∙ ap (option_map (λ (ms : ℕ). ms * 27000)) m
 
   next_is : (s : IntervalState) (section : SectionBegin) → IsOf pid table_id section →
       last_place (places_at (taken s section) (key_of pid table_id)) ≡ Some section.packet

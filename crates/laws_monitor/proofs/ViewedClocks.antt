@@ -31,7 +31,7 @@ use Rattle.tr101290.specs.declared.watch.PcrTiming.TheVariants.{ConstantRate}
 use Rattle.tr101290.specs.declared.report.PcrReport.{PcrReport}
 use Rattle.tr101290.proofs.Rounding.{interval_law}
 use Rattle.ts_watch.specs.Choices.{RequestView}
-use Rattle.ts_report.specs.Seen.{timing_of, with_counter_read}
+use Rattle.ts_report.specs.Seen.{report_on, timing_of, with_counter_read}
 use Rattle.ts_report.specs.Views.{ViewState, after_packet, after_read, events_all, events_at, start}
 use Rattle.monitor.specs.declared.fault.StreamFault.{StreamFault}
 use Rattle.monitor.specs.declared.fault.Rule.TheVariants as rules
@@ -46,7 +46,7 @@ use Rattle.laws_monitor.specs.FaultsByRule.{is_by}
 use Rattle.laws_monitor.specs.ViewedFaults.{viewed_faults}
 use Rattle.laws_monitor.proofs.PidEntries.{kept}
 use Rattle.laws_monitor.proofs.ViewedPackets.{late_if, late_reference, part, part_append, repetition_of}
-use Rattle.laws_monitor.proofs.ViewedRules.{clock_at_packet, next_count, seen_after}
+use Rattle.laws_monitor.proofs.ViewedRules.{clock_at_packet, next_count, seen_after, seen_by}
 
 -- 1. One reference after another of its PID
 
@@ -88,7 +88,11 @@ gap rate index pid timing None None sample line some t h b = refl
 gap rate index pid timing None (Some before) sample line some t h b = absurd (true≢false (sym (ap is_some h)))
 gap rate index pid timing (Some last) None sample line some t h b = absurd (true≢false (ap is_some h))
 gap rate index pid timing (Some last) (Some before) sample line some t h b =
-    rw (t, b, is) (ap of (long_alike rate index before some) ∙ by (is_long (100 * rate) (index - before)))
+    ap (λ (u : PcrTiming). repetition_of pid (beyond_if 2700000 sample.byte (interval_after u (Some last) sample line))) t
+    ∙ ap (λ (x : ℕ). repetition_of pid (beyond_if 2700000 x (Some (time_of_bytes rate (x - last.sample.byte))))) b
+    ∙ ap (λ (y : ℕ). repetition_of pid (beyond_if 2700000 (byte_at index) (Some (time_of_bytes rate (byte_at index - y))))) is
+    ∙ ap of (long_alike rate index before some)
+    ∙ by (is_long (100 * rate) (index - before))
   where
     is : last.sample.byte ≡ byte_at before
     is = ap (λ (x : Option ℕ). unwrap_or x 0) h
@@ -188,12 +192,12 @@ of_read : (rate : ℕ) (m : RecurrenceState) (s : ViewState) (bytes : List ℕ) 
     Taken rate m s.seen.watches (pcr_pair s.seen.packets r) (late_if s.seen r) (seen_after s bytes r).watches
 unfolding pcr_pair late_if with_counter_read after_read
 of_read rate m s bytes (Err error) some l h near = none_taken rate m s.seen.watches l h
-of_read rate m s bytes (Ok packet) some l h near = by packet.header.transport_error_indicator refl
+of_read rate m s bytes (Ok packet) some l h near = by packet.header.transport_error_indicator
   where
-    by : (t : Bool) → packet.header.transport_error_indicator ≡ t →
-        Taken rate m s.seen.watches (pcr_pair s.seen.packets (Ok packet)) (late_if s.seen (Ok packet)) (seen_after s bytes (Ok packet)).watches
-    by true e = rw e (none_taken rate m s.seen.watches l h)
-    by false e = rw e (by_sample rate m s.seen.watches packet.header.pid s.seen.packets packet.adaptation some l h near)
+    by : (t : Bool) → Taken rate m s.seen.watches (cond t [] (pair_of packet.header.pid s.seen.packets (has_pcr packet.adaptation)))
+        (cond t [] (late_reference packet.header.pid (report_on s.seen packet))) (seen_by s bytes packet t).watches
+    by true = none_taken rate m s.seen.watches l h
+    by false = by_sample rate m s.seen.watches packet.header.pid s.seen.packets packet.adaptation some l h near
 
 -- 4. Packets one after another
 

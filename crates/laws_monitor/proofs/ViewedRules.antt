@@ -1,7 +1,7 @@
 -- Packet by packet of a report, the faults by each rule.
 use Rattle.std.proofs.Common.{◌≡◌, ◌∙◌, ℕ, ◌+◌, ◌-◌, ◌/◌, ◌^◌, ◌<◌, ◌==◌, Bool, true, false, cond, List, [], ◌∷◌, ◌++◌, length, map, filter, Option, Some, None}
 use Rattle.std.proofs.Common.{Result, Ok, Err, refl, sym, ap, ap₂, arith, append_assoc}
-use Rattle.std.specs.Prelude.{min}
+use Rattle.std.specs.Prelude.{min, not}
 use Rattle.std.specs.List.{cons_option, enumerate_from, filter_map, flat_map}
 use Rattle.std.proofs.lemmas.List.{append-nil}
 use Rattle.std.proofs.lemmas.List.Elements.{filter-append}
@@ -17,7 +17,7 @@ use Rattle.tr101290.specs.declared.report.PcrError.{PcrError}
 use Rattle.tr101290.specs.declared.report.PcrReport.{PcrReport}
 use Rattle.tr101290.specs.declared.continuity.ContinuityError.{ContinuityError}
 use Rattle.events.specs.declared.event.Event.{Event}
-use Rattle.ts_report.specs.Seen.{SeenState, report_on, with_counter_read}
+use Rattle.ts_report.specs.Seen.{SeenState, counted_entry, report_on, with_counter, with_counter_read}
 use Rattle.ts_report.specs.Views.{ViewState, after_packet, after_read, counter_events_at, events_all, events_at, events_read, start, table_events_at}
 use Rattle.ts_report.specs.Views.{with_tables, without_stream}
 use Rattle.ts_watch.specs.Choices.{RequestView}
@@ -43,14 +43,23 @@ use Rattle.laws_monitor.proofs.ViewedPackets.{sections_none}
 abbrev pub seen_after : ViewState → List ℕ → Result PacketView PacketError → SeenState
 seen_after s bytes r = with_counter_read (with_tables (after_read s r) bytes).seen bytes r
 
+-- what is seen after a packet that is refused by its transport_error_indicator or not
+abbrev pub seen_before : ViewState → List ℕ → PacketView → Bool → SeenState
+seen_before s bytes packet wrong = (with_tables (cond wrong (without s) (with_packet s packet)) bytes).seen
+
+abbrev pub seen_by : ViewState → List ℕ → PacketView → Bool → SeenState
+seen_by s bytes packet wrong =
+    cond wrong (seen_before s bytes packet wrong)
+    (with_counter (seen_before s bytes packet wrong) (counted_entry (seen_before s bytes packet wrong) bytes packet))
+
 packets_after : (s : ViewState) (bytes : List ℕ) (r : Result PacketView PacketError) → (seen_after s bytes r).packets ≡ one_more s.seen.packets
 unfolding with_counter_read after_read
 packets_after s bytes (Err error) = refl
-packets_after s bytes (Ok packet) = by packet.header.transport_error_indicator refl
+packets_after s bytes (Ok packet) = by packet.header.transport_error_indicator
   where
-    by : (t : Bool) → packet.header.transport_error_indicator ≡ t → (seen_after s bytes (Ok packet)).packets ≡ one_more s.seen.packets
-    by true e = rw e refl
-    by false e = rw e refl
+    by : (t : Bool) → (seen_by s bytes packet t).packets ≡ one_more s.seen.packets
+    by true = refl
+    by false = refl
 
 -- 2. What it finds
 
@@ -203,7 +212,7 @@ counter_step : (s : ViewState) (bytes : List ℕ) (r : Result PacketView PacketE
     ≡ map counter_fault (errors_from s.seen.counters (filter is_sound (cons_option (entry_of s.seen.packets bytes r) rest)))
 unfolding after_read with_counter_read counter_read entry_of
 counter_step s bytes (Err error) rest n = refl
-counter_step s bytes (Ok packet) rest n = by packet.header.transport_error_indicator refl
+counter_step s bytes (Ok packet) rest n = by packet.header.transport_error_indicator
   where
     at : ℕ → Entry
     at index = record { index = index; bytes = bytes; packet = packet }
@@ -211,12 +220,13 @@ counter_step s bytes (Ok packet) rest n = by packet.header.transport_error_indic
     of : ℕ → List StreamFault
     of index = counter_if (error_at s.seen.counters (at index)) ++ map counter_fault (errors_from (after s.seen.counters (at index)) (filter is_sound rest))
 
-    by : (t : Bool) → packet.header.transport_error_indicator ≡ t →
-        counter_read (with_tables (after_read s (Ok packet)) bytes).seen bytes (Ok packet)
-        ++ map counter_fault (errors_from (seen_after s bytes (Ok packet)).counters (filter is_sound rest))
-        ≡ map counter_fault (errors_from s.seen.counters (filter is_sound (at s.seen.packets ∷ rest)))
-    by true e = rw e refl
-    by false e = rw e (ap of n ∙ sym (first_error s.seen.counters (at s.seen.packets) (filter is_sound rest)))
+    error : Bool → List StreamFault
+    error t = cond t [] (counter_if (error_at (seen_before s bytes packet t).counters (at ((seen_before s bytes packet t).packets - 1))))
+
+    by : (t : Bool) → error t ++ map counter_fault (errors_from (seen_by s bytes packet t).counters (filter is_sound rest))
+        ≡ map counter_fault (errors_from s.seen.counters (cond (not t) (at s.seen.packets ∷ filter is_sound rest) (filter is_sound rest)))
+    by true = refl
+    by false = ap of n ∙ sym (first_error s.seen.counters (at s.seen.packets) (filter is_sound rest))
 
 counter_at_packet : (s : ViewState) (bytes : List ℕ) → part (is_by 4) (events_at s bytes) ≡ counter_read (before_counter s bytes) bytes (packet_at bytes)
 unfolding rule_number
