@@ -1,0 +1,4 @@
+pub mod FaultsByRule
+pub mod Continuity
+pub mod Tables
+pub mod Limits
