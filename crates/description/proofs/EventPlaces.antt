@@ -1,5 +1,6 @@
 -- The present and the following event by their places.
-use Rattle.std.proofs.Common.{◌≡◌, ℕ, nat_lt, Bool, true, false, cond, List, [], ◌∷◌, map, length, find, position, Bor, slice_get, Option, None, Some, option_map, refl, ap, sym, ◌∙◌, arith, inl, inr}
+use Rattle.std.proofs.Common.{◌≡◌, ℕ, nat_lt, Bool, true, false, cond, List, [], ◌∷◌, map, length, find, position, Bor, slice_get, Option, None, Some}
+use Rattle.std.proofs.Common.{option_map, refl, ap, sym, ◌∙◌, arith, inl, inr}
 use Rattle.std.proofs.lemmas.Bool.{cases_lt}
 use Rattle.std.proofs.lemmas.Bool.Decides.{nat_tests}
 use Rattle.std.proofs.lemmas.List.Folds.{find_at}
@@ -7,7 +8,7 @@ use Rattle.std.proofs.lemmas.Option.{slice_get_past, cond_some}
 use Rattle.std.specs.List.{position_or_len}
 use Rattle.dvb_tables.specs.Schedule.{is_present, is_following}
 use Rattle.dvb_tables.specs.declared.schedule.Event.{Event}
-use Rattle.description.specs.Described.{event_view}
+use Rattle.description_parts.specs.Described.{event_view}
 use Rattle.description.specs.SectionBytes.{is_present_event, is_following_event}
 
 either : {X Y : Type 0} (b : Bool) (y : Y) (later : Option Y) (x : X) (v : X → Y) (o : Option X) → y ≡ v x → later ≡ option_map v o

@@ -3,12 +3,12 @@
 use Rattle.std.specs.Prelude.{ℕ, ◌+◌, ◌==◌, ◌&&◌, not, Bool, true, false, List, [], ◌∷◌, ◌++◌, length, Option, Some, None, codes, nat_lt, if◌then◌else◌}
 use Rattle.std.specs.List.{before_first, list_any, position_or_len}
 use Rattle.std.specs.Str.{bytes_eq, is_utf8}
-use Rattle.description.specs.EventKeys.{event_key_names}
-use Rattle.description.specs.NetworkKeys.{network_key_names}
-use Rattle.description.specs.ProgramKeys.{program_key_names}
-use Rattle.description.specs.StreamKeys.{stream_key_names}
-use Rattle.description.specs.TableKeys.{table_key_names}
-use Rattle.description.specs.TopKeys.{top_key_names}
+use Rattle.description_keys.specs.EventKeys.{event_key_names}
+use Rattle.description_keys.specs.NetworkKeys.{network_key_names}
+use Rattle.description_keys.specs.ProgramKeys.{program_key_names}
+use Rattle.description_keys.specs.StreamKeys.{stream_key_names}
+use Rattle.description_keys.specs.TableKeys.{table_key_names}
+use Rattle.description_keys.specs.TopKeys.{top_key_names}
 use Rattle.word_faults.specs.Hints.{nearest}
 use Rattle.diagnosis.specs.EqualKeys.{first_word}
 use Rattle.diagnosis.specs.KeyPlaces.{begins, row_words, unindented}
@@ -75,7 +75,8 @@ has_unknown_key head word = is_bare word && not (is_among (names_of head) word)
 unfoldable pub unknown_row : Head → ℕ → List (List ℕ) → Option (ℕ × (List ℕ × Head))
 unknown_row head n [] = None
 unknown_row head n (l ∷ ls) =
-    if begins l (codes "[") then (if is_unknown_head (head_on (word_on l)) then Some (n, (l, head_on (word_on l))) else unknown_row (head_on (word_on l)) (n + 1) ls)
+    if begins l (codes "[") then (if is_unknown_head (head_on (word_on l)) then Some (n, (l, head_on (word_on l))) else unknown_row (head_on (word_on l))
+    (n + 1) ls)
     else (if has_unknown_key head (word_on l) then Some (n, (l, head)) else unknown_row head (n + 1) ls)
 
 -- 4. What is said of it

@@ -9,7 +9,8 @@ use crate::least_values::{write_key, write_least};
 use crate::slot_conditions::write_claim;
 use crate::stream_numbers::{GREATEST_LEAD, StreamNumber, key_of};
 use clock27::{Rate, SLOT_SECONDS_AT_1BPS};
-use description::{Description, StreamDescription};
+use description::Description;
+use description_parts::StreamDescription;
 use plan_checker::Refusal;
 use std::alloc::AllocError;
 use std::fmt::Write;
@@ -74,8 +75,8 @@ fn write_seldom_empty(buffer: &str, refusal: Refusal, text: &mut String) -> Resu
     write_seldom(buffer, refusal.left / slot, refusal.right / slot, text)
 }
 
-// Appends that a packet finds no room, that the claim of a peak or of a start is too little, or that a buffer is not empty
-// at least once a second.
+// Appends that a packet finds no room, that the claim of a peak or of a start is too little, or that a buffer is not
+// empty at least once a second.
 #[tactic(auto, unfolding(crate::specs::ConditionLines::buffer_words))]
 fn write_buffer(
     buffer: &str,

@@ -19,8 +19,9 @@ pub fn fed_as_carried()
 {}
 
 /// States for all streams of a description at once, if the whole stream has no report: a stream whose units are one PES
-/// packet each feeds the units that its PID carries, moved by one constant for all streams, whether the clock is known
-/// or not; with it the first unit of all is due at `earliest`.
+/// packet each feeds the units that its PID carries, each with a DTS of its own if several data units in a row have
+/// one, moved by one constant for all streams, whether the clock is known or not; with it the first unit of all is due
+/// at `earliest`.
 pub fn fed_by_one_constant()
     ensures { FedByOneConstant }
 {}
@@ -49,7 +50,7 @@ pub fn fed_so_far()
     ensures { FedIsBeginning }
 {}
 
-/// States that each fed unit is due before a fed tick, and each current unit after it.
+/// States that each fed unit is due before a fed tick, and each current unit after it, even if the unit is set apart.
 pub fn ticks_are_past()
     ensures { TicksArePast }
 {}

@@ -2,12 +2,14 @@
 
 ghost use Rattle.std.specs.Prelude.{◌≡◌, ◌∷◌, [], IfOk, IfSome, OnOk, OnErr, None, Some, true, false, option_map};
 ghost use Rattle.demux.specs.Shown.{finding_view, what_view};
+ghost use Rattle.es_units.specs.ApartSteps as apart;
 ghost use Rattle.es_units.specs.CarriedUnits as units;
 ghost use Rattle.es_units.specs.TakenUnits as taken;
 ghost use Rattle.es_units.specs.TakenUnits.{OthersStay};
 ghost use Rattle.es_units.specs.UnitSteps as spec;
 ghost use Rattle.es_units.specs.Shown.{role_view, start_view};
 
+use crate::apart_steps::is_same_after;
 use crate::pes_role::{PesRole, UnitStart, is_on, role_of};
 use crate::unit_bytes::{BodyBytes, UnitBytes};
 use crate::wire_unit::WireUnit;
@@ -161,8 +163,8 @@ fn lengthen<B: UnitBytes>(
 }
 
 impl<B: UnitBytes> UnitTaker<B> {
-    /// Returns the state before the first finding of a PID. `split`: whether its units may have several PES packets; then a
-    /// loss after a unit may be a part of the unit, and the unit is left out.
+    /// Returns the state before the first finding of a PID. `split`: whether its units may have several PES packets;
+    /// then a loss after a unit may be a part of the unit, and the unit is left out.
     pub fn new(pid: u16, split: bool) -> UnitTaker<B>
         ensures { result ≡ spec.none_so_far pid split }
     {
@@ -250,6 +252,13 @@ impl<B: UnitBytes> UnitTaker<B> {
         }
     }
 
+    /// Returns whether a unit that it gave is due when its unit under way is, as far as that has bytes.
+    pub fn is_same_after(&self, unit: &Option<WireUnit<B>>) -> bool
+        ensures { result ≡ apart.is_same_after unit.now self.now.unit }
+    {
+        is_same_after(unit, &self.unit)
+    }
+
     /// Returns the stream_id of the unit under way.
     pub(crate) fn stream_id(&self) -> Option<u8>
         ensures { result ≡ option_map (λ u. u.stream_id) self.now.unit }
@@ -277,8 +286,8 @@ impl<B: UnitBytes> UnitTaker<B> {
 }
 
 impl<A: Allocator + Clone> UnitTaker<Vec<u8, A>> {
-    /// Returns the same as `take`, where the body of a PES packet with which a unit starts is moved out of its finding: of
-    /// this nothing is left then but a packet that comes twice.
+    /// Returns the same as `take`, where the body of a PES packet with which a unit starts is moved out of its finding:
+    /// of this nothing is left then but a packet that comes twice.
     #[tactic(auto, unfolding(crate::specs::UnitSteps::made_whole, crate::specs::UnitSteps::goes_on_as))]
     pub(crate) fn take_moved(
         &mut self,

@@ -5,23 +5,23 @@ use Rattle.std.specs.List.{AllZip}
 use Rattle.std.proofs.lemmas.Bool.Decides.{nat_tests}
 use Rattle.pes_packet.specs.AccessUnits.{AccessUnit}
 use Rattle.pes_packet.specs.declared.marks.Marks.{Marks}
-use Rattle.description.specs.Described.{Described}
+use Rattle.description_parts.specs.Described.{Described}
 use Rattle.slot_plan.specs.Conditions.{IsServing}
 use Rattle.slot_plan.specs.Planned.{Planned, plan_error}
 use Rattle.slot_plan.specs.Text.{plan_text}
-use Rattle.stream_jobs.specs.Answers.{Answers, Refuses}
+use Rattle.job_programs.specs.Answers.{Answers, Refuses}
 use Rattle.data_times.specs.DataTimes.{timed, times_of}
 use Rattle.data_times.specs.References.{references_in}
 use Rattle.data_times.specs.declared.references.ClockReference.{ClockReference}
-use Rattle.stream_jobs.specs.AskedMarks.{as_asked}
-use Rattle.stream_jobs.specs.Jobs.{AllAgree, AreStreams, AreUnits, FitsQueue, IsDescription, IsJob}
-use Rattle.stream_jobs.specs.JoinedInputs.{AreStreamsIn, AreUnitsIn, IsFoundIn, JoinedInputsView}
-use Rattle.stream_jobs.specs.JobInput.{JobInputView, job_input}
+use Rattle.job_inputs.specs.AskedMarks.{as_asked}
+use Rattle.stream_jobs.specs.Jobs.{AllAgree, AreUnits, IsDescription, IsJob}
+use Rattle.job_inputs.specs.JoinedInputs.{AreStreamsIn, AreUnitsIn, IsFoundIn, JoinedInputsView}
+use Rattle.job_inputs.specs.JobInput.{JobInputView, job_input, AreStreams}
 use Rattle.stream_jobs.specs.WhyNoJob.{IsWhyNoDescription, IsWhyNoReasons}
-use Rattle.stream_jobs.specs.JobOptions.{JobOptionsView}
-use Rattle.stream_jobs.specs.declared.refusal.JobError.{JobError}
-use Rattle.stream_jobs.specs.declared.refusal.JobError.TheVariants.{Memory, Refused}
-use Rattle.stream_jobs.specs.declared.refusal.JobRefusal.{JobRefusal}
+use Rattle.job_programs.specs.JobOptions.{JobOptionsView}
+use Rattle.job_programs.specs.declared.refusal.JobError.{JobError}
+use Rattle.job_programs.specs.declared.refusal.JobError.TheVariants.{Memory, Refused}
+use Rattle.job_programs.specs.declared.refusal.JobRefusal.{JobRefusal}
 use Rattle.demux.specs.Views.{FindingView}
 use Rattle.devices.specs.Devices.{Device, IsUntouched}
 use Rattle.devices.specs.Outcomes.{halt_line, Outcome, reported}
@@ -44,6 +44,7 @@ use Rattle.unit_records.specs.Records.{private_bytes, private_size, record_head,
 use Rattle.es_feed.specs.Records.{records_of, written}
 use Rattle.job_run.specs.SeveralInputs.{GivesJobIn}
 use Rattle.job_run.specs.Streams.{IsOfStream, IsRead, PacketNotesView, ReadingView, asked_findings, findings_for, notes_for, timed_notes}
+use Rattle.job_programs.specs.FoundUnits.{FitsQueue}
 
 -- 1. What a subcommand gives
 

@@ -7,9 +7,9 @@ use Rattle.other_tables.specs.TableKinds.{is_loss}
 use Rattle.other_tables.specs.declared.tables.OtherTable.{OtherTable}
 use Rattle.packet_sync.specs.Fields.{is_loss as is_field_loss}
 use Rattle.packet_sync.specs.declared.left_out.FieldLeftOut.{FieldLeftOut}
-use Rattle.stream_jobs.specs.JobInput.{carries_table}
-use Rattle.stream_jobs.specs.Warnings.{is_damage}
-use Rattle.stream_jobs.specs.declared.warning.Warning.{Warning}
+use Rattle.job_inputs.specs.JobInput.{carries_table}
+use Rattle.job_programs.specs.Warnings.{is_damage}
+use Rattle.job_programs.specs.declared.warning.Warning.{Warning}
 use Rattle.job_run.specs.FieldLines as fields
 use Rattle.job_run.specs.Laws.{StatusStays}
 use Rattle.job_run.specs.WarningLines.{is_open_ended, is_told}

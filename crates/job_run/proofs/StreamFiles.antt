@@ -26,19 +26,18 @@ use Rattle.packet_sync.specs.declared.packet_sizes.OtherPackets.{OtherPackets}
 use Rattle.job_run.specs.InputLines.{are_lost, input_line, name_of, note_lines}
 use Rattle.job_run.specs.RefusalLine.{refusal_line}
 use Rattle.job_run.specs.SlipLines.{packets_line}
-use Rattle.stream_jobs.specs.Answers.{Answers, Refuses}
+use Rattle.job_programs.specs.Answers.{Answers, Refuses}
 use Rattle.data_times.specs.DataTimes.{timed, times_of}
 use Rattle.data_times.specs.References.{references_in}
 use Rattle.data_times.specs.declared.references.ClockReference.{ClockReference}
-use Rattle.stream_jobs.specs.AskedMarks.{as_asked}
-use Rattle.stream_jobs.specs.JobOptions.{JobOptionsView}
-use Rattle.stream_jobs.specs.JobInput.{JobInputView, job_input}
-use Rattle.stream_jobs.specs.Jobs.{AreStreams}
-use Rattle.stream_jobs.specs.JoinedInputs.{AreMadeOf, AreStreamsIn, JoinedInputsView, findings_in}
-use Rattle.stream_jobs.specs.declared.refusal.JobError.{JobError}
-use Rattle.stream_jobs.specs.declared.refusal.JobError.TheVariants.{Memory, Refused}
-use Rattle.stream_jobs.specs.declared.refusal.JobRefusal.{JobRefusal}
-use Rattle.stream_jobs.proofs.JoinedStreams.{joined_found}
+use Rattle.job_inputs.specs.AskedMarks.{as_asked}
+use Rattle.job_programs.specs.JobOptions.{JobOptionsView}
+use Rattle.job_inputs.specs.JobInput.{JobInputView, job_input, AreStreams}
+use Rattle.job_inputs.specs.JoinedInputs.{AreMadeOf, AreStreamsIn, JoinedInputsView, findings_in}
+use Rattle.job_programs.specs.declared.refusal.JobError.{JobError}
+use Rattle.job_programs.specs.declared.refusal.JobError.TheVariants.{Memory, Refused}
+use Rattle.job_programs.specs.declared.refusal.JobRefusal.{JobRefusal}
+use Rattle.job_inputs.proofs.JoinedStreams.{joined_found}
 use Rattle.job_run.specs.JobArguments.{JobArgumentsView}
 use Rattle.job_run.specs.Outcomes.{ReportsWhy, Withholds, is_told_less, status_of, told_lines, unless_quiet}
 use Rattle.job_run.specs.SeveralInputs.{GivesIn, InputsLead, JoinedLead, NamedStream, all_findings, all_joined, are_streams_less, input_or_line, names_of}

@@ -3,7 +3,7 @@ use Rattle.std.proofs.Common.{◌≡◌, ◌∙◌, ◌<◌, ◌≤◌, ◌+◌,
 use Rattle.std.proofs.Common.{append-nil}
 use Rattle.std.proofs.Math.Seq.{drop-cons}
 use Rattle.std.proofs.lemmas.List.{drop_all}
-use Rattle.stream_jobs.specs.declared.warning.Warning.{Warning}
+use Rattle.job_programs.specs.declared.warning.Warning.{Warning}
 use Rattle.job_run.specs.WarningLines.{line_after, lines_after, scrambled_pid}
 
 from_here : (before : Option ℕ) (warnings : List Warning) (i : ℕ) (d : Warning) → i < length warnings →

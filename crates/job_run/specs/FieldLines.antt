@@ -6,7 +6,7 @@ use Rattle.packet_sync.specs.declared.field.Field.TheVariants.{TransportPriority
 use Rattle.packet_sync.specs.declared.field.Field.TheVariants.{AdaptationPrivateData, AdaptationExtension, Alignment, Flags, Scrambling, LongHeader}
 use Rattle.packet_sync.specs.declared.field.Field.TheVariants.{PrivateData, OtherHeaderData, UnreadHeader}
 use Rattle.packet_sync.specs.declared.left_out.FieldLeftOut.{FieldLeftOut}
-use Rattle.stream_jobs.specs.JobInput.{JobInputView, carries_table, has_clock, has_stream}
+use Rattle.job_inputs.specs.JobInput.{JobInputView, carries_table, has_clock, has_stream}
 
 unfoldable pub field_text : Field → List ℕ
 field_text TransportPriority = codes " transport priority left out\n"

@@ -1,9 +1,9 @@
 -- The lines about one of several inputs: each has the number of the input, from 1 on, and the name of its file.
 use Rattle.std.specs.Prelude.{ℕ, ◌+◌, ◌-◌, ◌^◌, min, Bool, true, false, List, [], ◌++◌, flat_map, codes, decimal, unwrap_or, slice_get}
 use Rattle.std.specs.List.{list_any}
-use Rattle.stream_jobs.specs.declared.joined_inputs.InputNote.{InputNote}
-use Rattle.stream_jobs.specs.declared.joined_inputs.NoteCause.{NoteCause}
-use Rattle.stream_jobs.specs.declared.joined_inputs.NoteCause.TheVariants.{Events, Network, Pid, Program, Time}
+use Rattle.job_inputs.specs.declared.joined_inputs.InputNote.{InputNote}
+use Rattle.job_inputs.specs.declared.joined_inputs.NoteCause.{NoteCause}
+use Rattle.job_inputs.specs.declared.joined_inputs.NoteCause.TheVariants.{Events, Network, Pid, Program, Time}
 
 -- 1. Which input
 

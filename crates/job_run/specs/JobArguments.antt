@@ -1,6 +1,6 @@
 -- What is asked for of a stream.
 use Rattle.std.specs.Prelude.{ℕ, List, Option}
-use Rattle.stream_jobs.specs.JobOptions.{JobOptionsView}
+use Rattle.job_programs.specs.JobOptions.{JobOptionsView}
 use Rattle.job_run.specs.declared.job_arguments.Reporting.{Reporting}
 use Rattle.job_run.specs.declared.job_arguments.Subcommand.{Subcommand}
 

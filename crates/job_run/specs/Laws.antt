@@ -1,7 +1,7 @@
 -- What is reported of a stream changes nothing of what is made of it.
 use Rattle.std.specs.Prelude.{◌≡◌, Bool, List}
 use Rattle.demux.specs.Views.{FindingView}
-use Rattle.stream_jobs.specs.JobInput.{JobInputView}
+use Rattle.job_inputs.specs.JobInput.{JobInputView}
 use Rattle.job_run.specs.Outcomes.{is_told_less}
 use Rattle.job_run.specs.Streams.{PacketNotesView}
 

@@ -5,14 +5,14 @@ use Rattle.std.specs.List.{list_any}
 use Rattle.std.specs.Str.{IsUtf8}
 use Rattle.pes_packet.specs.AccessUnits.{AccessUnit}
 use Rattle.demux.specs.Views.{FindingView}
-use Rattle.description.specs.Described.{Described}
+use Rattle.description_parts.specs.Described.{Described}
 use Rattle.diagnosis.specs.ReasonLines.{reason_lines}
 use Rattle.slot_plan.specs.Conditions.{IsServing}
 use Rattle.slot_plan.specs.Planned.{Planned, plan_error}
 use Rattle.slot_plan.specs.Text.{plan_text}
 use Rattle.es_units.specs.Merging.{AreMerged}
 use Rattle.stream_jobs.specs.Jobs.{AllAgree, AreUnits, IsDescription, IsJob, IsUnplanned}
-use Rattle.stream_jobs.specs.JobInput.{JobInputView, job_input}
+use Rattle.job_inputs.specs.JobInput.{JobInputView, job_input}
 use Rattle.other_tables.specs.OtherTables.{other_tables}
 use Rattle.other_tables.specs.TableKinds.{is_loss}
 use Rattle.other_tables.specs.declared.tables.OtherTable.{OtherTable}
@@ -22,14 +22,14 @@ use Rattle.packet_sync.specs.Slips.{carried}
 use Rattle.packet_sync.specs.declared.left_out.FieldLeftOut.{FieldLeftOut}
 use Rattle.packet_sync.specs.declared.packet_sizes.OtherPackets.{OtherPackets}
 use Rattle.packet_sync.specs.declared.slip.Slip.{Slip}
-use Rattle.stream_jobs.specs.Warnings.{are_damaged}
-use Rattle.stream_jobs.specs.declared.warning.Warning.{Warning}
+use Rattle.job_programs.specs.Warnings.{are_damaged}
+use Rattle.job_programs.specs.declared.warning.Warning.{Warning}
 use Rattle.stream_jobs.specs.WhyNoJob.{IsWhyNoDescription, IsWhyNoJob, IsWhyNoPlan, IsWhyNoReasons}
 use Rattle.stream_jobs.specs.Rates.{IsServed, IsTried}
-use Rattle.stream_jobs.specs.JobOptions.{JobOptionsView}
-use Rattle.stream_jobs.specs.declared.refusal.JobError.{JobError}
-use Rattle.stream_jobs.specs.declared.refusal.JobError.TheVariants.{Memory, Refused}
-use Rattle.stream_jobs.specs.declared.refusal.JobRefusal.{JobRefusal}
+use Rattle.job_programs.specs.JobOptions.{JobOptionsView}
+use Rattle.job_programs.specs.declared.refusal.JobError.{JobError}
+use Rattle.job_programs.specs.declared.refusal.JobError.TheVariants.{Memory, Refused}
+use Rattle.job_programs.specs.declared.refusal.JobRefusal.{JobRefusal}
 use Rattle.devices.specs.Devices.{Device, HasFailed, IsClean, Takes}
 use Rattle.devices.specs.Outcomes.{halt_line, Outcome, reported}
 use Rattle.devices.specs.Lines.{Reports, Stopped}

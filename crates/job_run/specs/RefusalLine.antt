@@ -1,15 +1,16 @@
 -- The line for the refusal of a stream.
-use Rattle.std.specs.Prelude.{ℕ, Bool, if◌then◌else◌, List, [], ◌++◌, Option, Some, None, codes, decimal}
+use Rattle.std.specs.Prelude.{ℕ, ◌-◌, nat_lt, Bool, if◌then◌else◌, List, [], ◌++◌, Option, Some, None, codes, decimal}
 use Rattle.diagnosis.specs.FaultLines.{fault_line}
 use Rattle.es_units.specs.declared.stamps.StampFault.{StampFault}
 use Rattle.es_units.specs.declared.stamps.StampFault.TheVariants.{DtsNotIncreasing, PtsOutOfRange, DtsTooFar}
 use Rattle.es_units.specs.declared.dts_from_pts.DtsFault.{DtsFault}
 use Rattle.es_units.specs.declared.dts_from_pts.DtsFault.TheVariants.{SamePts, PtsTooLate}
-use Rattle.stream_jobs.specs.declared.refusal.GreaterBuffers.{GreaterBuffers}
-use Rattle.stream_jobs.specs.declared.refusal.JobRefusal.{JobRefusal}
-use Rattle.stream_jobs.specs.declared.refusal.JobRefusal.TheVariants.{NoPackets, NoAssociation, NoProgram, NoStream, Scrambled, Programs, Streams, StreamId}
-use Rattle.stream_jobs.specs.declared.refusal.JobRefusal.TheVariants.{NoStamps, OtherStreamId, Stamps, Dts, Units, Size, Buffers, Pids, Description, Plan}
-use Rattle.stream_jobs.specs.declared.refusal.JobRefusal.TheVariants.{Declaration}
+use Rattle.job_programs.specs.declared.refusal.GreaterBuffers.{GreaterBuffers}
+use Rattle.job_programs.specs.declared.refusal.JobRefusal.{JobRefusal}
+use Rattle.job_programs.specs.declared.refusal.NamedNumbers.{NamedNumbers}
+use Rattle.job_programs.specs.declared.refusal.JobRefusal.TheVariants.{NoPackets, NoAssociation, NoProgram, NoStream, Scrambled, Programs, Streams, StreamId}
+use Rattle.job_programs.specs.declared.refusal.JobRefusal.TheVariants.{NoStamps, OtherStreamId, Stamps, Dts, Units, Size, Buffers, Pids, Description, Plan}
+use Rattle.job_programs.specs.declared.refusal.JobRefusal.TheVariants.{Declaration}
 
 -- time stamps that can't be moments of a run, after the packet and the PID of their unit
 unfoldable pub stamps_text : StampFault → List ℕ
@@ -38,10 +39,25 @@ unfoldable pub way_text : ℕ → Option GreaterBuffers → List ℕ
 way_text pid None = codes "\n"
 way_text pid (Some b) = greater_text pid b.rx b.main
 
+-- the programs that a transport stream names: the first four, and the number of the others
+unfoldable pub first_text : Option ℕ → List ℕ
+first_text None = codes "none"
+first_text (Some number) = decimal number
+
+unfoldable pub next_text : Option ℕ → List ℕ
+next_text None = []
+next_text (Some number) = codes ", " ++ decimal number
+
+unfoldable pub more_text : ℕ → List ℕ
+more_text count = if nat_lt 4 count then codes " and " ++ decimal (count - 4) ++ codes " more: tsview lists them\n" else codes "\n"
+
+unfoldable pub named_text : NamedNumbers → List ℕ
+named_text there = first_text there.first ++ (next_text there.second ++ (next_text there.third ++ (next_text there.fourth ++ more_text there.count)))
+
 unfoldable pub refusal_line : JobRefusal → List ℕ
 refusal_line NoPackets = codes "not a stream of 188-byte packets\n"
 refusal_line NoAssociation = codes "no PAT: the stream is empty, or names no programs\n"
-refusal_line NoProgram = codes "no PMT: none of the programs that are asked for is there; tsview lists the programs that are\n"
+refusal_line (NoProgram there) = codes "no PMT: none of the programs that are asked for is there; the PAT names " ++ named_text there
 refusal_line NoStream = codes "no stream\n"
 refusal_line Scrambled = codes "no stream that is not scrambled\n"
 refusal_line (Programs count) = decimal count ++ codes " programs: more than 16\n"

@@ -4,7 +4,7 @@ use Rattle.std.specs.Prelude.{Err}
 use Rattle.std.specs.Str.{IsUtf8}
 use Rattle.pes_packet.specs.AccessUnits.{AccessUnit}
 use Rattle.demux.specs.Views.{FindingView}
-use Rattle.description.specs.Described.{Described}
+use Rattle.description_parts.specs.Described.{Described}
 use Rattle.slot_plan.specs.Conditions.{IsServing}
 use Rattle.slot_plan.specs.Planned.{Planned, plan_error}
 use Rattle.slot_plan.specs.Text.{plan_text}
@@ -12,12 +12,12 @@ use Rattle.packet_sync.specs.OtherPackets.{other_packets}
 use Rattle.packet_sync.specs.Slips.{carried}
 use Rattle.packet_sync.specs.declared.packet_sizes.OtherPackets.{OtherPackets}
 use Rattle.stream_jobs.specs.Jobs.{AllAgree, IsDescription, IsJob}
-use Rattle.stream_jobs.specs.JobInput.{JobInputView, job_input}
-use Rattle.stream_jobs.specs.JobOptions.{JobOptionsView}
-use Rattle.stream_jobs.specs.JoinedInputs.{AreUnitsIn, JoinedInputsView, joined_inputs}
-use Rattle.stream_jobs.specs.declared.refusal.JobError.TheVariants.{Refused}
-use Rattle.stream_jobs.specs.declared.refusal.JobRefusal.{JobRefusal}
-use Rattle.stream_jobs.specs.declared.refusal.JobRefusal.TheVariants.{NoStream}
+use Rattle.job_inputs.specs.JobInput.{JobInputView, job_input}
+use Rattle.job_programs.specs.JobOptions.{JobOptionsView}
+use Rattle.job_inputs.specs.JoinedInputs.{AreUnitsIn, JoinedInputsView, joined_inputs}
+use Rattle.job_programs.specs.declared.refusal.JobError.TheVariants.{Refused}
+use Rattle.job_programs.specs.declared.refusal.JobRefusal.{JobRefusal}
+use Rattle.job_programs.specs.declared.refusal.JobRefusal.TheVariants.{NoStream}
 use Rattle.devices.specs.Outcomes.{Outcome, reported}
 use Rattle.job_run.specs.InputLines.{are_lost, input_line, note_lines}
 use Rattle.job_run.specs.RefusalLine.{refusal_line}

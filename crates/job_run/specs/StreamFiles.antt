@@ -8,10 +8,9 @@ use Rattle.devices.specs.Lines.{Reports}
 use Rattle.devices.specs.Outcomes.{Outcome, halt_line, reported}
 use Rattle.devices.specs.WholeInput.{IsWhole}
 use Rattle.devices.specs.declared.halt.Halt.TheVariants.{Memory}
-use Rattle.stream_jobs.specs.JobInput.{JobInputView, job_input}
-use Rattle.stream_jobs.specs.Jobs.{AreStreams}
-use Rattle.stream_jobs.specs.JoinedInputs.{AreStreamsIn, JoinedInputsView}
-use Rattle.stream_jobs.specs.declared.refusal.JobRefusal.{JobRefusal}
+use Rattle.job_inputs.specs.JobInput.{JobInputView, job_input, AreStreams}
+use Rattle.job_inputs.specs.JoinedInputs.{AreStreamsIn, JoinedInputsView}
+use Rattle.job_programs.specs.declared.refusal.JobRefusal.{JobRefusal}
 use Rattle.job_run.specs.InputLines.{are_lost, input_line, name_of, note_lines}
 use Rattle.job_run.specs.RefusalLine.{refusal_line}
 use Rattle.job_run.specs.JobArguments.{JobArgumentsView}

@@ -16,8 +16,8 @@ use Rattle.packet_sync.specs.OtherPackets.{other_packets}
 use Rattle.packet_sync.specs.Slips.{carried, slips}
 use Rattle.packet_sync.specs.declared.left_out.FieldLeftOut.{FieldLeftOut}
 use Rattle.packet_sync.specs.declared.slip.Slip.{Slip}
-use Rattle.stream_jobs.specs.AskedMarks.{as_asked}
-use Rattle.stream_jobs.specs.JobOptions.{JobOptionsView}
+use Rattle.job_inputs.specs.AskedMarks.{as_asked}
+use Rattle.job_programs.specs.JobOptions.{JobOptionsView}
 
 -- 1. A whole stream
 

@@ -5,7 +5,7 @@ use Rattle.other_tables.specs.declared.kinds.TableKind.{TableKind}
 use Rattle.other_tables.specs.declared.kinds.TableKind.TheVariants.{ConditionalAccess, Objects, Network, Services, Events, Time, Running, Applications, Splices}
 use Rattle.other_tables.specs.declared.kinds.TableKind.TheVariants.{Private}
 use Rattle.other_tables.specs.declared.tables.OtherTable.{OtherTable}
-use Rattle.stream_jobs.specs.JobInput.{JobInputView, carries_table}
+use Rattle.job_inputs.specs.JobInput.{JobInputView, carries_table}
 
 unfoldable pub kind_name : TableKind → List ℕ
 kind_name ConditionalAccess = codes "CAT, ECM or EMM"

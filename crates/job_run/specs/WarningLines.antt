@@ -7,14 +7,14 @@ use Rattle.es_units.specs.declared.unit_warning.UnitWarningCause.{UnitWarningCau
 use Rattle.es_units.specs.declared.unit_warning.UnitWarningCause.TheVariants as unit
 use Rattle.stream_programs.specs.declared.program_map.MapPart.{MapPart}
 use Rattle.stream_programs.specs.declared.program_map.MapPart.TheVariants.{NamedStreams, Descriptors}
-use Rattle.stream_jobs.specs.Warnings.{is_damage}
-use Rattle.stream_jobs.specs.declared.warning.PacketWarning.{PacketWarning}
-use Rattle.stream_jobs.specs.declared.warning.PacketWarning.TheVariants.{Bad, Errored, AssociationChanges, NetworkSurplus}
-use Rattle.stream_jobs.specs.declared.warning.ProgramWarning.{ProgramWarning}
-use Rattle.stream_jobs.specs.declared.warning.ProgramWarning.TheVariants.{Missing, NoStream, UnreadText}
-use Rattle.stream_jobs.specs.declared.warning.Warning.{Warning}
-use Rattle.stream_jobs.specs.declared.warning.Warning.TheVariants as warning
-use Rattle.stream_jobs.specs.declared.refusal.JobRefusal.{JobRefusal}
+use Rattle.job_programs.specs.Warnings.{is_damage}
+use Rattle.job_programs.specs.declared.warning.PacketWarning.{PacketWarning}
+use Rattle.job_programs.specs.declared.warning.PacketWarning.TheVariants.{Bad, Errored, AssociationChanges, NetworkSurplus}
+use Rattle.job_programs.specs.declared.warning.ProgramWarning.{ProgramWarning}
+use Rattle.job_programs.specs.declared.warning.ProgramWarning.TheVariants.{Missing, NoStream, UnreadText}
+use Rattle.job_programs.specs.declared.warning.Warning.{Warning}
+use Rattle.job_programs.specs.declared.warning.Warning.TheVariants as warning
+use Rattle.job_programs.specs.declared.refusal.JobRefusal.{JobRefusal}
 use Rattle.job_run.specs.declared.job_arguments.Reporting.{Reporting}
 use Rattle.job_run.specs.InformationLines.{information_line}
 use Rattle.job_run.specs.RefusalLine.{refusal_line}

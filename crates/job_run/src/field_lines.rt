@@ -5,10 +5,10 @@ ghost use Rattle.std.specs.List.{list_any};
 ghost use Rattle.packet_sync.specs.Fields.{is_loss};
 ghost use Rattle.job_run.specs.FieldLines as spec;
 
+use job_inputs::JobInput;
 use packet_sync::{Field, FieldLeftOut};
 use std::alloc::{AllocError, Global};
 use std::fmt::Write;
-use stream_jobs::JobInput;
 
 // What is said of a field.
 #[tactic(auto, unfolding(crate::specs::FieldLines::field_text))]

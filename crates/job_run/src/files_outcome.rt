@@ -6,8 +6,8 @@ ghost use Rattle.demux.specs.Views.{FindingView};
 ghost use Rattle.devices.specs.Devices.{writes};
 ghost use Rattle.devices.specs.Files.{files_of};
 ghost use Rattle.job_run.specs.InputLines.{are_lost, name_of, note_lines};
-ghost use Rattle.stream_jobs.specs.Answers.{Answers};
-ghost use Rattle.stream_jobs.specs.JoinedInputs.{AreStreamsIn};
+ghost use Rattle.job_programs.specs.Answers.{Answers};
+ghost use Rattle.job_inputs.specs.JoinedInputs.{AreStreamsIn};
 ghost use Rattle.job_run.specs.Outcomes.{Withholds, status_of, unless_quiet};
 ghost use Rattle.job_run.specs.SeveralInputs.{GivesIn, all_joined, under};
 ghost use Rattle.job_run.specs.StreamFiles as spec;
@@ -20,8 +20,9 @@ use crate::stream_files::{TakenStream, TakenStreams, named_inputs};
 use crate::written::write_outcome;
 use counted_io::Sink;
 use devices::{Halt, NamedFiles, report_halt};
+use job_inputs::{InputNote, JobInput, JoinedInputs, join_inputs};
+use job_programs::{JobError, JobRefusal};
 use std::alloc::{AllocError, Global};
-use stream_jobs::{InputNote, JobError, JobInput, JobRefusal, JoinedInputs, join_inputs};
 
 // Lines under the number and the name of an input, if there are any.
 #[tactic(auto, unfolding(crate::specs::SeveralInputs::under))]
@@ -84,7 +85,7 @@ fn inputs_of(alloc: Global, taken: Vec<TakenStream>) -> Result<Vec<JobInput>, Al
 }
 
 // What is joined of inputs.
-#[tactic(auto, unfolding(crate::specs::SeveralInputs::all_joined, stream_jobs::specs::Answers::Answers, stream_jobs::specs::Answers::Refuses))]
+#[tactic(auto, unfolding(crate::specs::SeveralInputs::all_joined, job_programs::specs::Answers::Answers, job_programs::specs::Answers::Refuses))]
 fn join_all(alloc: Global, inputs: Vec<JobInput>) -> Result<JoinedInputs, JobError>
     requires { All (λ m. length m.streams ≤ 32) inputs.items }
     ensures value { Answers (all_joined inputs.items) result }

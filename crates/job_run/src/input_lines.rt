@@ -3,9 +3,9 @@
 ghost use Rattle.std.specs.Prelude.{◌≡◌, ◌++◌, OnOk, map, string_bytes};
 ghost use Rattle.job_run.specs.InputLines as spec;
 
+use job_inputs::{InputNote, NoteCause};
 use std::alloc::AllocError;
 use std::fmt::Write;
-use stream_jobs::{InputNote, NoteCause};
 
 // Which input it is.
 #[tactic(auto, unfolding(crate::specs::InputLines::input_head))]

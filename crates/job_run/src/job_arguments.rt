@@ -3,9 +3,9 @@
 ghost use Rattle.std.specs.Prelude.{◌≡◌, option_map};
 
 use given_values::{ClockBase, DeclareBy, NetworkName, ServiceName};
+use job_programs::JobOptions;
 use std::marker::Model;
 use stream_coding::PidBuffers;
-use stream_jobs::JobOptions;
 
 /// The kind of output.
 #[derive(Clone, Copy, Debug, PartialEq, Eq)]

@@ -7,15 +7,16 @@ ghost use Rattle.other_tables.specs.OtherTables as found;
 ghost use Rattle.packet_sync.specs.OtherPackets.{other_packets};
 ghost use Rattle.slot_plan.specs.Planned.{plan_error};
 ghost use Rattle.slot_plan.specs.Text.{plan_text};
-ghost use Rattle.stream_jobs.specs.Jobs.{AreStreams, IsDescription};
+ghost use Rattle.stream_jobs.specs.Jobs.{IsDescription};
 ghost use Rattle.stream_jobs.specs.WhyNoJob.{IsWhyNoDescription, IsWhyNoJob};
-ghost use Rattle.stream_jobs.specs.declared.refusal.JobError.TheVariants.{Memory};
-ghost use Rattle.stream_jobs.specs.JoinedInputs.{AreStreamsIn, JoinedInputsView};
+ghost use Rattle.job_programs.specs.declared.refusal.JobError.TheVariants.{Memory};
+ghost use Rattle.job_inputs.specs.JoinedInputs.{AreStreamsIn, JoinedInputsView};
 ghost use Rattle.job_run.specs.Outcomes as spec;
 ghost use Rattle.job_run.specs.SeveralInputs.{GivesIn, GivesJobIn};
 ghost use Rattle.job_run.specs.Streams.{IsRead};
 ghost use Rattle.devices.specs.Outcomes.{reported};
 ghost use Rattle.job_run.specs.SlipLines.{packets_line};
+ghost use Rattle.job_inputs.specs.JobInput.{AreStreams};
 
 use crate::carried_stream::{PacketNotes, ReadStream};
 use crate::field_lines::{are_needed, told_fields, write_fields};
@@ -28,16 +29,15 @@ use crate::table_lines::{are_missed, told_tables, write_other_tables};
 use crate::timed_text::timed_stream;
 use crate::warning_lines::{is_damaged, told_warnings, write_warnings};
 use demux::Finding;
+use job_inputs::{JobInput, job_input, mark_as_asked};
+use job_programs::{JobError, JobOptions, Warning};
 use other_tables::{OtherTable, other_tables};
 use packet_sync::{FieldLeftOut, OtherPackets, Slip};
 use pes_packet::Unit;
 use slot_plan::Plan;
 use std::alloc::{AllocError, Global};
 use std::marker::Model;
-use stream_jobs::{
-    Job, JobError, JobInput, JobOptions, Warning, describe, job_input, make_job, mark_as_asked,
-    units,
-};
+use stream_jobs::{Job, describe, make_job, units};
 
 /// The output, the lines for the second writer, and the status.
 #[derive(Drop)]

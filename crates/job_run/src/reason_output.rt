@@ -6,9 +6,11 @@ ghost use Rattle.job_run.specs.Outcomes as spec;
 
 use crate::outcome::{JobText, only_text};
 use diagnosis::write_reasons;
+use job_inputs::JobInput;
+use job_programs::{JobError, JobOptions};
 use std::alloc::{AllocError, Global};
 use std::fmt::Write;
-use stream_jobs::{JobError, JobInput, JobOptions, found_rate, unplanned_description};
+use stream_jobs::{found_rate, unplanned_description};
 
 // The first rate at which a plan is found, of those that are tried.
 fn tried_rate(

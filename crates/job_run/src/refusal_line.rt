@@ -2,14 +2,14 @@
 
 ghost use Rattle.std.specs.Prelude.{◌≡◌, ◌++◌, OnOk, string_bytes};
 ghost use Rattle.job_run.specs.RefusalLine as spec;
-ghost use Rattle.stream_jobs.specs.declared.refusal.JobRefusal.TheVariants as refusals;
+ghost use Rattle.job_programs.specs.declared.refusal.JobRefusal.TheVariants as refusals;
 
-use description::DescFault;
+use description_keys::DescFault;
 use diagnosis::write_fault;
 use es_units::{DtsFault, StampFault};
+use job_programs::{GreaterBuffers, JobRefusal, NamedNumbers};
 use std::alloc::AllocError;
 use std::fmt::Write;
-use stream_jobs::{GreaterBuffers, JobRefusal};
 
 // A stream_id that no unit may have.
 #[tactic(auto, unfolding(crate::specs::RefusalLine::refusal_line))]
@@ -177,6 +177,62 @@ fn write_description(fault: DescFault, text: &mut String) -> Result<(), AllocErr
     write_fault(&[], fault, text)
 }
 
+// The first program that is named.
+#[tactic(auto, unfolding(crate::specs::RefusalLine::first_text))]
+fn write_first(number: Option<u16>, text: &mut String) -> Result<(), AllocError>
+    ensures { OnOk result (string_bytes text.new ≡ string_bytes text.old ++ spec.first_text number) }
+{
+    match number {
+        None => text.push_str("none"),
+        Some(number) => write!(text, "{number}"),
+    }
+}
+
+// A program after it.
+#[tactic(auto, unfolding(crate::specs::RefusalLine::next_text))]
+fn write_next(number: Option<u16>, text: &mut String) -> Result<(), AllocError>
+    ensures { OnOk result (string_bytes text.new ≡ string_bytes text.old ++ spec.next_text number) }
+{
+    match number {
+        None => Ok(()),
+        Some(number) => write!(text, ", {number}"),
+    }
+}
+
+// How many programs follow the first four.
+#[tactic(auto, unfolding(crate::specs::RefusalLine::more_text))]
+fn write_more(count: usize, text: &mut String) -> Result<(), AllocError>
+    ensures { OnOk result (string_bytes text.new ≡ string_bytes text.old ++ spec.more_text count) }
+{
+    if count > 4 {
+        write!(text, " and {} more: tsview lists them\n", count - 4)
+    } else {
+        text.push_str("\n")
+    }
+}
+
+// The programs that are named.
+#[tactic(auto, unfolding(crate::specs::RefusalLine::named_text))]
+fn write_named(there: NamedNumbers, text: &mut String) -> Result<(), AllocError>
+    ensures { OnOk result (string_bytes text.new ≡ string_bytes text.old ++ spec.named_text there) }
+{
+    write_first(there.first, text)?;
+    write_next(there.second, text)?;
+    write_next(there.third, text)?;
+    write_next(there.fourth, text)?;
+    write_more(there.count, text)
+}
+
+// No program that is asked for.
+#[tactic(auto, unfolding(crate::specs::RefusalLine::refusal_line))]
+fn write_no_program(there: NamedNumbers, text: &mut String) -> Result<(), AllocError>
+    ensures { OnOk result
+        (string_bytes text.new ≡ string_bytes text.old ++ spec.refusal_line (refusals.NoProgram there)) }
+{
+    text.push_str("no PMT: none of the programs that are asked for is there; the PAT names ")?;
+    write_named(there, text)
+}
+
 /// Appends the line of a refusal.
 #[tactic(auto, unfolding(crate::specs::RefusalLine::refusal_line))]
 pub fn write_refusal(refusal: JobRefusal, text: &mut String) -> Result<(), AllocError>
@@ -187,9 +243,7 @@ pub fn write_refusal(refusal: JobRefusal, text: &mut String) -> Result<(), Alloc
         JobRefusal::NoAssociation => {
             text.push_str("no PAT: the stream is empty, or names no programs\n")
         },
-        JobRefusal::NoProgram => text.push_str(
-            "no PMT: none of the programs that are asked for is there; tsview lists the programs that are\n",
-        ),
+        JobRefusal::NoProgram(there) => write_no_program(there, text),
         JobRefusal::NoStream => text.push_str("no stream\n"),
         JobRefusal::Scrambled => text.push_str("no stream that is not scrambled\n"),
         JobRefusal::Programs(count) => write!(text, "{count} programs: more than 16\n"),

@@ -18,10 +18,10 @@ use crate::reading::{StreamReading, read_stream};
 use crate::timed_text::timed_stream;
 use demux::Finding;
 use devices::{Halt, NamedFiles};
+use job_inputs::{JobInput, job_input, mark_as_asked};
 use other_tables::{OtherTable, other_tables};
 use std::alloc::{AllocError, Global};
 use std::marker::Model;
-use stream_jobs::{JobInput, job_input, mark_as_asked};
 
 /// What a job takes of a stream, the lines that are told of it, and whether something of it is lost.
 #[derive(Drop)]

@@ -5,10 +5,10 @@ ghost use Rattle.std.specs.List.{list_any};
 ghost use Rattle.other_tables.specs.TableKinds.{is_loss};
 ghost use Rattle.job_run.specs.TableLines as spec;
 
+use job_inputs::JobInput;
 use other_tables::{OtherTable, TableKind};
 use std::alloc::{AllocError, Global};
 use std::fmt::Write;
-use stream_jobs::JobInput;
 
 // The name of a table.
 #[tactic(auto, unfolding(crate::specs::TableLines::kind_name))]

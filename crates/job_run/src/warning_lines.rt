@@ -1,16 +1,16 @@
 //! The lines of warnings: what of a stream is left out or changed.
 
 ghost use Rattle.std.specs.Prelude.{◌≡◌, ◌++◌, IfOk, OnOk, string_bytes};
-ghost use Rattle.stream_jobs.specs.Warnings.{are_damaged};
+ghost use Rattle.job_programs.specs.Warnings.{are_damaged};
 ghost use Rattle.job_run.specs.WarningLines as spec;
 
 use crate::information_lines::write_information;
 use crate::job_arguments::Reporting;
 use crate::refusal_line::write_refusal;
 use es_units::{UnitWarning, UnitWarningCause};
+use job_programs::{JobRefusal, PacketWarning, ProgramWarning, Warning};
 use std::alloc::{AllocError, Global};
 use std::fmt::Write;
-use stream_jobs::{JobRefusal, PacketWarning, ProgramWarning, Warning};
 use stream_programs::{MapPart, TableOmission};
 
 // The line for what is left out of the tables.

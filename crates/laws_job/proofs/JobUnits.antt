@@ -5,16 +5,18 @@ use Rattle.demux.specs.Views.{FindingView}
 use Rattle.es_units.specs.ApartUnits.{apart_wire_units}
 use Rattle.es_units.specs.Stamps.{moved}
 use Rattle.es_units.specs.Laws.{MovedByOneConstant}
-use Rattle.stream_jobs.specs.FoundUnits.{AreFound, source_of}
+use Rattle.job_programs.specs.FoundUnits.{AreFound, source_of}
 use Rattle.laws_job.specs.Laws.{AreTheSame, AreThose}
 
 moved_same : MovedByOneConstant → (base : ℕ) (wire : List AccessUnit) → AreTheSame wire base (moved base None wire)
 moved_same law base wire = let all = law base None wire in record { dts = all.0; pts = all.1; marks = all.2; bytes = all.3 }
 
-pub those : MovedByOneConstant → (findings : List FindingView) (pid : ℕ) (us : List AccessUnit) → AreFound false findings pid us → AreThose (apart_wire_units pid findings) us
+pub those : MovedByOneConstant → (findings : List FindingView) (pid : ℕ) (us : List AccessUnit) → AreFound false findings pid us →
+    AreThose (apart_wire_units pid findings) us
 unfolding source_of
 those law findings pid us found = record {
   base = found.base;
   range = found.moved.range;
-  same = subst (λ (x : List AccessUnit). AreTheSame (apart_wire_units pid findings) found.base x) (sym found.moved.are) (moved_same law found.base (apart_wire_units pid findings));
+  same = subst (λ (x : List AccessUnit). AreTheSame (apart_wire_units pid findings) found.base x) (sym found.moved.are)
+      (moved_same law found.base (apart_wire_units pid findings));
 }

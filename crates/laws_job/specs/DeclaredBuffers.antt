@@ -4,8 +4,8 @@ use Rattle.pes_packet.specs.AccessUnits.{AccessUnit}
 use Rattle.pes_packet.specs.Units.{units_of}
 use Rattle.unit_timing.specs.declared.framing.Framing.{Framing}
 use Rattle.unit_timing.specs.declared.multiplexing_buffer.MultiplexingBuffer.{MultiplexingBuffer}
-use Rattle.description.specs.Described.{Described, DescribedStream}
-use Rattle.description.specs.Ranges.{IsInRange}
+use Rattle.description_parts.specs.Described.{Described, DescribedStream}
+use Rattle.description_parts.specs.Ranges.{IsInRange}
 use Rattle.slot_plan.specs.Planned.{Planned}
 use Rattle.slot_plan.specs.Conditions.{IsServing}
 use Rattle.demux.specs.Views.{FindingView}
@@ -15,9 +15,9 @@ use Rattle.mux_core.specs.FramesKept.{FramesKept}
 use Rattle.mux_core.specs.WholeJobs.{job_history, output_of}
 use Rattle.job_text.specs.DescriptionParts.{ProgramPartView, StreamPartView, TablePartView}
 use Rattle.job_text.specs.Laws.{FitsHeading, FitsEvent, FitsNetwork, FitsProgram, FitsStream, FitsTable}
-use Rattle.stream_jobs.specs.JobInput.{JobInputView}
-use Rattle.stream_jobs.specs.JobOptions.{JobOptionsView}
-use Rattle.stream_jobs.specs.JobTables.{table_part}
+use Rattle.job_inputs.specs.JobInput.{JobInputView}
+use Rattle.job_programs.specs.JobOptions.{JobOptionsView}
+use Rattle.job_programs.specs.JobTables.{table_part}
 use Rattle.stream_jobs.specs.Jobs.{AreUnits}
 use Rattle.stream_jobs.specs.Rates.{IsText}
 use Rattle.stream_jobs.specs.Texts.{description_text, heading_of, program_part, stream_part}
@@ -67,7 +67,9 @@ pub record BuffersKept (schedule : Scheduled) (part : StreamPartView) (s : Descr
 
 -- so of each stream, with what was chosen for it
 abbrev pub BuffersKeptLaw : Type 0
-BuffersKeptLaw = (options : JobOptionsView) (input : JobInputView) (rate : ℕ) (d : Described) (p : Planned) (findings : List FindingView) (units : List (ℕ × AccessUnit)) (n : ℕ) →
-    HasTomlNumbers options input rate → IsText d (description_text options input rate) → IsInRange d → IsServing d p → AreUnits false findings d units → n ≤ 2 ^ 40 →
+BuffersKeptLaw = (options : JobOptionsView) (input : JobInputView) (rate : ℕ) (d : Described) (p : Planned) (findings : List FindingView)
+    (units : List (ℕ × AccessUnit)) (n : ℕ) →
+    HasTomlNumbers options input rate → IsText d (description_text options input rate) → IsInRange d → IsServing d p → AreUnits false findings d units →
+    n ≤ 2 ^ 40 →
     (k : ℕ) (s : DescribedStream) (part : StreamPartView) → slice_get d.streams k ≡ Some s → slice_get (stream_parts input) k ≡ Some part →
     BuffersKept (schedule_for d p) part s (units_of k units) n (output_of false (schedule_for d p) (job_history units n))

@@ -3,8 +3,8 @@ use Rattle.std.specs.Prelude.{◌≡◌, ◌<◌, ℕ, ◌+◌, ◌*◌, ◌%◌
 use Rattle.pes_packet.specs.AccessUnits.{AccessUnit}
 use Rattle.pes_packet.specs.Units.{units_of}
 use Rattle.ts_packet.specs.PidList.{Entry, pid_list}
-use Rattle.description.specs.Described.{Described, DescribedStream}
-use Rattle.description.specs.Ranges.{IsInRange}
+use Rattle.description_parts.specs.Described.{Described, DescribedStream}
+use Rattle.description_parts.specs.Ranges.{IsInRange}
 use Rattle.slot_plan.specs.Planned.{Planned}
 use Rattle.slot_plan.specs.Conditions.{IsServing}
 use Rattle.demux.specs.Views.{FindingView}
@@ -12,12 +12,12 @@ use Rattle.mux_core.specs.WholeJobs.{job_history, output_of}
 use Rattle.laws_run.specs.FollowedTables.{IsFollowed}
 use Rattle.laws_run.specs.TablesFirst.{DueLate}
 use Rattle.es_units.specs.Laws.{after_half}
-use Rattle.stream_jobs.specs.JobInput.{JobInputView, job_input}
-use Rattle.stream_jobs.specs.JobOptions.{JobOptionsView}
-use Rattle.stream_jobs.specs.JobPrograms.{JobProgramView, clock_in}
+use Rattle.job_inputs.specs.JobInput.{JobInputView, job_input}
+use Rattle.job_programs.specs.JobOptions.{JobOptionsView}
+use Rattle.job_programs.specs.JobPrograms.{JobProgramView, clock_in}
 use Rattle.stream_jobs.specs.Jobs.{AreUnits, IsJob}
-use Rattle.stream_jobs.specs.JobStreams.{WireStreamView}
-use Rattle.stream_jobs.specs.Moments.{earliest, first_dts, firsts, stamps_of, moved_streams}
+use Rattle.job_programs.specs.JobStreams.{WireStreamView}
+use Rattle.job_units.specs.Moments.{earliest, first_dts, firsts, stamps_of, moved_streams}
 use Rattle.laws_job.specs.Laws.{schedule_for}
 
 -- ---- when the first units are due
@@ -64,4 +64,5 @@ pub record MadeOf (options : JobOptionsView) (findings : List FindingView) (inpu
   pub tables_first : All (BeginsNear input.programs streams) streams → TablesComeFirst options findings input
 
 abbrev pub FirstUnitsLaw : Type 0
-FirstUnitsLaw = (options : JobOptionsView) (count : ℕ) (findings : List FindingView) (input : JobInputView) → job_input options count findings ≡ Ok input → MadeOf options findings input
+FirstUnitsLaw = (options : JobOptionsView) (count : ℕ) (findings : List FindingView) (input : JobInputView) → job_input options count findings ≡ Ok input →
+    MadeOf options findings input

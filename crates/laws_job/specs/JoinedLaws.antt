@@ -2,8 +2,8 @@
 use Rattle.std.specs.Prelude.{◌≡◌, ◌≤◌, ℕ, ◌+◌, ◌-◌, ◌^◌, Bool, false, List, [], map, slice_get, Some, None}
 use Rattle.pes_packet.specs.AccessUnits.{AccessUnit}
 use Rattle.pes_packet.specs.Units.{units_of}
-use Rattle.description.specs.Described.{Described, DescribedStream}
-use Rattle.description.specs.Ranges.{IsInRange}
+use Rattle.description_parts.specs.Described.{Described, DescribedStream}
+use Rattle.description_parts.specs.Ranges.{IsInRange}
 use Rattle.slot_plan.specs.Planned.{Planned}
 use Rattle.slot_plan.specs.Conditions.{IsServing}
 use Rattle.demux.specs.Views.{FindingView}
@@ -11,9 +11,9 @@ use Rattle.mux_core.specs.Scheduled.{Scheduled}
 use Rattle.mux_core.specs.WholeJobs.{first_refused, capacity_for, job_history, output_of}
 use Rattle.es_units.specs.CarriedUnits.{wire_units}
 use Rattle.laws_pid.specs.Laws.{all_found}
-use Rattle.stream_jobs.specs.FoundUnits.{AreMoved}
-use Rattle.stream_jobs.specs.JoinedInputs.{AreUnitsIn}
-use Rattle.stream_jobs.specs.declared.joined_inputs.Origin.{Origin}
+use Rattle.job_programs.specs.FoundUnits.{AreMoved}
+use Rattle.job_inputs.specs.JoinedInputs.{AreUnitsIn}
+use Rattle.job_inputs.specs.declared.joined_inputs.Origin.{Origin}
 use Rattle.laws_job.specs.Laws.{AllDue, later_by, schedule_for}
 
 -- no unit is refused, over whatever schedule, also where DTS are made from PTS

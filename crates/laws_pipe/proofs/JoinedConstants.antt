@@ -4,12 +4,12 @@ use Rattle.std.specs.List.{AllZip}
 use Rattle.std.proofs.lemmas.Bool.{eq-eqb, ne_eqb}
 use Rattle.std.proofs.lemmas.List.{length-append}
 use Rattle.demux.specs.Views.{FindingView}
-use Rattle.stream_jobs.specs.ClockConstants.{IsMovedBy, clock_of}
-use Rattle.stream_jobs.specs.JobInput.{JobInputView}
-use Rattle.stream_jobs.specs.JobOptions.{JobOptionsView}
-use Rattle.stream_jobs.specs.JoinedInputs.{AreMovedByOne, findings_in}
-use Rattle.stream_jobs.specs.declared.program_clock.ProgramClock.{ProgramClock}
-use Rattle.stream_jobs.proofs.ClockConstants.{constants_of}
+use Rattle.job_inputs.specs.ClockConstants.{IsMovedBy, clock_of}
+use Rattle.job_inputs.specs.JobInput.{JobInputView}
+use Rattle.job_programs.specs.JobOptions.{JobOptionsView}
+use Rattle.job_inputs.specs.JoinedInputs.{AreMovedByOne, findings_in}
+use Rattle.job_programs.specs.declared.program_clock.ProgramClock.{ProgramClock}
+use Rattle.job_inputs.proofs.ClockConstants.{constants_of}
 use Rattle.laws_pipe.specs.PipedFiles.{TakesInput}
 
 -- 1. A constant for each clock of one more input

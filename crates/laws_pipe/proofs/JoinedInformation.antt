@@ -3,14 +3,14 @@ use Rattle.std.proofs.Common.{◌≡◌, ℕ, zero, suc, ◌+◌, List, [], ◌�
 use Rattle.std.specs.List.{AllZip}
 use Rattle.demux.specs.Views.{FindingView}
 use Rattle.job_text.specs.DescriptionParts.{EventPartView}
-use Rattle.stream_jobs.specs.Information.{JobInformationView}
-use Rattle.stream_jobs.specs.JobInput.{JobInputView}
-use Rattle.stream_jobs.specs.JobOptions.{JobOptionsView}
-use Rattle.stream_jobs.specs.JoinedInputs.{JoinedInputsView, first_input, information_joined, joined, most_events, with_input, with_inputs, with_renumbered}
-use Rattle.stream_jobs.specs.RenumberedInputs.{RenumberingView, event_with, information_with, renumbered}
-use Rattle.stream_jobs.proofs.JoinedStreams.{next_of}
-use Rattle.stream_jobs.proofs.MovedInputs.{moved_of}
-use Rattle.stream_jobs.proofs.Steps.{comes, same_value}
+use Rattle.job_programs.specs.Information.{JobInformationView}
+use Rattle.job_inputs.specs.JobInput.{JobInputView}
+use Rattle.job_programs.specs.JobOptions.{JobOptionsView}
+use Rattle.job_inputs.specs.JoinedInputs.{JoinedInputsView, first_input, information_joined, joined, most_events, with_input, with_inputs, with_renumbered}
+use Rattle.job_inputs.specs.RenumberedInputs.{RenumberingView, event_with, information_with, renumbered}
+use Rattle.job_inputs.proofs.JoinedStreams.{next_of}
+use Rattle.job_inputs.proofs.MovedInputs.{moved_of}
+use Rattle.job_programs.proofs.Steps.{comes, same_value}
 use Rattle.job_run.specs.SeveralInputs.{all_joined}
 use Rattle.laws_pipe.specs.PipedFiles.{TakesInput}
 use Rattle.laws_pipe.proofs.DescriptionLines.{Each, PlainEvent, PlainInformation}

@@ -9,12 +9,12 @@ use Rattle.packet_sync.specs.OtherPackets.{other_packets}
 use Rattle.packet_sync.specs.Slips.{carried}
 use Rattle.packet_sync.specs.declared.packet_sizes.OtherPackets.{OtherPackets}
 use Rattle.es_units.proofs.KeptDeclarations.{units_kept}
-use Rattle.stream_jobs.specs.JobInput.{JobInputView, job_input}
-use Rattle.stream_jobs.specs.JobOptions.{JobOptionsView}
-use Rattle.stream_jobs.specs.JoinedInputs.{AreMovedByOne, AreUnitsIn, IsMovedIn, JoinedInputsView}
-use Rattle.stream_jobs.specs.declared.program_clock.ProgramClock.{ProgramClock}
-use Rattle.stream_jobs.specs.declared.refusal.JobRefusal.{JobRefusal}
-use Rattle.stream_jobs.proofs.JoinedStreams.{constants_kept}
+use Rattle.job_inputs.specs.JobInput.{JobInputView, job_input}
+use Rattle.job_programs.specs.JobOptions.{JobOptionsView}
+use Rattle.job_inputs.specs.JoinedInputs.{AreMovedByOne, AreUnitsIn, IsMovedIn, JoinedInputsView}
+use Rattle.job_programs.specs.declared.program_clock.ProgramClock.{ProgramClock}
+use Rattle.job_programs.specs.declared.refusal.JobRefusal.{JobRefusal}
+use Rattle.job_inputs.proofs.JoinedStreams.{constants_kept}
 use Rattle.unit_records.proofs.RecordBytes.{records_are_read}
 use Rattle.laws_job.specs.JoinedLaws.{JoinedAcceptedLaw, JoinedAgainLaw}
 use Rattle.laws_job.specs.Laws.{schedule_for}

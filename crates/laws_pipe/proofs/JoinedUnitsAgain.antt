@@ -4,18 +4,18 @@ use Rattle.std.specs.List.{AllZip}
 use Rattle.std.proofs.lemmas.Option.{slice_get-map, slice_get_within}
 use Rattle.pes_packet.specs.AccessUnits.{AccessUnit}
 use Rattle.pes_packet.specs.Units.{units_of}
-use Rattle.description.specs.Described.{Described, DescribedStream}
-use Rattle.description.specs.Ranges.{IsInRange}
+use Rattle.description_parts.specs.Described.{Described, DescribedStream}
+use Rattle.description_parts.specs.Ranges.{IsInRange}
 use Rattle.demux.specs.Views.{FindingView}
 use Rattle.slot_plan.specs.Conditions.{IsServing}
 use Rattle.es_units.specs.CarriedUnits.{wire_units}
 use Rattle.es_units.specs.Merging.{AreMerged}
-use Rattle.stream_jobs.specs.FoundUnits.{AreMoved, source_of}
-use Rattle.stream_jobs.specs.JobStreams.{TimedStreamView}
+use Rattle.job_programs.specs.FoundUnits.{AreMoved, source_of}
+use Rattle.job_programs.specs.JobStreams.{TimedStreamView}
 use Rattle.stream_jobs.specs.Jobs.{AllAgree}
-use Rattle.stream_jobs.specs.JoinedInputs.{AreUnitsIn, IsMovedIn, JoinedInputsView}
-use Rattle.stream_jobs.specs.declared.joined_inputs.Origin.{Origin}
-use Rattle.stream_jobs.specs.declared.program_clock.ProgramClock.{ProgramClock}
+use Rattle.job_inputs.specs.JoinedInputs.{AreUnitsIn, IsMovedIn, JoinedInputsView}
+use Rattle.job_inputs.specs.declared.joined_inputs.Origin.{Origin}
+use Rattle.job_programs.specs.declared.program_clock.ProgramClock.{ProgramClock}
 use Rattle.stream_jobs.proofs.JoinedUnits.{at_place}
 use Rattle.laws_job.specs.JoinedLaws.{JoinedAgainLaw}
 use Rattle.laws_job.proofs.AcceptedUnits.{stream_there}

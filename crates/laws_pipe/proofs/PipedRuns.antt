@@ -8,14 +8,14 @@ use Rattle.packet_sync.specs.OtherPackets.{other_packets}
 use Rattle.packet_sync.specs.Slips.{carried}
 use Rattle.packet_sync.specs.declared.packet_sizes.OtherPackets.{OtherPackets}
 use Rattle.es_units.proofs.KeptDeclarations.{units_kept}
-use Rattle.stream_jobs.specs.JobInput.{JobInputView, job_input}
-use Rattle.stream_jobs.specs.Information.{information_of}
-use Rattle.stream_jobs.specs.JobOptions.{JobOptionsView}
-use Rattle.stream_jobs.specs.JobPrograms.{clock_in}
+use Rattle.job_inputs.specs.JobInput.{JobInputView, job_input}
+use Rattle.job_programs.specs.Information.{information_of}
+use Rattle.job_programs.specs.JobOptions.{JobOptionsView}
+use Rattle.job_programs.specs.JobPrograms.{clock_in}
 use Rattle.stream_jobs.specs.Jobs.{AreUnits}
-use Rattle.stream_jobs.proofs.ClockConstants.{constants_of}
-use Rattle.stream_jobs.proofs.MovedInputs.{moved_of}
-use Rattle.stream_jobs.specs.declared.refusal.JobRefusal.{JobRefusal}
+use Rattle.job_inputs.proofs.ClockConstants.{constants_of}
+use Rattle.job_inputs.proofs.MovedInputs.{moved_of}
+use Rattle.job_programs.specs.declared.refusal.JobRefusal.{JobRefusal}
 use Rattle.unit_records.proofs.RecordBytes.{records_are_read}
 use Rattle.laws_job.specs.Laws.{AcceptedLaw, FoundAgainLaw, schedule_for}
 use Rattle.laws_job.proofs.AcceptedUnits.{all_kept}

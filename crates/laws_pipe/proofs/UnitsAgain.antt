@@ -4,22 +4,22 @@ use Rattle.std.proofs.Common.{ap, subst, ◌∙◌, arith, mul-le-mul, mul-le-mu
 use Rattle.std.proofs.lemmas.List.Elements.{All-nil, All-cons, All-filter, All-map, All-weaker}
 use Rattle.pes_packet.specs.AccessUnits.{AccessUnit}
 use Rattle.pes_packet.specs.Units.{units_of}
-use Rattle.description.specs.Described.{Described, DescribedStream}
-use Rattle.description.specs.Ranges.{IsInRange}
+use Rattle.description_parts.specs.Described.{Described, DescribedStream}
+use Rattle.description_parts.specs.Ranges.{IsInRange}
 use Rattle.demux.specs.Views.{FindingView}
 use Rattle.slot_plan.specs.Conditions.{IsServing}
 use Rattle.mux_core.specs.WholeJobs.{job_history, output_of}
 use Rattle.es_units.specs.ApartUnits.{apart_wire_units}
 use Rattle.es_units.specs.CarriedUnits.{wire_units}
 use Rattle.es_units.specs.Merging.{AreMerged}
-use Rattle.stream_jobs.specs.ClockConstants.{HasConstants, IsMovedBy, clock_of}
-use Rattle.stream_jobs.specs.FoundUnits.{AreMoved, source_of}
-use Rattle.stream_jobs.specs.JobInput.{JobInputView}
-use Rattle.stream_jobs.specs.JobOptions.{JobOptionsView}
-use Rattle.stream_jobs.specs.JobPrograms.{JobProgramView, clock_in}
+use Rattle.job_inputs.specs.ClockConstants.{HasConstants, IsMovedBy, clock_of}
+use Rattle.job_programs.specs.FoundUnits.{AreMoved, source_of}
+use Rattle.job_inputs.specs.JobInput.{JobInputView}
+use Rattle.job_programs.specs.JobOptions.{JobOptionsView}
+use Rattle.job_programs.specs.JobPrograms.{JobProgramView, clock_in}
 use Rattle.stream_jobs.specs.Jobs.{AllAgree, AreUnits, IsEntry}
-use Rattle.stream_jobs.specs.JobStreams.{TimedStreamView}
-use Rattle.stream_jobs.specs.declared.program_clock.ProgramClock.{ProgramClock}
+use Rattle.job_programs.specs.JobStreams.{TimedStreamView}
+use Rattle.job_programs.specs.declared.program_clock.ProgramClock.{ProgramClock}
 use Rattle.stream_jobs.proofs.JobUnits.{stands_for}
 use Rattle.laws_job.specs.Laws.{AllDue, FoundAgainLaw, schedule_for}
 use Rattle.checked_jobs.specs.JobSchedules.{schedule_by}

@@ -2,16 +2,16 @@
 use Rattle.std.specs.Prelude.{◌≡◌, ◌≤◌, ◌<◌, ℕ, ◌^◌, false, List, [], length, slice_get, Some, None, Ok}
 use Rattle.std.specs.List.{AllZip}
 use Rattle.clap.specs.Words.{Text}
-use Rattle.description.specs.Described.{DescribedStream}
+use Rattle.description_parts.specs.Described.{DescribedStream}
 use Rattle.pes_packet.specs.AccessUnits.{AccessUnit}
 use Rattle.demux.specs.Views.{FindingView}
 use Rattle.es_units.specs.ApartUnits.{apart_wire_units}
 use Rattle.es_units.specs.CarriedUnits.{wire_units}
-use Rattle.stream_jobs.specs.JobInput.{JobInputView, job_input}
-use Rattle.stream_jobs.specs.JobOptions.{JobOptionsView}
-use Rattle.stream_jobs.specs.JoinedInputs.{JoinedInputsView, findings_in}
-use Rattle.stream_jobs.specs.declared.joined_inputs.Origin.{Origin}
-use Rattle.stream_jobs.specs.declared.program_clock.ProgramClock.{ProgramClock}
+use Rattle.job_inputs.specs.JobInput.{JobInputView, job_input}
+use Rattle.job_programs.specs.JobOptions.{JobOptionsView}
+use Rattle.job_inputs.specs.JoinedInputs.{JoinedInputsView, findings_in}
+use Rattle.job_inputs.specs.declared.joined_inputs.Origin.{Origin}
+use Rattle.job_programs.specs.declared.program_clock.ProgramClock.{ProgramClock}
 use Rattle.devices.specs.Devices.{Device, Takes}
 use Rattle.devices.specs.Files.{Files}
 use Rattle.devices.specs.Lines.{Reports}

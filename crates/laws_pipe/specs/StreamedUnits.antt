@@ -3,8 +3,8 @@ use Rattle.std.specs.Prelude.{◌≡◌, ◌≤◌, ◌<◌, ℕ, ◌+◌, ◌/�
 use Rattle.clap.specs.Words.{Text}
 use Rattle.pes_packet.specs.AccessUnits.{AccessUnit}
 use Rattle.pes_packet.specs.Units.{units_of}
-use Rattle.description.specs.Described.{Described}
-use Rattle.description.specs.Ranges.{IsInRange}
+use Rattle.description_parts.specs.Described.{Described}
+use Rattle.description_parts.specs.Ranges.{IsInRange}
 use Rattle.packet_sync.specs.Slips.{carried}
 use Rattle.data_times.specs.DataTimes.{is_unstamped, seen_in}
 use Rattle.es_units.specs.Merging.{AreMerged}
@@ -14,12 +14,12 @@ use Rattle.es_feed.specs.MovedApart.{after_time}
 use Rattle.es_feed.specs.FedLines.{fed_records}
 use Rattle.es_feed.specs.Records.{records_of}
 use Rattle.given_marks.specs.Marking.{MarkingView, is_aligned, type_of}
-use Rattle.stream_jobs.specs.AskedMarks.{marking_of}
-use Rattle.stream_jobs.specs.ClockConstants.{clock_of}
-use Rattle.stream_jobs.specs.JobInput.{JobInputView, job_input}
-use Rattle.stream_jobs.specs.JobOptions.{JobOptionsView}
-use Rattle.stream_jobs.specs.JobStreams.{TimedStreamView}
-use Rattle.stream_jobs.specs.declared.program_clock.ProgramClock.{ProgramClock}
+use Rattle.job_inputs.specs.AskedMarks.{marking_of}
+use Rattle.job_inputs.specs.ClockConstants.{clock_of}
+use Rattle.job_inputs.specs.JobInput.{JobInputView, job_input}
+use Rattle.job_programs.specs.JobOptions.{JobOptionsView}
+use Rattle.job_programs.specs.JobStreams.{TimedStreamView}
+use Rattle.job_programs.specs.declared.program_clock.ProgramClock.{ProgramClock}
 use Rattle.devices.specs.Devices.{Device}
 use Rattle.devices.specs.Runs.{Ends}
 use Rattle.job_run.specs.declared.job_arguments.Subcommand.TheVariants.{Units}

@@ -2,7 +2,7 @@
 use Rattle.std.proofs.Common.{◌≡◌, ℕ, List, [], ◌∷◌, ◌++◌, length, Option, Some, None, refl, sym, subst, append-nil, append_assoc}
 use Rattle.pes_packet.specs.AccessUnits.{AccessUnit}
 use Rattle.pes_packet.specs.Units.{units_of}
-use Rattle.description.specs.Ranges.{IsInRange}
+use Rattle.description_parts.specs.Ranges.{IsInRange}
 use Rattle.unit_queue.specs.declared.refusal.FeedError.{FeedError}
 use Rattle.mux_core.specs.Scheduled.{Scheduled}
 use Rattle.mux_core.specs.Histories.{content_at}
@@ -24,7 +24,8 @@ unfolding or_cause unit_refused
 neither index None next e = (refl, e)
 neither index (Some cause) next e = absurd (cc)
 
-one_more : (d : Scheduled) (capacity : ℕ) (fed : List (ℕ × AccessUnit)) (entry : ℕ × AccessUnit) → IsInRange d.description → StandsFor d capacity (job_history fed 0) →
+one_more : (d : Scheduled) (capacity : ℕ) (fed : List (ℕ × AccessUnit)) (entry : ℕ × AccessUnit) → IsInRange d.description →
+    StandsFor d capacity (job_history fed 0) →
     cause_after d capacity fed entry ≡ None → StandsFor d capacity (job_history (fed ++ (entry ∷ [])) 0)
 unfolding fed_history
 one_more d capacity fed entry r w none =

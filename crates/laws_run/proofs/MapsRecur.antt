@@ -1,16 +1,17 @@
 -- Sections of program maps begin in time on each PID that is named for them, from the packet in which it is named to the end of a run.
-use Rattle.std.proofs.Common.{◌≡◌, ℕ, ◌+◌, ◌-◌, ◌*◌, ◌/◌, ◌^◌, ◌<◌, ◌≤◌, nat_lt, Bool, true, List, [], ◌∷◌, ◌++◌, length, filter, Option, Some, None, slice_get, refl, sym, ap, ap₂, subst, ◌∙◌, arith}
+use Rattle.std.proofs.Common.{◌≡◌, ℕ, ◌+◌, ◌-◌, ◌*◌, ◌/◌, ◌^◌, ◌<◌, ◌≤◌, nat_lt, Bool, true, List, [], ◌∷◌, ◌++◌, length, filter, Option, Some, None, slice_get}
+use Rattle.std.proofs.Common.{refl, sym, ap, ap₂, subst, ◌∙◌, arith}
 use Rattle.std.proofs.lemmas.Option.{slice_get_within}
 use Rattle.pes_packet.specs.AccessUnits.{AccessUnit}
 use Rattle.slot_contents.specs.Contents.{Content, run_bytes}
 use Rattle.slot_contents.specs.RunLaws.{Fits}
 use Rattle.slot_contents.proofs.Runs.{run_length}
-use Rattle.description.specs.Described.{Described, DescribedProgram}
-use Rattle.description.specs.Ranges.{IsInRange}
-use Rattle.description.specs.Tables.{table_kinds, table_kind, table_count, kind_pid, table_pid, table_limit, section_count}
-use Rattle.description.specs.declared.table_kind.TableKind.TheVariants.{Pmt}
+use Rattle.description_parts.specs.Described.{Described, DescribedProgram}
+use Rattle.description_parts.specs.Ranges.{IsInRange}
+use Rattle.description_parts.specs.Tables.{table_kinds, table_kind, table_count, kind_pid, table_pid, table_limit, section_count}
+use Rattle.description_parts.specs.declared.table_kind.TableKind.TheVariants.{Pmt}
 use Rattle.description.proofs.SectionCounts.{sections_law}
-use Rattle.description.proofs.TableNumbers.{table_kind-pmt}
+use Rattle.description_parts.proofs.TableNumbers.{table_kind-pmt}
 use Rattle.slot_plan.specs.TableRounds.{section_starts}
 use Rattle.plan_timing.specs.Promised.{Promised}
 use Rattle.monitor.specs.Gaps.{late}
@@ -41,7 +42,8 @@ map_table d i p is =
     record { kind = kind; same = of_kind ∙ pid }
 
 -- on its PID, from any packet on
-map_in_time : (d : Scheduled) (units : ℕ → List AccessUnit) (n t i since : ℕ) → IsInRange d.description → Promised d.description d.schedule → UnitsKept d units →
+map_in_time : (d : Scheduled) (units : ℕ → List AccessUnit) (n t i since : ℕ) → IsInRange d.description → Promised d.description d.schedule →
+    UnitsKept d units →
     n < 2 ^ 64 - 1 → table_kind d.description t ≡ Some (Pmt i) →
     map_late_since d.description.rate (length (run_bytes (content_at d units) 0 n) / 188)
     (table_begins 0x02 (found_on (table_pid d.description t) (run_bytes (content_at d units) 0 n))) (Some since) ≡ []
@@ -85,7 +87,8 @@ map_in_time d units n t i since r promised kept few is =
     all s lt y = begins_there (table_of d t) 0 s n content fits (table.begins 0 s within lt y)
 
 -- on each PID
-pub maps_in_time : (d : Scheduled) (units : ℕ → List AccessUnit) (n : ℕ) → IsInRange d.description → Promised d.description d.schedule → UnitsKept d units → n < 2 ^ 64 - 1 →
+pub maps_in_time : (d : Scheduled) (units : ℕ → List AccessUnit) (n : ℕ) → IsInRange d.description → Promised d.description d.schedule → UnitsKept d units →
+    n < 2 ^ 64 - 1 →
     (pid : ℕ) → map_late d.description.rate (run_bytes (content_at d units) 0 n) pid ≡ []
 unfolding map_late_since
 maps_in_time d units n r promised kept few pid = by (named_since pid bytes) refl

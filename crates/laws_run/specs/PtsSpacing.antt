@@ -4,9 +4,9 @@ use Rattle.std.specs.Prelude.{◌≡◌, ℕ, ◌+◌, ◌-◌, ◌^◌, ◌<◌
 use Rattle.pes_packet.specs.AccessUnits.{AccessUnit}
 use Rattle.pes_packet.specs.Units.{units_of}
 use Rattle.slot_contents.specs.Contents.{run_bytes}
-use Rattle.description.specs.Described.{DescribedStream}
-use Rattle.description.specs.Ranges.{IsInRange}
-use Rattle.description.specs.Tables.{table_count}
+use Rattle.description_parts.specs.Described.{DescribedStream}
+use Rattle.description_parts.specs.Ranges.{IsInRange}
+use Rattle.description_parts.specs.Tables.{table_count}
 use Rattle.plan_timing.specs.Promised.{Promised}
 use Rattle.monitor.specs.Faults.{faults_of}
 use Rattle.mux_core.specs.Scheduled.{Scheduled}
@@ -43,8 +43,10 @@ PtsSpacingLaw = (d : Scheduled) (units : ℕ → List AccessUnit) (n limit : ℕ
 
 -- so of what a multiplexer stands for
 abbrev pub StandingPtsSpacingLaw : Type 0
-StandingPtsSpacingLaw = (h : History) (m : MuxState) (n limit : ℕ) → IsInRange m.schedule.description → Promised m.schedule.description m.schedule.schedule → Stands h m →
-    HasPtsSpacing m.schedule h.units → IsWide m.schedule.description limit → n ≤ 2 ^ 40 → faults_of m.schedule.description.rate limit (run_bytes (content_at m.schedule h.units) 0 n) ≡ []
+StandingPtsSpacingLaw = (h : History) (m : MuxState) (n limit : ℕ) → IsInRange m.schedule.description → Promised m.schedule.description m.schedule.schedule →
+    Stands h m →
+    HasPtsSpacing m.schedule h.units → IsWide m.schedule.description limit → n ≤ 2 ^ 40 →
+    faults_of m.schedule.description.rate limit (run_bytes (content_at m.schedule h.units) 0 n) ≡ []
 
 -- and of a whole job
 abbrev pub JobPtsSpacingLaw : Type 0

@@ -3,8 +3,8 @@ use Rattle.std.specs.Prelude.{◌≡◌, ◌≤◌, ℕ, ◌*◌, List, take, sl
 use Rattle.pes_packet.specs.AccessUnits.{AccessUnit}
 use Rattle.ts_packet.specs.PidList.{Entry, pid_list}
 use Rattle.slot_contents.specs.Contents.{run_bytes}
-use Rattle.description.specs.Described.{DescribedStream}
-use Rattle.description.specs.Ranges.{IsInRange}
+use Rattle.description_parts.specs.Described.{DescribedStream}
+use Rattle.description_parts.specs.Ranges.{IsInRange}
 use Rattle.plan_timing.specs.Promised.{Promised}
 use Rattle.mux_core.specs.Scheduled.{Scheduled}
 use Rattle.mux_core.specs.Histories.{content_at}
@@ -20,4 +20,5 @@ DueLate units = All (λ u. 180000 ≤ u.dts) units
 abbrev pub TablesFirstLaw : Type 0
 TablesFirstLaw = (d : Scheduled) (units : ℕ → List AccessUnit) (n k j : ℕ) (s : DescribedStream) (e : Entry) →
     IsInRange d.description → Promised d.description d.schedule → UnitsKept d units → slice_get d.description.streams k ≡ Some s → DueLate (units k) →
-    slice_get (pid_list s.pid (run_bytes (content_at d units) 0 n)) j ≡ Some e → IsFollowed d.description (take (188 * e.index) (run_bytes (content_at d units) 0 n))
+    slice_get (pid_list s.pid (run_bytes (content_at d units) 0 n)) j ≡ Some e →
+    IsFollowed d.description (take (188 * e.index) (run_bytes (content_at d units) 0 n))

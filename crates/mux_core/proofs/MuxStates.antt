@@ -4,8 +4,8 @@ use Rattle.std.proofs.Common.{◌≡◌, refl, sym, ◌∙◌, ap, subst}
 use Rattle.std.proofs.lemmas.List.{length-map}
 use Rattle.pes_packet.specs.AccessUnits.{AccessUnit}
 use Rattle.slot_contents.specs.Contents.{packet_of}
-use Rattle.description.specs.Ranges.{IsInRange}
-use Rattle.description.specs.Described.{DescribedStream}
+use Rattle.description_parts.specs.Ranges.{IsInRange}
+use Rattle.description_parts.specs.Described.{DescribedStream}
 use Rattle.description.proofs.SectionCounts.{sections_law}
 use Rattle.slot_plan.specs.declared.slot.Slot.{Slot}
 use Rattle.slot_plan.specs.declared.slot.Slot.TheVariants.{Stream, Pcr, Table, Null}
@@ -51,7 +51,8 @@ capacity_stays m Null = refl
 
 -- a slot is filled: the packet is the history's
 pub gives : (h : History) (old : MuxState) (packet : List ℕ) (new : MuxState) → IsInRange old.schedule.description → Stands h old → old.slots < 2 ^ 40 →
-    packet ≡ packet_of (sends old (slot_of old.schedule.schedule old.slots)) → new ≡ after old (slot_of old.schedule.schedule old.slots) → Gives h old (Ok packet) new
+    packet ≡ packet_of (sends old (slot_of old.schedule.schedule old.slots)) → new ≡ after old (slot_of old.schedule.schedule old.slots) →
+    Gives h old (Ok packet) new
 unfolding content_at
 gives h old packet new ranges st below is state =
     let slot = slot_of old.schedule.schedule old.slots in

@@ -2,9 +2,9 @@
 use Rattle.std.specs.Prelude.{◌≡◌, ◌≤◌, ◌<◌, ◌^◌, ℕ, List, Option, Some, None, slice_get, length, option_map, Result, Ok, Err, ⊤}
 use Rattle.pes_packet.specs.AccessUnits.{AccessUnit}
 use Rattle.slot_contents.specs.Contents.{packet_of}
-use Rattle.description.specs.Described.{DescribedStream}
-use Rattle.description.specs.Tables.{table_kinds}
-use Rattle.description.specs.declared.table_kind.TableKind.{TableKind}
+use Rattle.description_parts.specs.Described.{DescribedStream}
+use Rattle.description_parts.specs.Tables.{table_kinds}
+use Rattle.description_parts.specs.declared.table_kind.TableKind.{TableKind}
 use Rattle.unit_queue.specs.declared.refusal.FeedError.{FeedError}
 use Rattle.unit_queue.specs.declared.refusal.FeedError.TheVariants.{UnknownStream}
 use Rattle.unit_queue.specs.Places.{left_before}
@@ -46,7 +46,8 @@ pub record Stands (h : History) (m : MuxState) : Type 0 where
 -- the next 188 bytes of the history, and the history with a slot more; nothing after 2^40 slots
 abbrev pub Gives : History → MuxState → Result (List ℕ) Done → MuxState → Type 0
 Gives h old (Ok packet) new =
-    (h.slots < 2 ^ 40) × (packet ≡ packet_of (content_at old.schedule h.units h.slots)) × (new.schedule ≡ old.schedule) × Stands (next_slot h) new × (new.capacity ≡ old.capacity)
+    (h.slots < 2 ^ 40) × (packet ≡ packet_of (content_at old.schedule h.units h.slots)) × (new.schedule ≡ old.schedule) × Stands (next_slot h) new ×
+    (new.capacity ≡ old.capacity)
 Gives h old (Err e) new = (2 ^ 40 ≤ h.slots) × (new ≡ old)
 
 -- why a unit of a stream is refused: the stream is unknown, or one of the causes of its units

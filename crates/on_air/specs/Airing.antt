@@ -1,9 +1,10 @@
 -- The rule of a run without end: which records are taken, and which slots are written after each of them and at the end.
-use Rattle.std.specs.Prelude.{ℕ, zero, suc, ◌+◌, ◌-◌, ◌^◌, ◌==◌, ◌&&◌, min, max, Bool, cond, if◌then◌else◌, List, [], ◌∷◌, ◌++◌, length, slice_get, fold, Option, Some, None, option_map, Result, Ok, Err}
+use Rattle.std.specs.Prelude.{ℕ, zero, suc, ◌+◌, ◌-◌, ◌^◌, ◌==◌, ◌&&◌, min, max, Bool, cond, if◌then◌else◌, List, [], ◌∷◌, ◌++◌, length, slice_get, fold}
+use Rattle.std.specs.Prelude.{Option, Some, None, option_map, Result, Ok, Err}
 use Rattle.std.specs.Int.{div_ceil}
 use Rattle.clock27.specs.Release.{release}
 use Rattle.pes_packet.specs.AccessUnits.{AccessUnit}
-use Rattle.description.specs.Described.{DescribedStream}
+use Rattle.description_parts.specs.Described.{DescribedStream}
 use Rattle.unit_queue.specs.Codes.{feed_code}
 use Rattle.unit_queue.specs.declared.refusal.FeedError.{FeedError}
 use Rattle.unit_records.specs.Records.{record_at}

@@ -1,12 +1,12 @@
 -- How many parts a description has.
 use Rattle.std.proofs.Common.{◌≤◌, Bool, true, false, ◌++◌, length, arith}
 use Rattle.std.proofs.lemmas.List.{length-append}
-use Rattle.description.specs.Described.{Described}
-use Rattle.description.specs.Ranges.{IsInRange}
-use Rattle.description.specs.Tables.{only_if, has_event, service_tables, table_count}
-use Rattle.description.specs.declared.table_kind.TableKind.{TableKind}
-use Rattle.description.specs.declared.table_kind.TableKind.TheVariants.{Nit, Sdt, Eit, Tdt}
-use Rattle.description.proofs.TableNumbers.{table_count-is}
+use Rattle.description_parts.specs.Described.{Described}
+use Rattle.description_parts.specs.Ranges.{IsInRange}
+use Rattle.description_parts.specs.Tables.{only_if, has_event, service_tables, table_count}
+use Rattle.description_parts.specs.declared.table_kind.TableKind.{TableKind}
+use Rattle.description_parts.specs.declared.table_kind.TableKind.TheVariants.{Nit, Sdt, Eit, Tdt}
+use Rattle.description_parts.proofs.TableNumbers.{table_count-is}
 use Rattle.std.specs.Prelude.{is_some}
 use Rattle.std.specs.List.{list_any}
 
@@ -16,7 +16,8 @@ at_most_one false x = omega arith
 
 few_service_tables : (d : Described) → length (service_tables d) ≤ 4
 few_service_tables d =
-    let n = only_if (is_some d.network) Nit in let s = only_if d.has_sdt Sdt in let e = only_if (list_any has_event d.programs) Eit in let t = only_if d.has_tdt Tdt in
+    let n = only_if (is_some d.network) Nit in let s = only_if d.has_sdt Sdt in let e = only_if (list_any has_event d.programs) Eit in let t =
+    only_if d.has_tdt Tdt in
     omega (
       arith,
       length-append n (s ++ e ++ t),

@@ -9,8 +9,8 @@ use Rattle.own_slots.specs.Period.{per_period}
 use Rattle.own_slots.proofs.PositionLemmas.{per_period_le}
 use Rattle.unit_timing.specs.Allowances.{allowance_rows}
 use Rattle.unit_timing.specs.Conditions.{packets_in_row, lead_needed, time_given}
-use Rattle.description.specs.Described.{Described, DescribedStream}
-use Rattle.description.specs.Ranges.{IsInRange, IsStream}
+use Rattle.description_parts.specs.Described.{Described, DescribedStream}
+use Rattle.description_parts.specs.Ranges.{IsInRange, IsStream}
 use Rattle.description.proofs.Allowed.{rows_some}
 use Rattle.slot_plan.specs.declared.slot.Item.TheVariants.{Stream}
 use Rattle.slot_plan.specs.declared.condition.Condition.TheVariants.{StreamLead}
@@ -32,7 +32,8 @@ claim_bound : (spread packets period count rx peak lead interval rate : ℕ) →
 claim_bound spread packets period count rx peak lead interval rate some few short slow holds =
     let times : spread * slot_units_at_1bps * rx ≤ count * lead * rate * rx = omega (arith, holds) in
     let once : spread * slot_units_at_1bps ≤ count * lead * rate = cancelled (spread * slot_units_at_1bps) (count * lead * rate) rx some times in
-    let most : count * lead * rate ≤ 65536 * 90000 * 100000000 = mul-le (count * lead) rate (65536 * 90000) 100000000 (mul-le count lead 65536 90000 few short) slow in
+    let most : count * lead * rate ≤ 65536 * 90000 * 100000000 =
+    mul-le (count * lead) rate (65536 * 90000) 100000000 (mul-le count lead 65536 90000 few short) slow in
     omega (arith, once, most)
 
 -- the spread that a plan claims of a stream whose deadlines hold

@@ -3,8 +3,8 @@
 
 ghost use Rattle.std.specs.Prelude.{◌≡◌, ◌^◌, ◌<◌, ◌≤◌, ◌∷◌, [], length};
 ghost use Rattle.own_slots.specs.Period.{per_period};
-ghost use Rattle.description.specs.Ranges.{IsStream};
-ghost use Rattle.description.specs.Tables.{greatest_unit_packets};
+ghost use Rattle.description_parts.specs.Ranges.{IsStream};
+ghost use Rattle.description_parts.specs.Tables.{greatest_unit_packets};
 ghost use Rattle.unit_timing.specs.Allowances.{allowance_rows};
 ghost use Rattle.unit_timing.specs.Conditions.{packets_in_row};
 ghost use Rattle.slot_plan.specs.Claims.{declaration, peaked_share};
@@ -57,8 +57,8 @@ pub fn group_part(stream: &StreamDescription, units: u8) -> u8
     }
 }
 
-/// The way of a stream's packets to the buffer where they wait for their decoding time: the rate in bits a second of the
-/// buffer before it, and the most work of this earlier buffer after an own slot.
+/// The way of a stream's packets to the buffer where they wait for their decoding time: the rate in bits a second of
+/// the buffer before it, and the most work of this earlier buffer after an own slot.
 #[derive(Clone, Copy)]
 pub struct Way {
     pub drain: u64,

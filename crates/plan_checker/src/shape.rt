@@ -2,7 +2,7 @@
 //! certificate.
 
 ghost use Rattle.std.specs.Prelude.{◌≡◌, ◌+◌, ◌<◌, ◌∷◌, [], is_none, length};
-ghost use Rattle.description.specs.Tables.{table_kinds};
+ghost use Rattle.description_parts.specs.Tables.{table_kinds};
 ghost use Rattle.slot_plan.specs.declared.slot.Item.TheVariants.{Stream as StreamItem, Pcr as PcrItem};
 ghost use Rattle.slot_plan.specs.declared.slot.Item.TheVariants.{Table as TableItem};
 ghost use Rattle.slot_plan.specs.Entries.{first_failing};
@@ -39,7 +39,7 @@ pub fn shape<A: Allocator>(description: &Description, plan: &Plan<A>, search: &m
 pub fn is_shaped<A: Allocator>(description: &Description, plan: &Plan<A>) -> bool
     ensures { result ≡ is_none (first_failing (shape_entries description.now plan.now)) }
 {
-    let mut search = FailureSearch::new(0);
+    let mut search = FailureSearch::new(0, 1);
     shape(description, plan, &mut search);
     !search.is_done()
 }

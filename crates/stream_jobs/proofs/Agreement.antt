@@ -1,12 +1,12 @@
 -- Streams that agree one after another.
 use Rattle.std.proofs.Common.{◌≡◌, ℕ, zero, suc, true, rules, Some, List, [], ◌∷◌, slice_get, sym}
-use Rattle.description.specs.Described.{Described, DescribedProgram, DescribedStream}
+use Rattle.description_parts.specs.Described.{Described, DescribedProgram, DescribedStream}
 use Rattle.std.specs.Str.{bytes_eq}
 use Rattle.std.proofs.lemmas.Bool.{and_parts, eqb-true}
 use Rattle.std.proofs.lemmas.Slice.Eq.{bytes_eq-Decides}
 use Rattle.stream_jobs.specs.Jobs.{AgreeInTurn, Agrees, AreInTurn, IsEntry, IsProgram, is_entry, is_program}
-use Rattle.stream_jobs.specs.JobPrograms.{JobProgramView}
-use Rattle.stream_jobs.specs.JobStreams.{TimedStreamView}
+use Rattle.job_programs.specs.JobPrograms.{JobProgramView}
+use Rattle.job_programs.specs.JobStreams.{TimedStreamView}
 
 pub some_same : {X : Type 0} (x y : X) → Some x ≡ Some y → x ≡ y
 some_same x y e = cc

@@ -1,10 +1,10 @@
 -- Private tables that are the declared ones, one after another.
 use Rattle.std.proofs.Common.{◌≡◌, ℕ, zero, suc, true, Option, Some, None, List, [], ◌∷◌, slice_get, sym, refl, ap₂}
-use Rattle.description.specs.Described.{DescribedEntry, DescribedTable}
+use Rattle.description_parts.specs.Described.{DescribedEntry, DescribedTable}
 use Rattle.std.specs.Str.{bytes_eq}
 use Rattle.std.proofs.lemmas.Bool.{and_parts, eqb-true}
 use Rattle.stream_jobs.specs.Jobs.{IsTable, TablesInTurn, are_sections, entry_of, has_entry, is_table}
-use Rattle.stream_jobs.specs.JobTables.{JobTableView}
+use Rattle.job_programs.specs.JobTables.{JobTableView}
 use Rattle.stream_jobs.proofs.Agreement.{same_bytes, some_same}
 
 same_sections : (xs ys : List (List ℕ)) → are_sections xs ys ≡ true → xs ≡ ys
@@ -22,7 +22,11 @@ same_entry None t e = absurd cc
 same_entry (Some x) t e =
     let all = and_parts _ _ e in
     let after_program = and_parts _ _ all.1 in
-    rw (sym (eqb-true x.program t.program all.0), sym (eqb-true x.stream_type t.stream_type after_program.0), sym (same_bytes x.descriptors t.descriptors after_program.1)) refl
+    rw (
+      sym (eqb-true x.program t.program all.0),
+      sym (eqb-true x.stream_type t.stream_type after_program.0),
+      sym (same_bytes x.descriptors t.descriptors after_program.1),
+    ) refl
 
 -- a table that passes the test is the declared one
 pub table_is : (s : DescribedTable) (t : JobTableView) → is_table s t ≡ true → IsTable s t

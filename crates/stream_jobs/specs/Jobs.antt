@@ -1,45 +1,27 @@
 -- What a job is of what a demultiplexer finds.
-use Rattle.std.specs.Prelude.{◌≡◌, ◌≤◌, ◌<◌, ⊤, ℕ, nat_le, ◌==◌, ◌&&◌, Bool, true, false, if◌then◌else◌, List, [], ◌∷◌, length, map, slice_get, Option, Some, None, All}
+use Rattle.std.specs.Prelude.{◌≡◌, ◌≤◌, ◌<◌, ⊤, ℕ, nat_le, ◌==◌, ◌&&◌, Bool, true, false, if◌then◌else◌, List, [], ◌∷◌, length, map, slice_get, Option, Some}
+use Rattle.std.specs.Prelude.{None, All}
 use Rattle.std.specs.Option.{option_or}
 use Rattle.std.specs.Str.{bytes_eq}
 use Rattle.pes_packet.specs.AccessUnits.{AccessUnit}
 use Rattle.pes_packet.specs.Units.{units_of}
 use Rattle.demux.specs.Views.{FindingView}
-use Rattle.description.specs.Described.{Described, DescribedEntry, DescribedProgram, DescribedStream, DescribedTable}
+use Rattle.description_parts.specs.Described.{Described, DescribedEntry, DescribedProgram, DescribedStream, DescribedTable}
 use Rattle.unit_timing.specs.declared.allowance.Allowance.{Allowance}
 use Rattle.unit_timing.specs.declared.allowance.Allowance.TheVariants.{Groups, Pace}
 use Rattle.es_units.specs.Declaration.{min_interval, max_unit_size, max_pts_after, group_packets, burst_packets}
 use Rattle.es_units.specs.Merging.{AreMerged}
-use Rattle.stream_jobs.specs.JobPrograms.{JobProgramView}
-use Rattle.stream_jobs.specs.JobInput.{JobInputView}
-use Rattle.stream_jobs.specs.FoundUnits.{AreFound, Declares, source_of}
+use Rattle.job_programs.specs.JobPrograms.{JobProgramView}
+use Rattle.job_inputs.specs.JobInput.{JobInputView}
+use Rattle.job_programs.specs.FoundUnits.{AreFound, Declares}
 use Rattle.stream_jobs.specs.Rates.{IsAskedOrFirst, IsRate, IsServed}
 pub use Rattle.stream_jobs.specs.Rates.{IsText}
-use Rattle.stream_jobs.specs.JobTables.{JobTableView}
+use Rattle.job_programs.specs.JobTables.{JobTableView}
 use Rattle.stream_jobs.specs.Texts.{description_text}
-use Rattle.stream_jobs.specs.JobOptions.{JobOptionsView}
-use Rattle.stream_jobs.specs.JobStreams.{TimedStreamView, WireStreamView}
+use Rattle.job_programs.specs.JobOptions.{JobOptionsView}
+use Rattle.job_programs.specs.JobStreams.{TimedStreamView}
 
--- 1. Streams
-
--- its units are those that are found of its PID
-abbrev pub IsCarried : Bool → List FindingView → WireStreamView → Type 0
-IsCarried made findings s = s.units ≡ source_of made s.pid findings
-
--- at moments by one constant
-abbrev pub IsMoved : Bool → List FindingView → TimedStreamView → Type 0
-IsMoved made findings t = AreFound made findings t.pid t.units
-
--- a queue of a multiplexer may hold them
-abbrev pub FitsQueue : TimedStreamView → Type 0
-FitsQueue t = length t.units ≤ 1_048_576
-
-pub record AreStreams (made : Bool) (findings : List FindingView) (input : JobInputView) : Type 0 where
-  pub moved : All (IsMoved made findings) input.streams
-  pub fits : All FitsQueue input.streams
-  pub stream_count : length input.streams ≤ 32
-
--- 2. What a description declares of them
+-- 1. What a description declares of streams
 
 -- a stream of a description is this one, as its PES packets and its entry in the program map say, and as the programs that share it
 pub record IsEntry (s : DescribedStream) (t : TimedStreamView) : Type 0 where
@@ -167,10 +149,11 @@ are_counted d input =
 unfoldable pub disagreeing : Described → JobInputView → Option ℕ
 disagreeing d input =
     if are_counted d input
-    then option_or (first_other_program d.programs input.programs) (option_or (first_other_table d.tables input.tables) (first_disagreeing d d.streams input.streams))
+    then option_or (first_other_program d.programs input.programs)
+    (option_or (first_other_table d.tables input.tables) (first_disagreeing d d.streams input.streams))
     else Some 0
 
--- 3. Units
+-- 2. Units
 
 -- the units of a job, each with the number of its stream: those of a stream are what is found of its PID, in order, and keep
 -- what the description declares
@@ -183,7 +166,7 @@ pub record AreUnits (made : Bool) (findings : List FindingView) (d : Described) 
   pub streams : (k : ℕ) (s : DescribedStream) → slice_get d.streams k ≡ Some s → IsStream made findings d s (units_of k units)
   pub numbered : All (λ e. e.0 < length d.streams) units
 
--- 4. A job
+-- 3. A job
 
 -- the description of these streams: at the rate that is asked for, else at one of those that are tried, which a plan serves
 pub record IsDescription (options : JobOptionsView) (input : JobInputView) (text : List ℕ) : Type 0 where
@@ -198,7 +181,7 @@ pub record IsJob (options : JobOptionsView) (input : JobInputView) (d : Describe
   pub read : IsText d text
   pub merged : AreMerged (map (λ s. s.units) input.streams) units
 
--- 5. The description for which reasons are looked for
+-- 4. The description for which reasons are looked for
 
 -- at the rate that is asked for, else at the least at which all have slots
 pub record IsUnplanned (options : JobOptionsView) (input : JobInputView) (description : Described) : Type 0 where

@@ -1,18 +1,19 @@
 -- The rates at which a plan is looked for.
-use Rattle.std.specs.Prelude.{◌≡◌, ◌⊎◌, ℕ, zero, suc, ◌+◌, ◌/◌, ◌-◌, ◌^◌, min, nat_le, nat_lt, false, if◌then◌else◌, List, [], ◌∷◌, ◌++◌, map, Option, Some, None, Ok, All}
+use Rattle.std.specs.Prelude.{◌≡◌, ◌⊎◌, ℕ, zero, suc, ◌+◌, ◌/◌, ◌-◌, ◌^◌, min, nat_le, nat_lt, false, if◌then◌else◌, List, [], ◌∷◌, ◌++◌, map, Option, Some}
+use Rattle.std.specs.Prelude.{None, Ok, All}
 use Rattle.std.specs.List.{range_with_len}
-use Rattle.description.specs.Described.{Described, DescribedProgram}
+use Rattle.description_parts.specs.Described.{Described, DescribedProgram}
 use Rattle.description.specs.Reading.{description_of}
-use Rattle.description.specs.Tables.{round_packets, table_count, table_limit}
+use Rattle.description_parts.specs.Tables.{round_packets, table_count, table_limit}
 use Rattle.plan_maker.specs.PlainPlan.{plain_plan, serves}
 use Rattle.slot_plan.specs.Conditions.{IsServing}
 use Rattle.slot_plan.specs.Planned.{Planned}
 use Rattle.stream_choice.specs.Rates.{IsLeastRate, IsTooMuch}
 use Rattle.stream_choice.specs.declared.recurring.Recurring.{Recurring}
 use Rattle.toml.specs.Parse.{parse_document}
-use Rattle.stream_jobs.specs.JobInput.{JobInputView}
+use Rattle.job_inputs.specs.JobInput.{JobInputView}
 use Rattle.stream_jobs.specs.Texts.{description_text}
-use Rattle.stream_jobs.specs.JobOptions.{JobOptionsView}
+use Rattle.job_programs.specs.JobOptions.{JobOptionsView}
 
 -- the text of a description is read as it
 abbrev pub IsText : Described → List ℕ → Type 0

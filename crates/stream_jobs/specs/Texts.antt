@@ -1,18 +1,17 @@
 -- The description of a job as text.
-use Rattle.std.specs.Prelude.{ℕ, ◌-◌, ◌^◌, min, nat_le, if◌then◌else◌, Option, Some, None, List, ◌++◌, flat_map, zip}
-use Rattle.pes_packet.specs.AccessUnits.{AccessUnit}
-use Rattle.es_units.specs.Declaration.{max_pts_after}
-use Rattle.job_text.specs.DescriptionParts.{EventPartView, HeadingView, ProgramPartView, StreamPartView}
-use Rattle.job_text.specs.Texts.{event_text, heading_text, network_if_any, program_text, stream_text}
+use Rattle.std.specs.Prelude.{ℕ, ◌-◌, ◌^◌, min, List, ◌++◌, flat_map, zip}
+use Rattle.job_text.specs.DescriptionParts.{HeadingView, ProgramPartView, StreamPartView}
+use Rattle.job_text.specs.Texts.{heading_text, network_if_any, program_text, stream_text}
 use Rattle.stream_programs.specs.Services.{FoundServiceView}
-use Rattle.stream_jobs.specs.declared.declarations.StreamChoice.{StreamChoice}
-use Rattle.stream_jobs.specs.Declarations.{UnitCountsView, kept_framing}
-use Rattle.stream_jobs.specs.JobPrograms.{JobProgramView}
-use Rattle.stream_jobs.specs.JobInput.{JobInputView}
-use Rattle.stream_jobs.specs.JobOptions.{JobOptionsView}
-use Rattle.stream_jobs.specs.JobTables.{tables_text}
-use Rattle.stream_jobs.specs.JobStreams.{TimedStreamView}
-use Rattle.stream_jobs.specs.Moments.{pts_limit_of}
+use Rattle.job_units.specs.declared.declarations.StreamChoice.{StreamChoice}
+use Rattle.job_units.specs.Declarations.{UnitCountsView, kept_framing}
+use Rattle.job_programs.specs.JobPrograms.{JobProgramView}
+use Rattle.job_inputs.specs.JobInput.{JobInputView}
+use Rattle.job_programs.specs.JobOptions.{JobOptionsView}
+use Rattle.job_programs.specs.JobTables.{tables_text}
+use Rattle.job_programs.specs.JobStreams.{TimedStreamView}
+use Rattle.job_units.specs.Moments.{declared_limit}
+use Rattle.job_programs.specs.Events.{events_text}
 
 -- 1. The head: at a rate in bits a second, a number of 32 bits
 
@@ -47,10 +46,6 @@ program_part pcr_limit p = program_with pcr_limit p.0 p.1
 
 -- 3. Streams
 
--- the limit that a description has to say of units: where one is presented over a second after its DTS
-unfoldable pub declared_limit : ℕ → List ℕ → List AccessUnit → Option ℕ
-declared_limit stream_type descriptors us = if nat_le (max_pts_after us) 90_000 then None else Some (pts_limit_of stream_type descriptors)
-
 unfoldable pub stream_part : TimedStreamView × (UnitCountsView × StreamChoice) → StreamPartView
 stream_part s = record {
   program = s.0.program;
@@ -70,7 +65,7 @@ stream_part s = record {
   framing = kept_framing s.1.0 s.1.1.choice;
 }
 
--- 4. The whole: the lines of private tables (`specs/JobTables`) come last
+-- 4. The whole: the lines of private tables (`JobTables` of `job_programs`) come last
 
 abbrev pub program_lines : ℕ → JobProgramView × FoundServiceView → List ℕ
 program_lines pcr_limit p = program_text (program_part pcr_limit p)
@@ -83,9 +78,6 @@ stream_lines s = stream_text (stream_part s)
 
 abbrev pub streams_text : List TimedStreamView → List UnitCountsView → List StreamChoice → List ℕ
 streams_text streams unit_counts choices = flat_map stream_lines (zip streams (zip unit_counts choices))
-
-abbrev pub events_text : List EventPartView → List ℕ
-events_text events = flat_map event_text events
 
 unfoldable pub description_text : JobOptionsView → JobInputView → ℕ → List ℕ
 description_text options input rate =

@@ -1,20 +1,20 @@
 -- Why there is no job of this input: each definition says whether an error is a cause.
 use Rattle.std.specs.Prelude.{◌≡◌, ◌⊎◌, ⊤, ℕ, List, Option, Some, None, Err}
-use Rattle.description.specs.Described.{Described}
+use Rattle.description_parts.specs.Described.{Described}
 use Rattle.description.specs.Reading.{description_of}
-use Rattle.description.specs.declared.fault.DescFault.{DescFault}
-use Rattle.description.specs.declared.fault.DescError.TheVariants as read
+use Rattle.description_keys.specs.declared.fault.DescFault.{DescFault}
+use Rattle.description_keys.specs.declared.fault.DescError.TheVariants as read
 use Rattle.slot_plan.specs.Conditions.{IsServing}
 use Rattle.slot_plan.specs.Planned.{Planned}
 use Rattle.toml.specs.Parse.{parse_document}
-use Rattle.stream_jobs.specs.declared.refusal.JobRefusal.TheVariants.{Declaration, Description, Plan}
-use Rattle.stream_jobs.specs.declared.refusal.JobError.{JobError}
-use Rattle.stream_jobs.specs.declared.refusal.JobError.TheVariants.{Memory, Refused}
+use Rattle.job_programs.specs.declared.refusal.JobRefusal.TheVariants.{Declaration, Description, Plan}
+use Rattle.job_programs.specs.declared.refusal.JobError.{JobError}
+use Rattle.job_programs.specs.declared.refusal.JobError.TheVariants.{Memory, Refused}
 use Rattle.stream_jobs.specs.Jobs.{disagreeing}
-use Rattle.stream_jobs.specs.JobInput.{JobInputView}
+use Rattle.job_inputs.specs.JobInput.{JobInputView}
 use Rattle.stream_jobs.specs.Rates.{HasNoPlan, HasNoFirstRate, IsFirstRate, IsRate, IsText, IsTried, greatest_rate}
 use Rattle.stream_jobs.specs.Texts.{description_text}
-use Rattle.stream_jobs.specs.JobOptions.{JobOptionsView}
+use Rattle.job_programs.specs.JobOptions.{JobOptionsView}
 
 -- a text is refused as a description
 abbrev pub IsFault : DescFault → List ℕ → Type 0

@@ -5,14 +5,14 @@ ghost use Rattle.es_units.specs.Declaration.{AllowsUnits};
 ghost use Rattle.es_units.specs.Laws.{FirstDue};
 ghost use Rattle.stream_jobs.specs.Jobs.{AgreeInTurn, Agrees, AllAgree, AreInTurn, IsEntry, IsProgram};
 ghost use Rattle.stream_jobs.specs.Jobs as spec;
-ghost use Rattle.stream_jobs.specs.FoundUnits.{Declares};
+ghost use Rattle.job_programs.specs.FoundUnits.{Declares};
 
-use crate::input::JobInput;
-use crate::job_programs::JobProgram;
-use crate::job_stream::TimedStream;
 use crate::table_check::first_other_table;
-use description::{Description, ProgramDescription, StreamDescription};
+use description::Description;
+use description_parts::{ProgramDescription, StreamDescription};
 use es_units::{CountedPackets, UnitRuns, max_pts_after, max_unit_size, min_interval};
+use job_inputs::JobInput;
+use job_programs::{JobProgram, TimedStream};
 use pes_packet::Unit;
 use std::alloc::{AllocError, Global};
 use unit_timing::allowance::Allowance;
@@ -180,9 +180,9 @@ fn are_counted(description: &Description, input: &JobInput) -> bool
         && description.private_tables().len() == input.tables.len()
 }
 
-/// Returns the PID of the clock references of the first program that is not the declared one, else that of the first private table
-/// that is not, else that of the first stream that is not, or of whose units the description does not declare what they need; 0
-/// where there are not as many of any, or the clock begins otherwise.
+/// Returns the PID of the clock references of the first program that is not the declared one, else that of the first
+/// private table that is not, else that of the first stream that is not, or of whose units the description does not
+/// declare what they need; 0 where there are not as many of any, or the clock begins otherwise.
 #[tactic(auto, using(crate::proofs::WholeAgreement::in_turn), unfolding(crate::specs::Jobs::disagreeing))]
 pub(crate) fn disagreeing(
     alloc: Global,

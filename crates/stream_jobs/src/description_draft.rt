@@ -2,24 +2,21 @@
 
 ghost use Rattle.std.specs.Prelude.{◌≡◌, ◌++◌, IfOk, IfErr, OnOk, Ok, string_bytes};
 ghost use Rattle.job_text.specs.Texts.{heading_text, program_text, stream_text};
-ghost use Rattle.stream_jobs.specs.Declarations.{kept_framing};
+ghost use Rattle.job_units.specs.Declarations.{kept_framing};
 ghost use Rattle.stream_jobs.specs.Rates.{IsText};
 ghost use Rattle.stream_jobs.specs.Texts as spec;
 ghost use Rattle.stream_jobs.specs.WhyNoJob.{IsWhyNotRead};
 
-use crate::declarations::{StreamChoice, UnitCounts};
-use crate::input::JobInput;
-use crate::job_events::write_events;
-use crate::job_network::write_network;
-use crate::job_options::JobOptions;
-use crate::job_programs::JobProgram;
-use crate::job_stream::TimedStream;
-use crate::named_service::NamedService;
-use crate::pts_limit::declared_limit;
-use crate::refusal::{JobError, JobRefusal};
 use crate::table_lines::write_tables;
-use description::{DescError, Description};
+use description::Description;
+use description_keys::DescError;
+use job_inputs::JobInput;
+use job_programs::job_events::write_events;
+use job_programs::job_network::write_network;
+use job_programs::{JobError, JobOptions, JobProgram, JobRefusal, NamedService, TimedStream};
 use job_text::{Heading, ProgramPart, StreamPart};
+use job_units::pts_limit::declared_limit;
+use job_units::{StreamChoice, UnitCounts};
 use std::alloc::{AllocError, Global};
 use stream_choice::{Choice, keeps_framing};
 use unit_timing::framing::Framing;
@@ -129,7 +126,7 @@ fn write_programs(
 }
 
 // The access units that a stream declares: those that its choice keeps.
-#[tactic(auto, unfolding(crate::specs::Declarations::kept_framing))]
+#[tactic(auto, unfolding(job_units::specs::Declarations::kept_framing))]
 fn kept_framing(unit_counts: &UnitCounts, choice: Choice) -> Option<Framing>
     ensures { result ≡ kept_framing unit_counts.now choice }
 {

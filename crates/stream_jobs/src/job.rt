@@ -5,22 +5,22 @@ ghost use Rattle.std.specs.List.{AllZip};
 ghost use Rattle.demux.specs.Views.{FindingView};
 ghost use Rattle.slot_plan.specs.Conditions.{IsServing};
 ghost use Rattle.es_units.specs.Merging.{AreMerged};
-ghost use Rattle.stream_jobs.specs.Jobs.{AllAgree, AreStreams, AreUnits, FitsQueue, IsDescription, IsJob, IsText, IsUnplanned};
-ghost use Rattle.stream_jobs.specs.JoinedInputs.{AreUnitsIn, IsFoundIn};
-ghost use Rattle.stream_jobs.specs.declared.joined_inputs.Origin.{Origin};
+ghost use Rattle.stream_jobs.specs.Jobs.{AllAgree, AreUnits, IsDescription, IsJob, IsText, IsUnplanned};
+ghost use Rattle.job_inputs.specs.JoinedInputs.{AreUnitsIn, IsFoundIn};
+ghost use Rattle.job_inputs.specs.declared.joined_inputs.Origin.{Origin};
 ghost use Rattle.stream_jobs.specs.Rates.{IsAskedOrFirst, IsPlanned, IsRate, IsServed, IsTried};
 ghost use Rattle.stream_jobs.specs.WhyNoJob.{IsWhyNoDescription, IsWhyNoJob, IsWhyNoPlan, IsWhyNoReasons};
-ghost use Rattle.stream_jobs.specs.declared.refusal.JobError.TheVariants.{Memory};
+ghost use Rattle.job_programs.specs.declared.refusal.JobError.TheVariants.{Memory};
+ghost use Rattle.job_programs.specs.FoundUnits.{FitsQueue};
+ghost use Rattle.job_inputs.specs.JobInput.{AreStreams};
 
 use crate::declaration_check::disagreeing;
 use crate::description_draft::{DescriptionDraft, described};
-use crate::input::JobInput;
-use crate::job_options::JobOptions;
-use crate::job_stream::TimedStream;
 use crate::rates::{PlannedDescription, first_plan, first_rate, plan_draft};
-use crate::refusal::{JobError, JobRefusal};
 use description::Description;
 use es_units::merged;
+use job_inputs::JobInput;
+use job_programs::{JobError, JobOptions, JobRefusal, TimedStream};
 use pes_packet::Unit;
 use plan_checker::CheckedPlan;
 use std::alloc::{AllocError, Global};
@@ -78,7 +78,8 @@ fn agreed_plan(
     }
 }
 
-/// Returns the job of this input. Its units are the streams' units, wherever these were found: in one input, or in several joined inputs.
+/// Returns the job of this input. Its units are the streams' units, wherever these were found: in one input, or in
+/// several joined inputs.
 pub fn make_job(alloc: Global, options: &JobOptions<'_>, input: JobInput) -> Result<Job, JobError>
     requires { length input.streams ≤ 32 }
     ensures job { IfOk result (λ j. IsJob options.now input j.plan.description
@@ -119,7 +120,8 @@ fn served_rate(planned: PlannedDescription) -> u64
     planned.rate
 }
 
-/// Returns the text of the description of a job, at the rate of the options, else at the least at which a plan is found.
+/// Returns the text of the description of a job, at the rate of the options, else at the least at which a plan is
+/// found.
 pub fn describe(
     alloc: Global,
     options: &JobOptions<'_>,
@@ -157,8 +159,8 @@ fn rate_of(alloc: Global, draft: &DescriptionDraft<'_>) -> Result<u64, JobError>
     }
 }
 
-/// Returns the description of a job at the rate of the options, or at the least rate that gives all streams slots, whether or not a plan
-/// serves it.
+/// Returns the description of a job at the rate of the options, or at the least rate that gives all streams slots,
+/// whether or not a plan serves it.
 pub fn unplanned_description(
     alloc: Global,
     options: &JobOptions<'_>,

@@ -4,8 +4,9 @@ ghost use Rattle.std.specs.Prelude.{◌≡◌, IfNone, IsTrue, map, option_map};
 ghost use Rattle.stream_jobs.specs.Jobs.{IsTable, TablesInTurn};
 ghost use Rattle.stream_jobs.specs.Jobs as spec;
 
-use crate::job_tables::JobTable;
-use description::{MapEntry, PrivateSection, PrivateTable};
+use description_parts::{MapEntry, PrivateTable};
+use description_values::PrivateSection;
+use job_inputs::JobTable;
 
 // Whether these are the declared sections.
 #[tactic(auto, unfolding(crate::specs::Jobs::are_sections))]

@@ -2,17 +2,18 @@
 
 ghost use Rattle.std.specs.Prelude.{◌≡◌, ◌++◌, OnOk, find, option_map, string_bytes};
 ghost use Rattle.job_text.specs.Texts.{table_text};
-ghost use Rattle.stream_jobs.specs.JobStreams.{is_stream_of};
-ghost use Rattle.stream_jobs.specs.JobTables as spec;
+ghost use Rattle.job_programs.specs.JobStreams.{is_stream_of};
+ghost use Rattle.job_programs.specs.JobTables as spec;
 
-use crate::job_stream::{TimedStream, is_stream_of};
-use crate::job_tables::JobTable;
+use job_inputs::JobTable;
+use job_programs::TimedStream;
+use job_programs::job_stream::is_stream_of;
 use job_text::TablePart;
 use pes_packet::Unit;
 use std::alloc::{AllocError, Global};
 
 // The time between the DTS of the first of some units and of the last, in units of 90 kHz.
-#[tactic(auto, unfolding(crate::specs::JobTables::dts_at, crate::specs::JobTables::tick_span))]
+#[tactic(auto, unfolding(job_programs::specs::JobTables::dts_at, job_programs::specs::JobTables::tick_span))]
 fn tick_span(units: &[Unit]) -> u64
     ensures { result ≡ spec.tick_span units.now }
 {
@@ -34,7 +35,7 @@ fn first_of(number: u16, streams: &[TimedStream]) -> Option<&TimedStream>
 }
 
 // The time between the DTS of its first unit and of its last.
-#[tactic(auto, unfolding(crate::specs::JobTables::ticks_if))]
+#[tactic(auto, unfolding(job_programs::specs::JobTables::ticks_if))]
 fn ticks_of(number: u16, streams: &[TimedStream]) -> u64
     ensures { result ≡ spec.ticks_if (find (is_stream_of number) streams.now) }
 {
@@ -44,9 +45,9 @@ fn ticks_of(number: u16, streams: &[TimedStream]) -> u64
     }
 }
 
-// The time of a number of packets where others of a stream take so many ticks of 90 kHz, in ms, up; 1 to 30,000, which is what
-// it is where no packets are known.
-#[tactic(auto, unfolding(crate::specs::JobTables::limit_of))]
+// The time of a number of packets where others of a stream take so many ticks of 90 kHz, in ms, up; 1 to 30,000, which
+// is what it is where no packets are known.
+#[tactic(auto, unfolding(job_programs::specs::JobTables::limit_of))]
 fn limit_of(gap: u64, packets: u64, ticks: u64) -> u16
     ensures { result ≡ spec.limit_of gap packets ticks }
 {
@@ -58,7 +59,7 @@ fn limit_of(gap: u64, packets: u64, ticks: u64) -> u16
 }
 
 // The lines of a table.
-#[tactic(auto, unfolding(crate::specs::JobTables::table_part))]
+#[tactic(auto, unfolding(job_programs::specs::JobTables::table_part))]
 fn write_table(
     alloc: Global,
     streams: &[TimedStream],

@@ -3,7 +3,8 @@ use Rattle.std.proofs.Common.{◌≡◌, ◌≤◌, ◌<◌, ℕ, ◌+◌, true,
 use Rattle.std.specs.Option.{option_or}
 use Rattle.psi_tables.specs.declared.pat.programs.Program.{Program}
 use Rattle.demux.specs.Views.{FindingView}
-use Rattle.stream_programs.specs.Association.{pat_found, first_pat, entries_of, entries, with_program, with_programs, AssociationView, is_other, association_change}
+use Rattle.stream_programs.specs.Association.{pat_found, first_pat, entries_of, entries, with_program, with_programs, AssociationView, is_other}
+use Rattle.stream_programs.specs.Association.{association_change}
 use Rattle.stream_programs.proofs.Slices.{more, done}
 
 -- 1. The first table
@@ -19,7 +20,7 @@ first_end view i fs over = rw (done view i fs over) refl
 
 -- 2. Entries
 
-with_both : (named xs ys : List Program) → with_programs named (xs ++ ys) ≡ with_programs (with_programs named xs) ys
+pub with_both : (named xs ys : List Program) → with_programs named (xs ++ ys) ≡ with_programs (with_programs named xs) ys
 unfolding with_programs
 with_both named [] ys = refl
 with_both named (x ∷ xs) ys = with_both (with_program named x) xs ys

@@ -8,12 +8,14 @@ ghost use Rattle.tsjob_cli.specs.StreamedUnits as spec;
 
 use checked_jobs::read_description;
 use counted_io::{Sink, Source};
-use description::{DescError, DescFault, Description, ProgramDescription, StreamDescription};
+use description::Description;
+use description_keys::{DescError, DescFault};
+use description_parts::{ProgramDescription, StreamDescription};
 use devices::{Halt, NamedFiles, read_whole, report_halt, report_line};
 use es_feed::{FedMap, FedStream, NamedStream, UnitFeed, pass_stream};
 use given_marks::{Marking, TypedPid};
+use job_programs::JobOptions;
 use std::alloc::{AllocError, Global};
-use stream_jobs::JobOptions;
 
 /// When the first unit of all is due, in units of 90 kHz.
 const EARLIEST: u64 = 270_000;

@@ -6,7 +6,7 @@
 -- 8 / (rate * 2,000,000) seconds.
 use Rattle.std.specs.Prelude.{◌≡◌, ℕ, ◌+◌, ◌*◌, ◌/◌, List, [], ◌∷◌, length, slice_get, Option, Some, None}
 use Rattle.clock27.specs.Peak.{IsPeak}
-use Rattle.description.specs.Described.{Described, DescribedProgram, DescribedStream}
+use Rattle.description_parts.specs.Described.{Described, DescribedProgram, DescribedStream}
 use Rattle.pes_packet.specs.AccessUnits.{AccessUnit}
 use Rattle.unit_timing.specs.declared.multiplexing_buffer.MultiplexingBuffer.{MultiplexingBuffer}
 use Rattle.unit_timing.specs.Arrived.{first_late}
@@ -36,7 +36,8 @@ pub record IsTwoBuffers (rate base0 : ℕ) (s : DescribedStream) (units : List A
 
 -- the greatest numbers of bytes over all moments in MB and in EB of a stream with a multiplexing buffer, filled by these
 -- packets with these units, by the leak method (ISO/IEC 13818-1, 2.4.2.3) where EB never is full
-pub record IsVideoFullness (rate base0 : ℕ) (s : DescribedStream) (units : List AccessUnit) (packets : List Packet) (b : MultiplexingBuffer) (f : VideoFullness) : Type 0 where
+pub record IsVideoFullness (rate base0 : ℕ) (s : DescribedStream) (units : List AccessUnit) (packets : List Packet) (b : MultiplexingBuffer)
+    (f : VideoFullness) : Type 0 where
   pub multiplexing : IsPeak (λ x. multiplexing_fullness rate s.rx b.rbx x packets) f.multiplexing
   pub elementary : IsPeak (λ x. elementary_fullness rate s.rx b.rbx x (timed_pes_packets s.stream_id base0 units) packets) f.elementary
 

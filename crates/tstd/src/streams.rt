@@ -1,6 +1,6 @@
 //! The buffers of a stream.
 ghost use Rattle.std.specs.Prelude.{◌≡◌, ◌*◌, ◌<◌, ◌≤◌, ◌^◌, length, IfOk, sum_by};
-ghost use Rattle.description.specs.Ranges.{IsStream, IsMultiplexingBuffer};
+ghost use Rattle.description_parts.specs.Ranges.{IsStream, IsMultiplexingBuffer};
 ghost use Rattle.pes_packet.specs.Units.{units_of};
 ghost use Rattle.tstd.specs.Carried.{timed_pes_packets};
 ghost use Rattle.tstd.specs.PidPackets.{packets_from};
@@ -10,13 +10,13 @@ use crate::fullness::{StreamFullness, VideoFullness};
 use crate::main_buffer::MainBuffer;
 use crate::payload_bytes::PayloadBytes;
 use crate::units::measure_units;
-use description::StreamDescription;
+use description_parts::StreamDescription;
 use pes_packet::Unit;
 use std::alloc::{AllocError, Allocator};
 use unit_timing::multiplexing_buffer::MultiplexingBuffer;
 
-// The greatest numbers of bytes in the transport buffer and in the main buffer of a stream, and the number of its first unit that
-// has not left the transport buffer in time.
+// The greatest numbers of bytes in the transport buffer and in the main buffer of a stream, and the number of its first
+// unit that has not left the transport buffer in time.
 fn measure_main<A: Allocator, B: Allocator>(
     alloc: A,
     rate: u64,
@@ -46,8 +46,9 @@ fn measure_main<A: Allocator, B: Allocator>(
     Ok(((transport, buffer.peak), late))
 }
 
-// The greatest numbers of bytes in the multiplexing buffer and in the elementary stream buffer of a stream, and the number of its
-// first unit that is not whole in the second in time. The walk is that of `measure_main`, through one buffer more.
+// The greatest numbers of bytes in the multiplexing buffer and in the elementary stream buffer of a stream, and the
+// number of its first unit that is not whole in the second in time. The walk is that of `measure_main`, through one
+// buffer more.
 fn measure_video<A: Allocator, B: Allocator>(
     alloc: A,
     rate: u64,

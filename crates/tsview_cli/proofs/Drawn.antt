@@ -24,7 +24,7 @@ use Rattle.tsview_cli.proofs.CapturedParts.{events_both}
 pub page_both : (p : PageState) (found more : List TimedEvent) → after_events p (found ++ more) ≡ after_events (after_events p found) more
 unfolding after_events
 page_both p [] more = refl
-page_both p (event ∷ found) more = page_both (after_event p event.event) found more
+page_both p (event ∷ found) more = page_both (after_event p event) found more
 
 pub drawn_none : (stream : CapturedView) (page : Page) (s : AnalysisState) (p : PageState) → IsSoFar s stream [] [] → IsPage page p →
     IsDrawn (record { stream = stream; page = page }) s p []

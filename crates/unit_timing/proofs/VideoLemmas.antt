@@ -1,5 +1,6 @@
 -- A video stream over one plan and over two plans in turn.
-use Rattle.std.proofs.Common.{◌≡◌, ℕ, zero, suc, ◌+◌, ◌*◌, ◌/◌, ◌<◌, ◌≤◌, max, Bool, cond, nat_le, nat_lt, ◌&&◌, List, [], ◌∷◌, ◌++◌, length, take, drop, map, replicate, refl, ap, ◌∙◌, sym, subst, inl, inr, arith}
+use Rattle.std.proofs.Common.{◌≡◌, ℕ, zero, suc, ◌+◌, ◌*◌, ◌/◌, ◌<◌, ◌≤◌, max, Bool, cond, nat_le, nat_lt, ◌&&◌, List, [], ◌∷◌, ◌++◌, length, take, drop, map}
+use Rattle.std.proofs.Common.{replicate, refl, ap, ◌∙◌, sym, subst, inl, inr, arith}
 use Rattle.std.proofs.Math.Nat.{le_trans, mul-le-mul_left, mul-le-mul_right, mul-pos}
 use Rattle.std.proofs.lemmas.Bool.{cases_lt, lt-ltb, le-ltb}
 use Rattle.std.proofs.lemmas.List.{length-map, length-append, length-replicate, length-drop}
@@ -34,6 +35,7 @@ use Rattle.unit_timing.proofs.NotEarly.{none_leaves_early_law, small_packets, un
 use Rattle.unit_timing.proofs.PlanLemmas.{some_slots, main_fits, in_time, deadline_switch_law, main_switch_law}
 use Rattle.unit_timing.proofs.Thinning.{falls_from, payload_rises}
 use Rattle.unit_timing.proofs.ByteByByte.{departures_later, leaves_later}
+use Rattle.unit_timing.proofs.SlowLeaks.{slow_leak_law}
 use Rattle.unit_timing.proofs.MultiplexingLemmas.{multiplexing_law, whole_in_time_law}
 use Rattle.unit_timing.proofs.LeakMethodLemmas.{never_full_law}
 
@@ -164,6 +166,8 @@ video_served rate s m own peak leak_peak W V units proper leak keeps work leak_w
       (rising_run own rate s.lead n units);
   multiplexing = λ n x. multiplexing_law own rate s.drain m.rbx m.mb leak_peak V (run_packets own rate s units n) x proper.some_rate proper.some_drain
       leak.no_faster leak_work (rising_run own rate s.lead n units);
+  some_multiplexing = λ slow packets x fast no_faster rounded small rises. slow_leak_law own rate s.drain m.rbx slow m.mb leak_peak V packets x fast
+      proper.some_drain leak.no_faster no_faster rounded small leak_work rises;
   elementary = λ n x. fits n x (multiplexing_left rate s.drain m.rbx (run_packets own rate s units n)) (leaked_early own rate s.lead s.drain m.rbx n units);
   together = λ n x. fits n x (multiplexing_entered rate s.drain m.rbx (run_packets own rate s units n)) (entered_early own rate s.lead s.drain m.rbx n units);
   never_full = λ n. freely rate (s.drain * m.rbx) (s.drain * rate) s.main s.interval s.lead units
@@ -210,6 +214,7 @@ video_switch_law rate s m claim leak first next next_leak second periods units p
     one.multiplexing two.multiplexing joins.multiplexing)
     (subst (λ (l : ℕ). InTime (in_turn first periods second) rate s.lead m.rbx l 0 units) late
     (deadline_switch_law rate (drained s m.rbx) (through rate claim leak) first (through rate next next_leak) second periods units
-    proper.some_rows proper.some_interval one.owned two.owned one.spread_claimed two.spread_claimed one.rate_serves two.rate_serves joins.lead_serves (keeps_drained s m.rbx units keeps)))
+    proper.some_rows proper.some_interval one.owned two.owned one.spread_claimed two.spread_claimed one.rate_serves two.rate_serves joins.lead_serves
+    (keeps_drained s m.rbx units keeps)))
     (λ n x left. main_switch_law rate (drained s (s.drain * m.rbx)) claim first next second periods units n x left scaled
     one.owned two.owned one.spread_claimed two.spread_claimed joins.elementary_fits (keeps_drained s (s.drain * m.rbx) units keeps))

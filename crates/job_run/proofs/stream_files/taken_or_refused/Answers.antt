@@ -1,10 +1,9 @@
 use Rattle.std.proofs.Common.{rules, ◌≡◌, Ok, map, subst}
 use Rattle.demux.specs.Shown.{finding_view}
 use Rattle.other_tables.specs.OtherTables.{other_tables}
-use Rattle.stream_jobs.specs.Answers.{Answers}
-use Rattle.stream_jobs.specs.JobInput.{job_input}
-use Rattle.stream_jobs.specs.JobOptions.{JobOptionsView}
-use Rattle.stream_jobs.specs.Jobs.{AreStreams}
+use Rattle.job_programs.specs.Answers.{Answers}
+use Rattle.job_inputs.specs.JobInput.{job_input, AreStreams}
+use Rattle.job_programs.specs.JobOptions.{JobOptionsView}
 use Rattle.job_run.proofs.StreamFiles.{is_taken_of}
 use Rattle.job_run.proofs.stream_files.taken_or_refused.Goals as goal
 

@@ -1,5 +1,5 @@
 use Rattle.std.proofs.Common.{◌≡◌, ◌++◌, drop, string_bytes}
-use Rattle.stream_jobs.specs.JobTables.{tables_text}
+use Rattle.job_programs.specs.JobTables.{tables_text}
 use Rattle.stream_jobs.proofs.table_lines.write_tables.Given as goal
 
 abbrev pub invariant-loop-table : goal.invariant-loop-table

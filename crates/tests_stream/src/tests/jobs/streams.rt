@@ -2,10 +2,11 @@
 
 use demux::{Finding, Kind, Part, What};
 use given_values::{ClockBase, DeclareBy};
+use job_inputs::{JobInput, job_input};
+use job_programs::JobOptions;
 use pes_packet::{PesFlags, PesHeader, Stamps};
 use psi_tables::check_word;
 use std::alloc::{AllocError, Global};
-use stream_jobs::{JobInput, JobOptions, job_input};
 
 /// Findings, one after another.
 pub type Found = Vec<Finding<'static>>;
@@ -122,8 +123,8 @@ fn add_two_units(alloc: Global, pid: u16, pts: u64, found: &mut Found) -> Result
     add_unit(alloc, pid, 192, pts.saturating_add(2_160), 100, found)
 }
 
-/// Makes two programs, whose maps name these PIDs for clock references, with MPEG audio on PIDs 256 and 257, and two units of
-/// each.
+/// Makes two programs, whose maps name these PIDs for clock references, with MPEG audio on PIDs 256 and 257, and two
+/// units of each.
 pub fn two_programs(
     alloc: Global,
     references: [u16; 2],

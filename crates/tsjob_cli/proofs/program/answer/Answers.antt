@@ -1,7 +1,7 @@
 use Rattle.std.proofs.Common.{List, ℕ, subst}
 use Rattle.devices.specs.Devices.{Device, between}
 use Rattle.devices.specs.Files.{Files, files_of}
-use Rattle.stream_jobs.specs.JobOptions.{JobOptionsView}
+use Rattle.job_programs.specs.JobOptions.{JobOptionsView}
 use Rattle.tsjob_cli.specs.StreamedUnits.{StreamsUnits}
 use Rattle.tsjob_cli.proofs.StreamedUnits.{named_and_not, not_and_named, same_name}
 use Rattle.tsjob_cli.proofs.program.answer.Goals as goal

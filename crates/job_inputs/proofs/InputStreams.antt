@@ -1,0 +1,15 @@
+-- An input of streams that are found has them.
+use Rattle.std.proofs.Common.{◌≡◌, ◌≤◌, Bool, List, Result, Ok, Err, IfOk, All, length, sym, subst}
+use Rattle.demux.specs.Views.{FindingView}
+use Rattle.job_programs.specs.FoundUnits.{FitsQueue, IsMoved}
+use Rattle.job_programs.specs.declared.refusal.JobError.{JobError}
+use Rattle.job_inputs.specs.JobInput.{JobInputView, AreStreams}
+use Rattle.job_programs.specs.JobStreams.{TimedStreamView}
+
+-- an input of these streams has them
+pub are_streams : (made : Bool) (findings : List FindingView) (streams : List TimedStreamView) (r : Result JobInputView JobError) →
+    All (IsMoved made findings) streams →
+    IfOk r (λ i. i.streams ≡ streams) → IfOk r (λ i. All FitsQueue i.streams) → IfOk r (λ i. length i.streams ≤ 32) → IfOk r (AreStreams made findings)
+are_streams made findings streams (Ok i) all same fits count =
+    record { moved = subst (All (IsMoved made findings)) (sym same) all; fits = fits; stream_count = count }
+are_streams made findings streams (Err error) all same fits count = tt

@@ -1,0 +1,33 @@
+-- The marks that the options of a job ask for.
+use Rattle.std.specs.Prelude.{◌≡◌, Bool, false, if◌then◌else◌, List, [], map, Option, Some, None}
+use Rattle.demux.specs.Views.{FindingView}
+use Rattle.stream_programs.specs.Association.{AssociationView, association}
+use Rattle.stream_programs.specs.Programs.{programs_of}
+use Rattle.stream_programs.specs.Streams.{FoundStreamView}
+use Rattle.given_marks.specs.Marking.{MarkingView, all_marked}
+use Rattle.given_marks.specs.declared.marking.TypedPid.{TypedPid}
+use Rattle.job_inputs.specs.JobInput.{named_of}
+use Rattle.job_programs.specs.JobOptions.{JobOptionsView}
+
+abbrev pub typed_pid : FoundStreamView → TypedPid
+typed_pid s = record { pid = s.pid; stream_type = s.stream_type }
+
+-- the streams of the programs that are taken, with the stream_types of which the job declares them
+unfoldable pub types_by : JobOptionsView → List FindingView → Option AssociationView → List TypedPid
+types_by options findings None = []
+types_by options findings (Some a) = map typed_pid (programs_of (named_of options a) findings).streams
+
+unfoldable pub marking_of : JobOptionsView → List FindingView → MarkingView
+marking_of options findings = record {
+  access = if options.mark_access then types_by options findings (association findings) else [];
+  aligned = options.aligned;
+}
+
+-- what is found, with these marks: a job is made of it
+abbrev pub as_asked : JobOptionsView → List FindingView → List FindingView
+as_asked options findings = all_marked (marking_of options findings) findings
+
+-- where none is asked for, nothing changes
+abbrev pub NoneIsAsked : Type 0
+NoneIsAsked = (options : JobOptionsView) (findings : List FindingView) → options.mark_access ≡ false → options.aligned ≡ [] →
+    as_asked options findings ≡ findings

@@ -1,0 +1,361 @@
+//! The inputs of a job as one: their programs and streams one after another.
+
+ghost use Rattle.std.specs.Prelude.{◌≡◌, ◌≤◌, ◌++◌, ◌∷◌, Bool, IfErr, IfOk, List, Ok, OnOk, length, map, take, ℕ};
+ghost use Rattle.std.specs.List.{AllZip};
+ghost use Rattle.demux.specs.Views.{FindingView};
+ghost use Rattle.job_programs.specs.Answers.{Answers, Refuses};
+ghost use Rattle.job_inputs.specs.JoinedInputs.{AreMadeOf, AreMovedByOne, AreStreamsIn, IsMovedIn};
+ghost use Rattle.job_inputs.specs.JoinedInputs as spec;
+ghost use Rattle.job_programs.specs.declared.program_clock.ProgramClock.{ProgramClock};
+
+use crate::input::JobInput;
+use crate::new_numbers::{NewNumber, others};
+use crate::renumbered_inputs::{
+    Renumbering, found_pids, program_numbers, renumbered, renumbering_of,
+};
+use job_programs::job_programs::clock_in;
+use job_programs::{
+    JobError, JobEvent, JobInformation, JobNetwork, JobProgram, JobRefusal, ProgramClock,
+    TimedStream,
+};
+use job_units::declarations::too_many;
+use std::alloc::{AllocError, Global};
+use std::collections::VecDeque;
+use std::marker::Model;
+
+/// The most events of a description.
+const MOST_EVENTS: usize = 256;
+
+/// Where a stream of a job was found: the number of an input, from 0 on, its PID there, and the clock of its stamps
+/// there.
+#[derive(Clone, Copy)]
+pub struct Origin {
+    pub input: usize,
+    pub pid: u16,
+    pub(crate) clock: ProgramClock,
+}
+
+/// A note about an input after the first.
+#[derive(Clone, Copy, PartialEq, Eq)]
+pub enum NoteCause {
+    /// A program has a new number.
+    Program(NewNumber),
+    /// A map or a stream has a new PID.
+    Pid(NewNumber),
+    /// Its network is not that of the job, which is the first input's.
+    Network,
+    /// Its time is not that of the job.
+    Time,
+    /// This number of events is over what a description may have.
+    Events(usize),
+}
+
+/// The same with the number of the input, from 0 on.
+#[derive(Clone, Copy, PartialEq, Eq)]
+pub struct InputNote {
+    pub input: usize,
+    pub cause: NoteCause,
+}
+
+/// The inputs of a job as one; where each stream was found; and the notes about the inputs after the first.
+#[derive(Drop)]
+pub struct JoinedInputs {
+    pub input: JobInput,
+    pub origins: Vec<Origin>,
+    pub notes: Vec<InputNote>,
+}
+
+// A contract sees its parts as lists.
+impl Model for JoinedInputs {
+    ghost use Rattle.job_inputs.specs.JoinedInputs.{JoinedInputsView};
+
+    ghost Value = { JoinedInputsView };
+
+    ghost view = { λ j. record { input = j.input; origins = j.origins.items; notes = j.notes.items } };
+}
+
+// Two lists, one after the other.
+fn both<T: Drop>(one: Vec<T>, other: Vec<T>) -> Result<Vec<T>, AllocError>
+    ensures { IfOk result (λ all. all.items ≡ one.items ++ other.items) }
+{
+    let mut all = one;
+    let mut more = other;
+    all.append(&mut more)?;
+    Ok(all)
+}
+
+// The events of both, as many as may be.
+fn both_events(one: Vec<JobEvent>, other: Vec<JobEvent>) -> Result<Vec<JobEvent>, AllocError>
+    ensures { IfOk result (λ events. events.items ≡ take spec.most_events (one.items ++ other.items)) }
+{
+    let mut events = both(one, other)?;
+    events.truncate(MOST_EVENTS);
+    Ok(events)
+}
+
+// What is said of the whole.
+#[tactic(auto, unfolding(crate::specs::JoinedInputs::information_joined))]
+fn information_joined(
+    one: JobInformation,
+    other: JobInformation,
+) -> Result<JobInformation, AllocError>
+    ensures { IfOk result (λ i. i ≡ spec.information_joined one other) }
+{
+    let sdt = one.sdt || other.sdt;
+    let services = both(one.services, other.services)?;
+    let events = both_events(one.events, other.events)?;
+    Ok(JobInformation {
+        transport_stream_id: one.transport_stream_id,
+        original_network_id: one.original_network_id,
+        start: one.start,
+        tdt: one.tdt,
+        sdt,
+        network: one.network,
+        events,
+        services,
+    })
+}
+
+// Two inputs as one.
+#[tactic(auto, unfolding(crate::specs::JoinedInputs::joined))]
+fn joined(one: JobInput, other: JobInput) -> Result<JobInput, AllocError>
+    ensures { IfOk result (λ m. m ≡ spec.joined one other) }
+{
+    Ok(JobInput {
+        information: information_joined(one.information, other.information)?,
+        base0: one.base0,
+        programs: both(one.programs, other.programs)?,
+        tables: both(one.tables, other.tables)?,
+        streams: both(one.streams, other.streams)?,
+        unit_counts: both(one.unit_counts, other.unit_counts)?,
+        choices: both(one.choices, other.choices)?,
+        warnings: both(one.warnings, other.warnings)?,
+    })
+}
+
+// Whether two networks are one.
+#[tactic(auto, unfolding(crate::specs::JoinedInputs::is_same_network))]
+fn is_same_network(one: &JobNetwork, other: &JobNetwork) -> bool
+    ensures { result ≡ spec.is_same_network one.now other.now }
+{
+    one.id == other.id
+        && one.name.as_str() == other.name.as_str()
+        && one.descriptors.as_slice() == other.descriptors.as_slice()
+}
+
+// Whether the network of an input is not that of the job.
+#[tactic(auto, unfolding(crate::specs::JoinedInputs::is_other_network))]
+fn is_other_network(one: &Option<JobNetwork>, other: &Option<JobNetwork>) -> bool
+    ensures { result ≡ spec.is_other_network one.now other.now }
+{
+    match (one, other) {
+        (_, None) => false,
+        (None, Some(_)) => true,
+        (Some(one), Some(other)) => !is_same_network(one, other),
+    }
+}
+
+// Appends the notes about new numbers of programs.
+fn push_program_notes(
+    input: usize,
+    changed: &[NewNumber],
+    notes: &mut Vec<InputNote>,
+) -> Result<(), AllocError>
+    ensures { OnOk result (notes.new.items ≡ notes.old.items ++ map (spec.program_note input) changed.now) }
+{
+    for number in changed {
+        let cause = NoteCause::Program(*number);
+        notes.push(InputNote { input, cause })?;
+    }
+    Ok(())
+}
+
+// Appends those about new PIDs.
+fn push_pid_notes(
+    input: usize,
+    changed: &[NewNumber],
+    notes: &mut Vec<InputNote>,
+) -> Result<(), AllocError>
+    ensures { OnOk result (notes.new.items ≡ notes.old.items ++ map (spec.pid_note input) changed.now) }
+{
+    for number in changed {
+        let cause = NoteCause::Pid(*number);
+        notes.push(InputNote { input, cause })?;
+    }
+    Ok(())
+}
+
+// Appends the notes about new numbers and new PIDs of an input.
+#[tactic(auto, unfolding(crate::specs::JoinedInputs::number_notes))]
+fn push_number_notes(
+    alloc: Global,
+    numbers: &Renumbering,
+    input: &JobInput,
+    notes: &mut Vec<InputNote>,
+) -> Result<(), AllocError>
+    ensures { OnOk result (notes.new.items ≡ notes.old.items ++ spec.number_notes numbers.now input.now) }
+{
+    let programs = others(alloc, &numbers.programs, &program_numbers(alloc, input)?)?;
+    let pids = others(alloc, &numbers.pids, &found_pids(alloc, input)?)?;
+    push_program_notes(numbers.input, &programs, notes)?;
+    push_pid_notes(numbers.input, &pids, notes)
+}
+
+// Appends a note, if a thing is so.
+#[tactic(auto, unfolding(crate::specs::JoinedInputs::note_if))]
+fn push_if(
+    is_so: bool,
+    input: usize,
+    cause: NoteCause,
+    notes: &mut Vec<InputNote>,
+) -> Result<(), AllocError>
+    ensures { OnOk result (notes.new.items ≡ notes.old.items ++ spec.note_if is_so input cause) }
+{
+    if is_so {
+        notes.push(InputNote { input, cause })?;
+    }
+    Ok(())
+}
+
+// Appends what is told of an input as it was, beside those before it.
+#[tactic(auto, unfolding(crate::specs::JoinedInputs::input_notes))]
+fn push_input_notes(
+    alloc: Global,
+    numbers: &Renumbering,
+    before: &JobInput,
+    input: &JobInput,
+    notes: &mut Vec<InputNote>,
+) -> Result<(), AllocError>
+    ensures { OnOk result (notes.new.items ≡ notes.old.items ++ spec.input_notes numbers.now before.now input.now) }
+{
+    let number = numbers.input;
+    let (old, new) = (&before.information, &input.information);
+    let events = old.events.len().saturating_add(new.events.len());
+    let surplus = events.saturating_sub(MOST_EVENTS);
+    push_number_notes(alloc, numbers, input, notes)?;
+    let is_other = is_other_network(&old.network, &new.network);
+    push_if(is_other, number, NoteCause::Network, notes)?;
+    push_if(new.tdt, number, NoteCause::Time, notes)?;
+    push_if(surplus > 0, number, NoteCause::Events(surplus), notes)
+}
+
+// Where a stream of an input was found.
+#[tactic(auto, unfolding(crate::specs::JoinedInputs::origin_in))]
+fn origin_in(number: usize, programs: &[JobProgram], stream: &TimedStream) -> Origin
+    ensures { result ≡ spec.origin_in number programs.now stream.now }
+{
+    Origin {
+        input: number,
+        pid: stream.pid,
+        clock: clock_in(programs, stream.program),
+    }
+}
+
+// Where those of an input were.
+fn origins_in(alloc: Global, number: usize, input: &JobInput) -> Result<Vec<Origin>, AllocError>
+    ensures { IfOk result (λ origins. origins.items ≡ spec.origins_in number input.now) }
+{
+    let programs = input.programs.as_slice();
+    let streams = &input.streams;
+    streams
+        .iter()
+        .map(|stream| origin_in(number, programs, stream))
+        .collect(alloc)
+}
+
+// The first input alone.
+#[tactic(auto, unfolding(crate::specs::JoinedInputs::first_input))]
+fn first_input(alloc: Global, input: JobInput) -> Result<JoinedInputs, AllocError>
+    ensures { IfOk result (λ j. j ≡ spec.first_input input) }
+{
+    let origins = origins_in(alloc, 0, &input)?;
+    Ok(JoinedInputs {
+        input,
+        origins,
+        notes: Vec::new(alloc),
+    })
+}
+
+// Those so far and one more, with its new numbers.
+#[tactic(auto, unfolding(crate::specs::JoinedInputs::with_renumbered))]
+fn with_renumbered(
+    alloc: Global,
+    all: JoinedInputs,
+    input: JobInput,
+    numbers: &Renumbering,
+) -> Result<JoinedInputs, AllocError>
+    ensures { IfOk result (λ j. j ≡ spec.with_renumbered all input numbers.now) }
+{
+    let mut notes = all.notes;
+    push_input_notes(alloc, numbers, &all.input, &input, &mut notes)?;
+    let origins = both(all.origins, origins_in(alloc, numbers.input, &input)?)?;
+    let more = renumbered(alloc, numbers, input)?;
+    Ok(JoinedInputs {
+        input: joined(all.input, more)?,
+        origins,
+        notes,
+    })
+}
+
+// No more programs and streams than a description may have.
+#[tactic(auto, unfolding(crate::specs::JoinedInputs::within_limits, job_programs::specs::Answers::unless, job_programs::specs::Answers::Answers, job_programs::specs::Answers::Refuses))]
+fn within_limits(all: JoinedInputs) -> Result<JoinedInputs, JobError>
+    ensures { Answers (spec.within_limits all) result }
+{
+    match too_many(all.input.programs.len(), all.input.streams.len()) {
+        Some(refusal) => Err(JobError::Refused(refusal)),
+        None => Ok(all),
+    }
+}
+
+// Those so far and one more.
+#[tactic(auto, unfolding(crate::specs::JoinedInputs::with_input, job_programs::specs::Answers::and_then, job_programs::specs::Answers::Answers, job_programs::specs::Answers::Refuses))]
+fn with_input(
+    alloc: Global,
+    number: usize,
+    all: JoinedInputs,
+    input: JobInput,
+) -> Result<JoinedInputs, JobError>
+    ensures { Answers (spec.with_input number all input) result }
+{
+    let Some(numbers) = renumbering_of(alloc, number, &all.input, &input)? else {
+        return Err(JobError::Refused(JobRefusal::Pids));
+    };
+    within_limits(with_renumbered(alloc, all, input, &numbers)?)
+}
+
+// All of them, one after another.
+#[tactic(auto, unfolding(job_programs::specs::Answers::Refuses))]
+fn all_joined(alloc: Global, first: JobInput, more: Vec<JobInput>) -> Result<JoinedInputs, JobError>
+    ensures joined { IfOk result (λ j. spec.joined_inputs first more.items ≡ Ok j) }
+    ensures refused { IfErr result (Refuses (spec.joined_inputs first more.items)) }
+{
+    let mut all = first_input(alloc, first)?;
+    let mut number: usize = 0;
+    let mut left = VecDeque::from(more);
+    'inputs: while let Some(input) = left.pop_front() {
+        number = number.saturating_add(1);
+        all = with_input(alloc, number, all, input)?;
+    }
+    Ok(all)
+}
+
+/// Returns the inputs of a job as one: the programs and streams of the first, and of each after it, with new numbers if
+/// earlier inputs have their numbers. Refusals: no PID left for an input, or more programs or streams than a
+/// description may have.
+#[tactic(auto, unfolding(job_programs::specs::Answers::Answers))]
+pub fn join_inputs(
+    alloc: Global,
+    first: JobInput,
+    more: Vec<JobInput>,
+) -> Result<JoinedInputs, JobError>
+    ensures value { Answers (spec.joined_inputs first more.items) result }
+    ensures few { length first.streams ≤ 32 → IfOk result (λ j. length j.input.streams ≤ 32) }
+    ensures streams { (made : Bool) (inputs : List (List FindingView)) → AreMadeOf made inputs 0 (first ∷ more.items) →
+        IfOk result (AreStreamsIn made inputs) }
+    ensures constants { (made : Bool) (inputs : List (List FindingView)) (constant : ℕ → ProgramClock → ℕ) →
+        AreMovedByOne made inputs constant 0 (first ∷ more.items) →
+        IfOk result (λ j. AllZip (IsMovedIn made inputs constant) j.origins j.input.streams) }
+{
+    all_joined(alloc, first, more)
+}

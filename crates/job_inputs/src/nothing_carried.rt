@@ -1,0 +1,61 @@
+//! Why no stream is carried, or a stream is not.
+
+ghost use Rattle.std.specs.Prelude.{◌≡◌};
+ghost use Rattle.job_inputs.specs.JobInput as spec;
+
+use job_programs::{JobRefusal, Warning, WireStream};
+
+// The refusal for a warning, if there is one; `some` if streams are carried.
+#[tactic(auto, unfolding(crate::specs::JobInput::why_nothing))]
+fn why_nothing(some: bool, warning: Warning) -> Option<JobRefusal>
+    ensures { result ≡ spec.why_nothing some warning }
+{
+    match warning {
+        Warning::StreamId {
+            pid,
+            packet,
+            id,
+            ..
+        } => Some(JobRefusal::StreamId { packet, pid, id }),
+        Warning::LeftOut { why, .. } => Some(why),
+        Warning::Units { warning, .. } => {
+            if !some && warning.cause.is_scrambled() {
+                Some(JobRefusal::Scrambled)
+            } else {
+                None
+            }
+        }
+        _ => None,
+    }
+}
+
+// That for the first one that has one.
+fn first_why(some: bool, warnings: &[Warning]) -> Option<JobRefusal>
+    ensures { result ≡ spec.first_why some warnings.now }
+{
+    for warning in warnings {
+        if let Some(refusal) = why_nothing(some, *warning) {
+            return Some(refusal);
+        }
+    }
+    None
+}
+
+/// Returns the refusal of a transport stream of which no stream is carried, since none can be written, is clear, or
+/// fits a job; if `strict`, also if one stream is not carried.
+#[tactic(auto, unfolding(crate::specs::JobInput::nothing_carried))]
+pub(crate) fn nothing_carried(
+    strict: bool,
+    warnings: &[Warning],
+    streams: &[WireStream<'_>],
+) -> Option<JobRefusal>
+    ensures { result ≡ spec.nothing_carried strict warnings.now streams.now }
+{
+    if streams.is_empty() {
+        first_why(false, warnings)
+    } else if strict {
+        first_why(true, warnings)
+    } else {
+        None
+    }
+}

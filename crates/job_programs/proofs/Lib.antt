@@ -1,0 +1,6 @@
+pub mod Elements
+pub mod AndThen
+mod MapWarnings
+pub mod Each
+pub mod FrameSums
+pub mod Steps

@@ -1,0 +1,51 @@
+-- The units of a stream at the moments of a run.
+use Rattle.std.specs.Prelude.{◌≡◌, ◌≤◌, ◌<◌, ℕ, ◌^◌, Bool, true, false, None, List, map, length}
+use Rattle.pes_packet.specs.AccessUnits.{AccessUnit}
+use Rattle.demux.specs.Views.{FindingView}
+use Rattle.es_units.specs.ApartUnits.{apart_units}
+use Rattle.es_units.specs.CarriedUnits.{CarriedUnit, carried_units}
+use Rattle.es_units.specs.MadeDts.{made_units}
+use Rattle.es_units.specs.Declaration.{min_interval, max_unit_size, max_pts_after, AllowsUnits}
+use Rattle.es_units.specs.Laws.{FirstDue}
+use Rattle.es_units.specs.Stamps.{moved, first_fault}
+use Rattle.description_parts.specs.Described.{Described, DescribedStream}
+use Rattle.job_programs.specs.JobStreams.{TimedStreamView, WireStreamView}
+
+-- units as on the wire, at the moments that they have where the clock shows `base` at moment 0, each presented within some limit after its
+-- DTS
+pub record AreMoved (wire : List AccessUnit) (base : ℕ) (us : List AccessUnit) : Type 0 where
+  pub range : base < 2 ^ 33
+  pub limit : ℕ
+  pub sound : first_fault limit base None 0 wire ≡ None
+  pub are : us ≡ moved base None wire
+
+-- the units that are found of a PID, each of a data stream with a DTS of its own; or with DTS that are made from their PTS where that is
+-- asked for
+unfoldable pub source_of : Bool → ℕ → List FindingView → List CarriedUnit
+source_of false pid findings = apart_units (carried_units pid findings)
+source_of true pid findings = made_units (carried_units pid findings)
+
+-- these at moments by one constant
+pub record AreFound (made : Bool) (findings : List FindingView) (pid : ℕ) (us : List AccessUnit) : Type 0 where
+  pub base : ℕ
+  pub moved : AreMoved (map (λ w. w.unit) (source_of made pid findings)) base us
+
+-- the units of a stream are those that are found of its PID
+abbrev pub IsCarried : Bool → List FindingView → WireStreamView → Type 0
+IsCarried made findings s = s.units ≡ source_of made s.pid findings
+
+-- its units are these, at moments by one constant
+abbrev pub IsMoved : Bool → List FindingView → TimedStreamView → Type 0
+IsMoved made findings t = AreFound made findings t.pid t.units
+
+-- a queue of a multiplexer may hold them
+abbrev pub FitsQueue : TimedStreamView → Type 0
+FitsQueue t = length t.units ≤ 1_048_576
+
+-- a description declares of a stream what these units need
+pub record Declares (d : Described) (s : DescribedStream) (us : List AccessUnit) : Type 0 where
+  pub interval : s.interval ≤ min_interval us
+  pub size : max_unit_size us ≤ s.size
+  pub pts : max_pts_after us ≤ s.pts_limit
+  pub lead : FirstDue s.lead us
+  pub allowance : AllowsUnits s.allowance s.stream_id d.base0 us

@@ -1,0 +1,98 @@
+-- What the description of a job says of the transport stream as a whole: its network, its events and its services (EN 300 468).
+use Rattle.std.specs.Prelude.{ℕ, ◌||◌, Bool, List, [], map, is_some, unwrap_or, Option, Some, None, option_map}
+use Rattle.std.specs.Option.{option_or}
+use Rattle.std.specs.List.{list_any}
+use Rattle.demux.specs.Views.{FindingView}
+use Rattle.job_text.specs.DescriptionParts.{EventPartView, NetworkPartView}
+use Rattle.stream_programs.specs.NetworkInformation.{FoundNetworkView, stream_network}
+use Rattle.stream_programs.specs.Networks.{network}
+use Rattle.stream_programs.specs.Services.{FoundServiceView, service}
+use Rattle.stream_programs.specs.Texts.{decode_text}
+use Rattle.service_information.specs.StreamTime.{stream_time}
+use Rattle.job_programs.specs.Events.{event_parts, job_events, start_of}
+use Rattle.given_values.specs.GivenNames.{NetworkNameView, ServiceNameView}
+use Rattle.job_programs.specs.GivenNames.{name_given, original_given}
+use Rattle.job_programs.specs.JobOptions.{JobOptionsView}
+use Rattle.job_programs.specs.JobPrograms.{JobProgramView}
+
+-- the moment of the first slot as its characters; whether there are a time and date table and a service description table; and of each
+-- program its service, in the order of the programs
+pub record JobInformationView : Type 0 where
+  pub transport_stream_id : ℕ
+  pub original_network_id : ℕ
+  pub start : List ℕ
+  pub tdt : Bool
+  pub sdt : Bool
+  pub network : Option NetworkPartView
+  pub events : List EventPartView
+  pub services : List FoundServiceView
+
+-- 1. The service description table
+
+-- a service of one of these programs is described, or given a name
+unfoldable pub has_service : List ServiceNameView → List FindingView → ℕ → Bool
+has_service names findings number = is_some (service number findings) || is_some (name_given number names)
+
+unfoldable pub has_services : List ServiceNameView → List FindingView → List JobProgramView → Bool
+has_services names findings programs = list_any (λ p. has_service names findings p.number) programs
+
+-- 2. The network
+
+-- original_network_id: the one that is given, that of the services, or that of the network information table
+unfoldable pub original_of : Option NetworkNameView → ℕ → List FindingView → Option ℕ
+original_of given id findings = option_or (option_or (original_given given) (network findings)) (option_map (λ n. n.original) (stream_network id findings))
+
+-- the network that is given
+unfoldable pub network_of : NetworkNameView → NetworkPartView
+network_of n = record { id = n.id; name = n.name; descriptors = [] }
+
+-- that of the stream, its name with at most 200 bytes
+unfoldable pub network_found : FoundNetworkView → NetworkPartView
+network_found n = record { id = n.id; name = decode_text 200 n.name; descriptors = n.descriptors }
+
+unfoldable pub network_or : Option NetworkNameView → Option FoundNetworkView → Option NetworkPartView
+network_or None found = option_map network_found found
+network_or (Some n) found = Some (network_of n)
+
+abbrev pub network_part : JobOptionsView → ℕ → List FindingView → Option NetworkPartView
+network_part options id findings = network_or options.network (stream_network id findings)
+
+-- 3. The service of a program
+
+-- the texts with at most 100 bytes each; without a service, a digital television service without a name (EN 300 468,
+-- table 87)
+unfoldable pub named_service : Option FoundServiceView → FoundServiceView
+named_service (Some s) = record { service_type = s.service_type; provider = decode_text 100 s.provider; name = decode_text 100 s.name }
+named_service None = record { service_type = 1; provider = []; name = [] }
+
+-- with the name that is given to it, and the provider if that is given too
+unfoldable pub renamed : ServiceNameView → FoundServiceView → FoundServiceView
+renamed n s = record { service_type = s.service_type; provider = unwrap_or n.provider s.provider; name = n.name }
+
+unfoldable pub service_with : Option ServiceNameView → FoundServiceView → FoundServiceView
+service_with None s = s
+service_with (Some n) s = renamed n s
+
+abbrev pub service_of : List ServiceNameView → List FindingView → ℕ → FoundServiceView
+service_of names findings number = service_with (name_given number names) (named_service (service number findings))
+
+abbrev pub service_for : List ServiceNameView → List FindingView → JobProgramView → FoundServiceView
+service_for names findings p = service_of names findings p.number
+
+abbrev pub services_of : List ServiceNameView → List FindingView → List JobProgramView → List FoundServiceView
+services_of names findings programs = map (service_for names findings) programs
+
+-- 4. All of it: where nothing says original_network_id it is one for private use (ETSI TS 101 162), and there is a time and date table if
+-- the stream has one
+
+unfoldable pub information_of : JobOptionsView → ℕ → List FindingView → List JobProgramView → JobInformationView
+information_of options id findings programs = record {
+  transport_stream_id = id;
+  original_network_id = unwrap_or (original_of options.network id findings) 0xFF01;
+  start = start_of options.start (job_events findings programs) findings;
+  tdt = is_some (stream_time findings);
+  sdt = has_services options.names findings programs;
+  network = network_part options id findings;
+  events = event_parts (job_events findings programs);
+  services = services_of options.names findings programs;
+}

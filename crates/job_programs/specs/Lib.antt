@@ -1,0 +1,13 @@
+pub mod ClockBases
+pub mod GivenNames
+pub mod JobOptions
+pub mod Answers
+pub mod Packets
+pub mod Warnings
+pub mod JobStreams
+pub mod ProgramClocks
+pub mod JobPrograms
+pub mod JobTables
+pub mod Events
+pub mod Information
+pub mod FoundUnits

@@ -1,0 +1,199 @@
+//! The network of a job: the given network, or the stream's network.
+
+ghost use Rattle.std.specs.Prelude.{◌≡◌, ◌++◌, IfOk, OnOk, Some, map, option_map, option_to_list, string_bytes};
+ghost use Rattle.demux.specs.Shown.{finding_view};
+ghost use Rattle.job_text.specs.Texts.{network_if_any};
+ghost use Rattle.stream_programs.specs.NetworkInformation.{found_network_view, network_surplus};
+ghost use Rattle.given_values.specs.GivenNames.{network_name_view};
+ghost use Rattle.job_programs.specs.Information as spec;
+ghost use Rattle.job_programs.specs.Warnings as spec_warnings;
+
+use crate::given_names::original_given;
+use crate::named_service::copied;
+use crate::warning::{PacketWarning, Warning};
+use demux::Finding;
+use given_values::NetworkName;
+use job_text::NetworkPart;
+use std::alloc::{AllocError, Global};
+use std::marker::Model;
+use stream_programs::{
+    FoundNetwork, decode_text, has_unread, network_surplus, original_network, stream_network,
+};
+
+/// The most bytes of a network's name, as written in a descriptor.
+const LONGEST_NAME: usize = 200;
+
+// original_network_id of the network that is found.
+fn original_found(network: Option<FoundNetwork<'_>>) -> Option<u16>
+    ensures { result ≡ option_map (λ n. n.original) (option_map found_network_view network.entry) }
+{
+    match network {
+        Some(network) => Some(network.original),
+        None => None,
+    }
+}
+
+/// original_network_id, if it is given or the stream says it.
+#[tactic(auto, unfolding(crate::specs::Information::original_of))]
+pub(crate) fn original_of(
+    given: Option<NetworkName<'_>>,
+    transport_stream_id: u16,
+    findings: &[Finding<'_>],
+) -> Option<u16>
+    ensures { result ≡ spec.original_of (option_map network_name_view given.entry) transport_stream_id
+        (map finding_view findings.now) }
+{
+    let found = original_found(stream_network(transport_stream_id, findings));
+    original_given(given)
+        .or(original_network(findings))
+        .or(found)
+}
+
+/// The network of a description, its name as characters.
+#[derive(Drop)]
+pub struct JobNetwork {
+    pub id: u16,
+    pub name: String,
+    pub descriptors: Vec<u8>,
+}
+
+// A contract sees its name and its descriptors as lists.
+impl Model for JobNetwork {
+    ghost use Rattle.std.specs.Prelude.{string_bytes};
+    ghost use Rattle.job_text.specs.DescriptionParts.{NetworkPartView};
+
+    ghost Value = { NetworkPartView };
+
+    ghost view = { λ n. record { id = n.id; name = string_bytes n.name; descriptors = n.descriptors.items } };
+}
+
+// The network that is given.
+#[tactic(auto, unfolding(crate::specs::Information::network_of))]
+fn network_of(alloc: Global, network: NetworkName<'_>) -> Result<JobNetwork, AllocError>
+    ensures { IfOk result (λ n. n ≡ spec.network_of (network_name_view network.entry)) }
+{
+    Ok(JobNetwork {
+        id: network.id,
+        name: copied(alloc, network.name)?,
+        descriptors: Vec::new(alloc),
+    })
+}
+
+// The network that is found.
+#[tactic(auto, unfolding(crate::specs::Information::network_found))]
+fn network_found(alloc: Global, network: FoundNetwork<'_>) -> Result<JobNetwork, AllocError>
+    ensures { IfOk result (λ n. n ≡ spec.network_found (found_network_view network.entry)) }
+{
+    let name = decode_text(alloc, network.name, LONGEST_NAME)?;
+    let mut descriptors = Vec::new(alloc);
+    descriptors.extend_from_slice(network.descriptors)?;
+    Ok(JobNetwork {
+        id: network.id,
+        name,
+        descriptors,
+    })
+}
+
+// The network that is found, if there is one.
+fn network_if_found(
+    alloc: Global,
+    found: Option<FoundNetwork<'_>>,
+) -> Result<Option<JobNetwork>, AllocError>
+    ensures { IfOk result (λ n. n ≡ option_map spec.network_found (option_map found_network_view found.entry)) }
+{
+    match found {
+        Some(network) => Ok(Some(network_found(alloc, network)?)),
+        None => Ok(None),
+    }
+}
+
+/// Returns the network, if one is given or the stream has one.
+#[tactic(auto, unfolding(crate::specs::Information::network_or))]
+pub(crate) fn network_or(
+    alloc: Global,
+    given: Option<NetworkName<'_>>,
+    found: Option<FoundNetwork<'_>>,
+) -> Result<Option<JobNetwork>, AllocError>
+    ensures { IfOk result (λ n. n ≡ spec.network_or (option_map network_name_view given.entry)
+        (option_map found_network_view found.entry)) }
+{
+    match given {
+        Some(network) => Ok(Some(network_of(alloc, network)?)),
+        None => network_if_found(alloc, found),
+    }
+}
+
+/// Appends the lines of the network, if there is one.
+pub fn write_network(network: &Option<JobNetwork>, text: &mut String) -> Result<(), AllocError>
+    ensures { OnOk result (string_bytes text.new ≡ string_bytes text.old ++ network_if_any network.now) }
+{
+    let Some(network) = network else {
+        return Ok(());
+    };
+    let entry = NetworkPart {
+        id: network.id,
+        name: &network.name,
+        descriptors: &network.descriptors,
+    };
+    entry.write_text(text)
+}
+
+// Appends the warning about network information sections that are not carried.
+fn push_surplus(
+    transport_stream_id: u16,
+    findings: &[Finding<'_>],
+    warnings: &mut Vec<Warning>,
+) -> Result<(), AllocError>
+    ensures { OnOk result (warnings.new.items ≡ warnings.old.items ++ map spec_warnings.surplus_warning
+        (option_to_list (network_surplus transport_stream_id (map finding_view findings.now)))) }
+{
+    if let Some(packet) = network_surplus(transport_stream_id, findings) {
+        warnings.push(Warning::Packet {
+            packet,
+            what: PacketWarning::NetworkSurplus,
+        })?;
+    }
+    Ok(())
+}
+
+// Appends the warning about the name of the network.
+#[tactic(auto, unfolding(crate::specs::Warnings::unread_network))]
+fn push_unread(
+    alloc: Global,
+    found: Option<FoundNetwork<'_>>,
+    warnings: &mut Vec<Warning>,
+) -> Result<(), AllocError>
+    ensures { OnOk result (warnings.new.items ≡ warnings.old.items
+        ++ spec_warnings.unread_network (option_map found_network_view found.entry)) }
+{
+    if let Some(network) = found {
+        if has_unread(alloc, network.name)? {
+            warnings.push(Warning::UnreadNetwork)?;
+        }
+    }
+    Ok(())
+}
+
+/// Appends the warnings about the network of the stream, if no other is given.
+#[tactic(auto, unfolding(crate::specs::Warnings::network_warnings))]
+pub fn push_network_warnings(
+    alloc: Global,
+    given: Option<NetworkName<'_>>,
+    transport_stream_id: u16,
+    findings: &[Finding<'_>],
+    warnings: &mut Vec<Warning>,
+) -> Result<(), AllocError>
+    ensures { OnOk result (warnings.new.items ≡ warnings.old.items
+        ++ spec_warnings.network_warnings (option_map network_name_view given.entry) transport_stream_id
+        (map finding_view findings.now)) }
+{
+    if given.is_some() {
+        return Ok(());
+    }
+    push_surplus(transport_stream_id, findings, warnings)?;
+    push_unread(
+        alloc,
+        stream_network(transport_stream_id, findings),
+        warnings,
+    )
+}

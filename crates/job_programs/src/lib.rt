@@ -1,0 +1,44 @@
+//! Options of a job, its programs, services and network; refusals and warnings.
+//!
+//! `JobOptions` has the options (`specs/JobOptions`, `specs/GivenNames`). The programs that they select have clocks
+//! (`specs/JobPrograms`, `specs/ProgramClocks`, `specs/ClockBases`), `JobStream` is a stream of one
+//! (`specs/JobStreams`), and `JobInformation` is what describes the transport stream as a whole (`specs/Information`,
+//! `specs/Events`). `JobRefusal` says why there is no job, `Warning` what is not taken unchanged (`specs/Packets`,
+//! `specs/Warnings`). `specs/FoundUnits` says which units of a PID are found, and `specs/JobTables` which sections are
+//! carried.
+#![tactic(auto)]
+
+// What options ask for.
+mod given_names;
+pub mod job_options;
+
+// Refusals and warnings.
+pub mod named_numbers;
+pub mod option_warnings;
+pub mod packets;
+mod refusal;
+mod warning;
+pub mod warnings;
+
+// Programs, their clocks, and their streams.
+pub mod clock_base;
+pub mod job_programs;
+pub mod job_stream;
+pub mod program_clock;
+
+// The information of a transport stream as a whole.
+pub mod information;
+pub mod job_events;
+pub mod job_network;
+pub mod named_service;
+
+pub use information::JobInformation;
+pub use job_events::JobEvent;
+pub use job_network::JobNetwork;
+pub use job_options::JobOptions;
+pub use job_programs::JobProgram;
+pub use job_stream::{JobStream, StreamMoments, TimedStream, WireStream};
+pub use named_service::NamedService;
+pub use program_clock::ProgramClock;
+pub use refusal::{GreaterBuffers, JobError, JobRefusal, NamedNumbers};
+pub use warning::{PacketWarning, ProgramWarning, Warning};

@@ -1,0 +1,254 @@
+//! What the description of a job says of a program's service.
+
+ghost use Rattle.std.specs.Prelude.{◌≡◌, ◌++◌, IfOk, OnOk, is_some, map, option_map, string_bytes};
+ghost use Rattle.demux.specs.Shown.{finding_view};
+ghost use Rattle.stream_programs.specs.Services.{service, found_service_view};
+ghost use Rattle.job_programs.specs.GivenNames.{name_given};
+ghost use Rattle.job_programs.specs.JobPrograms as spec_programs;
+ghost use Rattle.job_programs.specs.Information as spec;
+
+use crate::given_names::name_given;
+use crate::job_programs::JobProgram;
+use crate::warning::{ProgramWarning, Warning};
+use demux::Finding;
+use given_values::ServiceName;
+use std::alloc::{AllocError, Global};
+use std::marker::Model;
+use stream_programs::{FoundService, decode_text, has_unread, last_service};
+
+/// The most bytes of a service's name and provider, as written in a descriptor.
+const LONGEST_NAME: usize = 100;
+
+/// A digital television service (EN 300 468, table 87), where a stream has no service description.
+const TELEVISION: u8 = 1;
+
+/// A service, its texts as characters.
+#[derive(Drop)]
+pub struct NamedService {
+    pub service_type: u8,
+    pub provider: String,
+    pub name: String,
+}
+
+// A contract sees its texts as lists.
+impl Model for NamedService {
+    ghost use Rattle.std.specs.Prelude.{string_bytes};
+    ghost use Rattle.stream_programs.specs.Services.{FoundServiceView};
+
+    ghost Value = { FoundServiceView };
+
+    ghost view = { λ s. record {
+      service_type = s.service_type;
+      provider = string_bytes s.provider;
+      name = string_bytes s.name;
+    } };
+}
+
+// Whether the service of a program is described.
+fn is_described(findings: &[Finding<'_>], number: u16) -> bool
+    ensures { result ≡ is_some (service number (map finding_view findings.now)) }
+{
+    match last_service(number, findings) {
+        Some(_) => true,
+        None => false,
+    }
+}
+
+// Whether the service of a program is given a name.
+fn is_named(names: &[ServiceName<'_>], number: u16) -> bool
+    ensures { result ≡ is_some (name_given number names.now) }
+{
+    match name_given(number, names) {
+        Some(_) => true,
+        None => false,
+    }
+}
+
+// Whether it is described, or given a name.
+#[tactic(auto, unfolding(crate::specs::Information::has_service))]
+fn has_service(names: &[ServiceName<'_>], findings: &[Finding<'_>], number: u16) -> bool
+    ensures { result ≡ spec.has_service names.now (map finding_view findings.now) number }
+{
+    is_described(findings, number) || is_named(names, number)
+}
+
+/// Returns whether a service of one of these programs is described, or given a name.
+#[tactic(auto, unfolding(crate::specs::Information::has_services))]
+pub(crate) fn has_services(
+    names: &[ServiceName<'_>],
+    findings: &[Finding<'_>],
+    programs: &[JobProgram],
+) -> bool
+    ensures { result ≡ spec.has_services names.now (map finding_view findings.now) programs.now }
+{
+    programs
+        .iter()
+        .any(|program| has_service(names, findings, program.number))
+}
+
+// A service, or a television service without a name.
+#[tactic(auto, unfolding(crate::specs::Information::named_service))]
+fn named_service(
+    alloc: Global,
+    service: Option<FoundService<'_>>,
+) -> Result<NamedService, AllocError>
+    ensures { IfOk result (λ named. named ≡ spec.named_service (option_map found_service_view service.entry)) }
+{
+    match service {
+        Some(service) => Ok(NamedService {
+            service_type: service.service_type,
+            provider: decode_text(alloc, service.provider, LONGEST_NAME)?,
+            name: decode_text(alloc, service.name, LONGEST_NAME)?,
+        }),
+        None => Ok(NamedService {
+            service_type: TELEVISION,
+            provider: String::new(alloc),
+            name: String::new(alloc),
+        }),
+    }
+}
+
+/// Returns the bytes of a text as a text of its own.
+pub(crate) fn copied(alloc: Global, text: &str) -> Result<String, AllocError>
+    ensures { IfOk result (λ copy. string_bytes copy ≡ text.now) }
+{
+    let mut copy = String::new(alloc);
+    copy.push_str(text)?;
+    Ok(copy)
+}
+
+// A service with the name that is given to it, and with the provider if that is given too.
+#[tactic(auto, unfolding(crate::specs::Information::renamed))]
+fn renamed(
+    alloc: Global,
+    given: &ServiceName<'_>,
+    service: NamedService,
+) -> Result<NamedService, AllocError>
+    ensures { IfOk result (λ named. named ≡ spec.renamed given.now service) }
+{
+    let provider = given.provider;
+    let name = copied(alloc, given.name)?;
+    match provider {
+        Some(provider) => Ok(NamedService {
+            service_type: service.service_type,
+            provider: copied(alloc, provider)?,
+            name,
+        }),
+        None => Ok(NamedService { name, ..service }),
+    }
+}
+
+// What is said of the service of a program.
+#[tactic(auto, unfolding(crate::specs::Information::service_with))]
+fn service_of(
+    alloc: Global,
+    names: &[ServiceName<'_>],
+    number: u16,
+    findings: &[Finding<'_>],
+) -> Result<NamedService, AllocError>
+    ensures { IfOk result (λ named. named ≡ spec.service_of names.now (map finding_view findings.now) number) }
+{
+    let named = named_service(alloc, last_service(number, findings))?;
+    match name_given(number, names) {
+        Some(given) => renamed(alloc, given, named),
+        None => Ok(named),
+    }
+}
+
+// Appends what is said of the service of each program.
+fn push_services(
+    alloc: Global,
+    names: &[ServiceName<'_>],
+    programs: &[JobProgram],
+    findings: &[Finding<'_>],
+    services: &mut Vec<NamedService>,
+) -> Result<(), AllocError>
+    ensures { OnOk result (services.new.items ≡ services.old.items
+        ++ spec.services_of names.now (map finding_view findings.now) programs.now) }
+{
+    for program in programs {
+        services.push(service_of(alloc, names, program.number, findings)?)?;
+    }
+    Ok(())
+}
+
+/// Returns what is said of the service of each program.
+pub(crate) fn services_of(
+    alloc: Global,
+    names: &[ServiceName<'_>],
+    programs: &[JobProgram],
+    findings: &[Finding<'_>],
+) -> Result<Vec<NamedService>, AllocError>
+    ensures { IfOk result (λ services. services.items
+        ≡ spec.services_of names.now (map finding_view findings.now) programs.now) }
+{
+    let mut services = Vec::new(alloc);
+    push_services(alloc, names, programs, findings, &mut services)?;
+    Ok(services)
+}
+
+// Whether a text of a service, if no other is given, has characters that can't be read.
+#[tactic(auto, unfolding(crate::specs::JobPrograms::is_unread))]
+fn is_unread(
+    alloc: Global,
+    given: Option<&ServiceName<'_>>,
+    service: Option<FoundService<'_>>,
+) -> Result<bool, AllocError>
+    ensures { IfOk result (λ unread. unread
+        ≡ spec_programs.is_unread (option_map (λ n. n.now) given.entry) (option_map found_service_view service.entry)) }
+{
+    let Some(service) = service else {
+        return Ok(false);
+    };
+    let provider = has_unread(alloc, service.provider)?;
+    match given {
+        None => {
+            let name = has_unread(alloc, service.name)?;
+            Ok(provider || name)
+        }
+        Some(given) => Ok(given.provider.is_none() && provider),
+    }
+}
+
+// Appends the warning about the texts of a program's service.
+#[tactic(auto, unfolding(crate::specs::JobPrograms::text_warning))]
+fn push_text_warning(
+    alloc: Global,
+    names: &[ServiceName<'_>],
+    program: &JobProgram,
+    findings: &[Finding<'_>],
+    warnings: &mut Vec<Warning>,
+) -> Result<(), AllocError>
+    ensures { OnOk result (warnings.new.items ≡ warnings.old.items
+        ++ spec_programs.text_warning names.now (map finding_view findings.now) program.now) }
+{
+    let number = program.number;
+    if is_unread(
+        alloc,
+        name_given(number, names),
+        last_service(number, findings),
+    )? {
+        warnings.push(Warning::Program {
+            program: number,
+            what: ProgramWarning::UnreadText,
+        })?;
+    }
+    Ok(())
+}
+
+/// Appends the warnings about the texts of services.
+pub fn push_text_warnings(
+    alloc: Global,
+    names: &[ServiceName<'_>],
+    programs: &[JobProgram],
+    findings: &[Finding<'_>],
+    warnings: &mut Vec<Warning>,
+) -> Result<(), AllocError>
+    ensures { OnOk result (warnings.new.items ≡ warnings.old.items
+        ++ spec_programs.text_warnings names.now (map finding_view findings.now) programs.now) }
+{
+    for program in programs {
+        push_text_warning(alloc, names, program, findings, warnings)?;
+    }
+    Ok(())
+}

@@ -1,0 +1,135 @@
+//! Why there is no job.
+
+ghost use Rattle.std.specs.Prelude.{◌≡◌};
+ghost use Rattle.job_programs.specs.declared.refusal.JobError.TheVariants.{Memory, Refused};
+
+use description_keys::DescFault;
+use es_units::{DtsFault, StampFault};
+use std::alloc::{AllocError, AllocFailed};
+
+/// Buffers that `--buffers` can give a stream: the rate out of its transport buffer in bits a second, and its main
+/// buffer in bytes.
+#[derive(Clone, Copy, PartialEq, Eq)]
+pub struct GreaterBuffers {
+    pub rx: u32,
+    pub main: u32,
+}
+
+/// Programs that a transport stream names: the numbers of the first four, and how many there are.
+#[derive(Clone, Copy, PartialEq, Eq)]
+pub struct NamedNumbers {
+    pub first: Option<u16>,
+    pub second: Option<u16>,
+    pub third: Option<u16>,
+    pub fourth: Option<u16>,
+    pub count: usize,
+}
+
+/// Why a transport stream is refused: then nothing is written; or why a stream of it is left out.
+#[derive(Clone, Copy, PartialEq, Eq)]
+pub enum JobRefusal {
+    /// More than half of its packets of 188 bytes are no packets.
+    NoPackets,
+    /// No program association section in force is found.
+    NoAssociation,
+    /// No program that is asked for has a program map section in force with a stream of PES packets; the transport stream
+    /// names these programs.
+    NoProgram(NamedNumbers),
+    /// No stream can be carried.
+    NoStream,
+    /// No stream can be carried, since packets are scrambled.
+    Scrambled,
+    /// No stream can be carried, since the units of a PID have a stream_id that no unit may have.
+    StreamId {
+        packet: u64,
+        pid: u16,
+        id: u8,
+    },
+    /// A description has at most 16 programs.
+    Programs(usize),
+    /// A description has at most 32 streams.
+    Streams(usize),
+    /// The PES packets of a PID have no PTS.
+    NoStamps(u16),
+    /// The units of a PID have two stream_ids.
+    OtherStreamId {
+        packet: u64,
+        pid: u16,
+        id: u8,
+        first: u8,
+    },
+    /// The stamps of a unit, which begins in this packet, can't be moments of a run; `mended` if they can with DTS that
+    /// are made from the PTS.
+    Stamps {
+        packet: u64,
+        pid: u16,
+        fault: StampFault,
+        mended: bool,
+    },
+    /// No DTS can be made from the PTS of the units of a PID.
+    Dts {
+        pid: u16,
+        fault: DtsFault,
+    },
+    /// A stream has at most 1,048,576 units.
+    Units {
+        pid: u16,
+        count: usize,
+    },
+    /// A unit is larger than a PES packet of its stream may be.
+    Size {
+        pid: u16,
+        size: usize,
+    },
+    /// No lead lets units of up to `size` bytes into these buffers, by groups or by pace; `way_out` has buffers that
+    /// would take them, if any that are tried do.
+    Buffers {
+        pid: u16,
+        size: u32,
+        rx: u32,
+        main: u32,
+        way_out: Option<GreaterBuffers>,
+    },
+    /// There is no PID left for the clock references or the program map table of a program.
+    Pids,
+    /// The description that was written is refused.
+    Description(DescFault),
+    /// No plan is found at this rate, in bits a second: the one that is asked for; else the least at which all have
+    /// slots, nor at those after it that are tried; or at no rate all have slots, of which this is the greatest.
+    Plan(u64),
+    /// The description that was written does not declare what the units of this PID need.
+    Declaration(u16),
+}
+
+/// Why a call fails.
+#[derive(Clone, Copy, PartialEq, Eq)]
+pub enum JobError {
+    /// No memory was left.
+    Memory,
+    /// The stream is refused.
+    Refused(JobRefusal),
+}
+
+impl From<AllocError> for JobError {
+    ghost from_gives = { λ _ e. e ≡ Memory };
+
+    fn from(_error: AllocError) -> JobError {
+        JobError::Memory
+    }
+}
+
+impl<T: Drop> From<AllocFailed<T>> for JobError {
+    ghost from_gives = { λ _ e. e ≡ Memory };
+
+    fn from(_error: AllocFailed<T>) -> JobError {
+        JobError::Memory
+    }
+}
+
+impl From<JobRefusal> for JobError {
+    ghost from_gives = { λ refusal e. e ≡ Refused refusal };
+
+    fn from(refusal: JobRefusal) -> JobError {
+        JobError::Refused(refusal)
+    }
+}

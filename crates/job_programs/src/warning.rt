@@ -1,0 +1,177 @@
+//! Warnings about a stream that gives a job.
+
+ghost use Rattle.std.specs.Prelude.{◌≡◌};
+ghost use Rattle.job_programs.specs.Warnings as spec;
+
+use crate::refusal::JobRefusal;
+use es_units::UnitWarning;
+use service_information::InformationWarning;
+use stream_programs::{MapPart, TableOmission};
+
+/// A warning about a packet, or about the section that ends in it.
+#[derive(Clone, Copy)]
+pub enum PacketWarning {
+    /// 188 bytes that are no packet.
+    Bad,
+    /// It has transport_error_indicator.
+    Errored,
+    /// A program association section that says something else: the first one stands.
+    AssociationChanges,
+    /// A network information section of the actual network that is not carried as it stands: not in force, not
+    /// readable, of another network, or with other or more descriptors or transport streams than `[network]` has.
+    NetworkSurplus,
+}
+
+/// A warning about a program.
+#[derive(Clone, Copy)]
+pub enum ProgramWarning {
+    /// It is asked for, and is not there.
+    Missing,
+    /// No stream of it has a unit.
+    NoStream,
+    /// The name or the provider of its service has characters that can't be read.
+    UnreadText,
+}
+
+/// A warning: a part of a stream that is not taken unchanged.
+#[derive(Clone, Copy)]
+pub enum Warning {
+    /// About a packet.
+    Packet {
+        packet: u64,
+        what: PacketWarning,
+    },
+    /// This number of bytes follows the last whole packet.
+    TrailingBytes {
+        size: usize,
+    },
+    /// An earlier program map section, which ends in this packet, is other in this part than the last one, which
+    /// stands.
+    Map {
+        program: u16,
+        packet: u64,
+        part: MapPart,
+    },
+    /// Something is left out of the tables.
+    Table(TableOmission),
+    /// PES packets of a PID, this number of them, that no program has.
+    StrayPes {
+        pid: u16,
+        count: usize,
+    },
+    /// About a program.
+    Program {
+        program: u16,
+        what: ProgramWarning,
+    },
+    /// An option names a PID that no stream has.
+    NoSuchStream {
+        pid: u16,
+    },
+    /// A warning about the units of a PID.
+    Units {
+        pid: u16,
+        warning: UnitWarning,
+    },
+    /// The stream of this PID has no unit.
+    NoUnit {
+        program: u16,
+        pid: u16,
+    },
+    /// The units of a stream, of which the first begins in this packet, have a stream_id that no unit may have.
+    StreamId {
+        program: u16,
+        pid: u16,
+        packet: u64,
+        id: u8,
+    },
+    /// The name of the network has characters that can't be read.
+    UnreadNetwork,
+    /// Service information is not taken as it stands.
+    Information(InformationWarning),
+    /// The program map table of this program is on another PID.
+    MapMoved {
+        program: u16,
+        from: u16,
+        to: u16,
+    },
+    /// A stream says that a buffer of this size is enough for it, which does not hold this unit of it: another one
+    /// counts.
+    HeaderBuffer {
+        pid: u16,
+        said: u32,
+        unit: usize,
+        counted: u32,
+    },
+    /// The packets of a stream ask for this rate, and with the leak of its multiplexing buffer nothing serves it: the
+    /// buffer is not declared. Both are in bits/s.
+    Leak {
+        pid: u16,
+        rate: u64,
+        leak: u32,
+    },
+    /// The stream of this PID is left out: with it there would be no job, for this reason.
+    LeftOut {
+        pid: u16,
+        why: JobRefusal,
+    },
+    /// The units of a stream have up to this number of access units, which its main buffer does not hold one by one: a
+    /// unit leaves it whole.
+    Frames {
+        pid: u16,
+        frames: u8,
+    },
+}
+
+impl PacketWarning {
+    // Whether it says that something is lost.
+    fn is_damage(self) -> bool
+        ensures { result ≡ spec.is_packet_damage self }
+    {
+        match self {
+            PacketWarning::Bad | PacketWarning::Errored | PacketWarning::NetworkSurplus => true,
+            PacketWarning::AssociationChanges => false,
+        }
+    }
+}
+
+impl ProgramWarning {
+    // Whether it says that something is lost.
+    fn is_damage(self) -> bool
+        ensures { result ≡ spec.is_program_damage self }
+    {
+        match self {
+            ProgramWarning::Missing | ProgramWarning::UnreadText => true,
+            ProgramWarning::NoStream => false,
+        }
+    }
+}
+
+impl Warning {
+    /// Returns whether it says that something is lost: the stream is damaged, or a part of it or of what was asked for
+    /// is left out.
+    #[tactic(auto, unfolding(crate::specs::Warnings::is_damage))]
+    pub fn is_damage(self) -> bool
+        ensures { result ≡ spec.is_damage self }
+    {
+        match self {
+            Warning::Packet { what, .. } => what.is_damage(),
+            Warning::TrailingBytes { .. } => true,
+            Warning::Map { .. } => true,
+            Warning::Table(omission) => omission.is_loss(),
+            Warning::StrayPes { .. } => true,
+            Warning::Program { what, .. } => what.is_damage(),
+            Warning::NoSuchStream { .. } => true,
+            Warning::Units { warning, .. } => warning.cause.is_damage(),
+            Warning::NoUnit { .. } => false,
+            Warning::StreamId { .. } => true,
+            Warning::UnreadNetwork => true,
+            Warning::Information(_) => true,
+            Warning::MapMoved { .. } => false,
+            Warning::HeaderBuffer { .. } => false,
+            Warning::Leak { .. } => false,
+            Warning::LeftOut { .. } => true,
+            Warning::Frames { .. } => false,
+        }
+    }
+}

@@ -1,0 +1,4 @@
+pub mod CarriedStreams
+mod OddStreams
+mod StreamMoments
+mod TakenStreams

@@ -1,0 +1,56 @@
+-- Units at moments of their own.
+use Rattle.std.proofs.Common.{◌≡◌, ◌∙◌, ℕ, Option, List, [], ◌∷◌, None, map, refl, sym, ap}
+use Rattle.pes_packet.specs.AccessUnits.{AccessUnit}
+use Rattle.es_units.specs.CarriedUnits.{CarriedUnit}
+use Rattle.es_units.specs.CountedUnits.{CountedUnitsView, counted_units}
+use Rattle.es_units.specs.Stamps.{moved, unit_at}
+use Rattle.es_units.specs.UnitMoments.{moment_of, units_at}
+use Rattle.es_units.specs.declared.unit_moments.UnitMoment.{UnitMoment}
+use Rattle.es_units.proofs.UnitMoments.{at_own}
+use Rattle.stream_coding.specs.FrameHeaders.{frame_kind}
+use Rattle.unit_timing.specs.declared.framing.Framing.{Framing}
+use Rattle.job_units.specs.Declarations.{MeasuredView, first_bytes, framing_for, measured}
+use Rattle.job_programs.specs.JobStreams.{TimedStreamView, WireStreamView}
+use Rattle.job_units.specs.Moments.{wire_of, with_moments}
+use Rattle.job_units.specs.OddStreams.{alone, first_carried, own_base}
+
+pub own_at : (base : ℕ) (us vs : List CarriedUnit) (ms : List UnitMoment) (out : List AccessUnit) → out ≡ units_at ms vs → vs ≡ us →
+    ms ≡ map moment_of (moved base None (map (λ u. u.unit) us)) → out ≡ moved base None (map (λ u. u.unit) us)
+own_at base us vs ms out made same is =
+    made
+    ∙ ap (λ (l : List CarriedUnit). units_at ms l) same
+    ∙ ap (λ (l : List UnitMoment). units_at l us) is
+    ∙ at_own base None us us refl
+
+-- the first unit has the bytes that it has on the wire
+first_is : (base : ℕ) (us : List CarriedUnit) → first_carried us ≡ first_bytes (moved base None (map (λ u. u.unit) us))
+unfolding first_carried first_bytes moved unit_at
+first_is base [] = refl
+first_is base (u ∷ us) = refl
+
+pub first_same : (w : WireStreamView) → first_carried w.units ≡ first_bytes (alone w).units
+unfolding alone with_moments
+first_same w = first_is (own_base w) w.units
+
+no_framing : (t : TimedStreamView) → frame_kind t.stream_type t.descriptors ≡ None → framing_for t ≡ None
+unfolding framing_for
+no_framing t none = rw (none, framing_for) refl
+
+-- the measures of a stream whose units are not frames of sound
+pub measured_alone : (w : WireStreamView) (units : CountedUnitsView) (first descriptors : List ℕ) →
+    units ≡ counted_units (moved (own_base w) None (wire_of w)) →
+    first ≡ first_bytes (alone w).units → descriptors ≡ w.descriptors → frame_kind w.stream_type w.descriptors ≡ None →
+    ◌≡◌ {A = MeasuredView}
+    (record { pid = w.pid; stream_id = w.stream_id; stream_type = w.stream_type; descriptors = descriptors; first = first; framing = None; units = units })
+    (measured (alone w))
+unfolding measured alone with_moments
+measured_alone w units first descriptors counted bytes same frames =
+    rw (counted, bytes, same) (ap (λ (framing : Option Framing). (let m : MeasuredView = record {
+      pid = w.pid;
+      stream_id = w.stream_id;
+      stream_type = w.stream_type;
+      descriptors = w.descriptors;
+      first = first_bytes (alone w).units;
+      framing = framing;
+      units = counted_units (moved (own_base w) None (wire_of w));
+    } in m)) (sym (no_framing (alone w) frames)))

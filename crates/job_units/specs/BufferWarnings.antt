@@ -1,0 +1,77 @@
+-- Warnings about the buffers that are declared of the streams of a job.
+use Rattle.std.specs.Prelude.{ℕ, ◌*◌, ◌/◌, ◌==◌, ◌||◌, ◌++◌, nat_lt, if◌then◌else◌, List, [], ◌∷◌, flat_map, zip, Option, Some, None, is_some, option_map}
+use Rattle.std.specs.Prelude.{option_to_list}
+use Rattle.clock27.specs.Units.{slot_units_at_1bps}
+use Rattle.unit_timing.specs.Shares.{parts}
+use Rattle.unit_timing.specs.declared.multiplexing_buffer.MultiplexingBuffer.{MultiplexingBuffer}
+use Rattle.stream_choice.specs.Frames.{keeps_framing}
+use Rattle.stream_choice.specs.declared.choice.Choice.{Choice}
+use Rattle.stream_coding.specs.Buffers.{buffers_of, given_buffers}
+use Rattle.stream_coding.specs.declared.buffers.PidBuffers.{PidBuffers}
+use Rattle.job_units.specs.declared.declarations.StreamChoice.{StreamChoice}
+use Rattle.job_programs.specs.declared.warning.Warning.{Warning}
+use Rattle.job_programs.specs.declared.warning.Warning.TheVariants as warning
+use Rattle.job_units.specs.Declarations.{MeasuredView, UnitCountsView, said_coding, coding_for}
+
+-- 1. A buffer that a stream says of itself
+
+-- the size of the buffer that a stream says by its first unit, and the one that counts in its place
+abbrev pub said_size : MeasuredView → ℕ
+said_size m = (buffers_of (said_coding m)).main
+
+abbrev pub counted_size : MeasuredView → ℕ
+counted_size m = (buffers_of (coding_for m)).main
+
+-- they differ, and no buffers are asked for
+unfoldable pub header_warning : List PidBuffers → MeasuredView → List Warning
+header_warning given m =
+    if is_some (given_buffers given m.pid) || said_size m == counted_size m then []
+    else warning.HeaderBuffer m.pid (said_size m) m.units.largest (counted_size m) ∷ []
+
+abbrev pub header_warnings : List PidBuffers → List MeasuredView → List Warning
+header_warnings given streams = flat_map (header_warning given) streams
+
+-- 2. A multiplexing buffer that nothing keeps
+
+-- the rate of the packets that a choice asks for, in bits a second
+unfoldable pub asked_rate : Choice → ℕ
+asked_rate c = c.share * slot_units_at_1bps / parts
+
+-- the leak of a multiplexing buffer that a stream has, and does not declare
+unfoldable pub unkept_leak : Option MultiplexingBuffer → Option MultiplexingBuffer → Option ℕ
+unkept_leak None kept = None
+unkept_leak (Some buffer) (Some other) = None
+unkept_leak (Some buffer) None = Some buffer.rbx
+
+unfoldable pub leak_warning : MeasuredView × (UnitCountsView × StreamChoice) → Option Warning
+leak_warning s = option_map (λ leak. warning.Leak s.0.pid (asked_rate s.1.1.choice) leak) (unkept_leak s.1.0.multiplexing s.1.1.multiplexing)
+
+unfoldable pub leak_warnings_of : MeasuredView × (UnitCountsView × StreamChoice) → List Warning
+leak_warnings_of s = option_to_list (leak_warning s)
+
+abbrev pub leak_warnings : List MeasuredView → List UnitCountsView → List StreamChoice → List Warning
+leak_warnings streams all chosen = flat_map leak_warnings_of (zip streams (zip all chosen))
+
+-- 3. Access units that a main buffer does not hold one by one
+
+-- how many a unit has at most, where it has several and the choice does not keep them: they are not declared (`kept_framing`)
+unfoldable pub unkept_frames : UnitCountsView → Choice → Option ℕ
+unkept_frames c choice = elim c.framing [
+  | None ↦ None
+  | Some f ↦ if keeps_framing c.needs f choice.lead choice.share then None else (if nat_lt 1 f.frames then Some f.frames else None)
+]
+
+unfoldable pub frame_warning : MeasuredView × (UnitCountsView × StreamChoice) → Option Warning
+frame_warning s = option_map (warning.Frames s.0.pid) (unkept_frames s.1.0 s.1.1.choice)
+
+unfoldable pub frame_warnings_of : MeasuredView × (UnitCountsView × StreamChoice) → List Warning
+frame_warnings_of s = option_to_list (frame_warning s)
+
+abbrev pub frame_warnings : List MeasuredView → List UnitCountsView → List StreamChoice → List Warning
+frame_warnings streams all chosen = flat_map frame_warnings_of (zip streams (zip all chosen))
+
+-- 4. All of them
+
+abbrev pub buffer_warnings : List PidBuffers → List MeasuredView → List UnitCountsView → List StreamChoice → List Warning
+buffer_warnings given streams all chosen =
+    (header_warnings given streams ++ leak_warnings streams all chosen) ++ frame_warnings streams all chosen

@@ -1,0 +1,257 @@
+-- What a description declares of the streams of a job.
+use Rattle.std.specs.Prelude.{ℕ, ◌+◌, ◌-◌, ◌*◌, ◌/◌, ◌^◌, ◌==◌, ◌&&◌, ◌||◌, min, max, nat_le, nat_lt, Bool, if◌then◌else◌, List, [], ◌∷◌, length, map, find}
+use Rattle.std.specs.Prelude.{zip, sum_by, unwrap_or, ok_or, Option, Some, None, is_some, option_map, option_and_then, Result, Ok}
+use Rattle.std.specs.List.{range_with_len}
+use Rattle.clock27.specs.Units.{slot_units_at_1bps}
+use Rattle.clock27.specs.declared.rate.TheConstants.{LEAST_RATE}
+use Rattle.pes_packet.specs.AccessUnits.{AccessUnit}
+use Rattle.pes_packet.specs.StreamIds.{greatest_size}
+use Rattle.unit_timing.specs.Shares.{parts}
+use Rattle.unit_timing.specs.declared.framing.Framing.{Framing}
+use Rattle.unit_timing.specs.declared.multiplexing_buffer.MultiplexingBuffer.{MultiplexingBuffer}
+use Rattle.stream_choice.specs.Choices.{groups_choice, preferred}
+use Rattle.stream_choice.specs.Frames.{keeps_framing}
+use Rattle.stream_choice.specs.Paces.{pace_choice}
+use Rattle.stream_choice.specs.Ranges.{is_needs, are_max_packets}
+use Rattle.stream_choice.specs.Shares.{delay_before, leaking_needs, least_share}
+use Rattle.stream_choice.specs.declared.choice.Choice.{Choice}
+use Rattle.stream_choice.specs.declared.needs.Needs.{Needs}
+use Rattle.stream_coding.specs.Buffers.{buffers_of, coding_holding, given_buffers, multiplexing_of}
+use Rattle.stream_coding.specs.Codings.{coding_of}
+use Rattle.stream_coding.specs.FrameHeaders.{frame_kind}
+use Rattle.stream_coding.specs.Frames.{no_frames, all_frames}
+use Rattle.stream_coding.specs.declared.frames.UnitFrames.{UnitFrames}
+use Rattle.stream_coding.specs.declared.coding.Coding.{Coding}
+use Rattle.stream_coding.specs.declared.buffers.Buffers.{Buffers}
+use Rattle.stream_coding.specs.declared.buffers.PidBuffers.{PidBuffers}
+use Rattle.es_units.specs.UnitRuns.{UnitRunsView, runs_burst}
+use Rattle.es_units.specs.CountedUnits.{CountedUnitsView, counted_units, row_packets}
+use Rattle.es_units.specs.Declaration.{CountedPacketsView}
+use Rattle.job_units.specs.declared.declarations.StreamChoice.{StreamChoice}
+use Rattle.job_programs.specs.declared.refusal.GreaterBuffers.{GreaterBuffers}
+use Rattle.job_programs.specs.declared.refusal.JobRefusal.{JobRefusal}
+use Rattle.job_programs.specs.declared.refusal.JobRefusal.TheVariants as refusals
+use Rattle.given_values.specs.declared.declare_by.DeclareBy.{DeclareBy}
+use Rattle.given_values.specs.declared.declare_by.DeclareBy.TheVariants as by
+use Rattle.job_programs.specs.Answers.{unless, each}
+use Rattle.job_programs.specs.JobStreams.{TimedStreamView}
+
+-- 1. What a description can't hold
+
+unfoldable pub too_many : ℕ → ℕ → Option JobRefusal
+too_many programs streams =
+    if streams == 0 then Some refusals.NoStream
+    else (if nat_lt 16 programs then Some (refusals.Programs programs)
+    else (if nat_lt 32 streams then Some (refusals.Streams streams) else None))
+
+-- the first stream of more units than a multiplexer may hold
+unfoldable pub is_too_long : TimedStreamView → Bool
+is_too_long s = nat_lt 1_048_576 (length s.units)
+
+unfoldable pub units_refusal : TimedStreamView → JobRefusal
+units_refusal s = refusals.Units s.pid (length s.units)
+
+unfoldable pub too_long : List TimedStreamView → Option JobRefusal
+too_long streams = option_map units_refusal (find is_too_long streams)
+
+-- 2. The measures of a stream: what its entry in the program map says, the bytes of its first unit, the access units of its units, and
+-- what is counted of these
+
+pub record MeasuredView : Type 0 where
+  pub pid : ℕ
+  pub stream_id : ℕ
+  pub stream_type : ℕ
+  pub descriptors : List ℕ
+  pub first : List ℕ
+  pub framing : Option Framing
+  pub units : CountedUnitsView
+
+unfoldable pub first_bytes : List AccessUnit → List ℕ
+first_bytes [] = []
+first_bytes (u ∷ us) = u.bytes
+
+-- the access units of a stream's units, if it is sound whose units are whole frames
+unfoldable pub framing_of : UnitFrames → Option Framing
+framing_of c = if nat_le c.count 64 && nat_lt c.time (2 ^ 32) then Some (record { frames = c.count; frame = c.time; frame_size = c.largest }) else None
+
+unfoldable pub framing_for : TimedStreamView → Option Framing
+framing_for s = elim (frame_kind s.stream_type s.descriptors) [
+  | None ↦ None
+  | Some kind ↦ option_and_then framing_of (all_frames kind no_frames (map (λ u. u.bytes) s.units))
+]
+
+unfoldable pub measured : TimedStreamView → MeasuredView
+measured s = record {
+  pid = s.pid;
+  stream_id = s.stream_id;
+  stream_type = s.stream_type;
+  descriptors = s.descriptors;
+  first = first_bytes s.units;
+  framing = framing_for s;
+  units = counted_units s.units;
+}
+
+abbrev pub all_measured : List TimedStreamView → List MeasuredView
+all_measured streams = map measured streams
+
+-- more units than a multiplexer may hold
+unfoldable pub length_refusal : MeasuredView → Option JobRefusal
+length_refusal m = if nat_lt 1_048_576 m.units.count then Some (refusals.Units m.pid m.units.count) else None
+
+-- 3. Buffers: those that are asked for, else those of the coding and what the stream says of them
+
+-- by the first unit
+abbrev pub said_coding : MeasuredView → Coding
+said_coding m = coding_of m.stream_type m.descriptors m.first
+
+-- a buffer that does not hold the greatest one is none that the stream keeps to
+unfoldable pub coding_for : MeasuredView → Coding
+coding_for m = coding_holding m.units.largest (said_coding m)
+
+unfoldable pub buffers_for : List PidBuffers → MeasuredView → Buffers
+buffers_for given m = unwrap_or (given_buffers given m.pid) (buffers_of (coding_for m))
+
+-- the size of MB as it is declared (2.4.2.3): by the standard the bytes of a PES packet header leave MB at no cost of time, with the first byte of
+-- payload after them; here they leave it as payload does. So by the standard MB may hold one header more than is promised of it, of
+-- 19 bytes at most in a job, and room for that is left
+unfoldable pub without_header : MultiplexingBuffer → MultiplexingBuffer
+without_header b = record { rbx = b.rbx; size = if nat_lt 19 b.size then b.size - 19 else b.size }
+
+-- MB of video; there is none beside buffers that are asked for, which are one main buffer
+unfoldable pub multiplexing_for : List PidBuffers → MeasuredView → Option MultiplexingBuffer
+multiplexing_for given m = if is_some (given_buffers given m.pid) then None else option_map without_header (multiplexing_of (coding_for m))
+
+-- 4. What is counted of a stream's units: what they need, and the greatest number of packets of 1, 2, .. of them in a row
+
+pub record UnitCountsView : Type 0 where
+  pub needs : Needs
+  pub multiplexing : Option MultiplexingBuffer
+  pub framing : Option Framing
+  pub max_group_packets : List ℕ
+
+unfoldable pub needs_of : List PidBuffers → MeasuredView → Needs
+needs_of given m = record {
+  interval = m.units.interval;
+  size = m.units.largest;
+  rx = (buffers_for given m).rx;
+  main = (buffers_for given m).main;
+}
+
+-- of groups of up to 64 units, as numbers of 32 bits
+unfoldable pub packets_of_group : CountedPacketsView → ℕ → ℕ
+packets_of_group packets group = min (row_packets group packets) (2 ^ 32 - 1)
+
+unfoldable pub max_group_packets : MeasuredView → List ℕ
+max_group_packets m = map (λ before. packets_of_group m.units.packets (before + 1)) (range_with_len 0 (min m.units.count 64))
+
+unfoldable pub size_refusal : MeasuredView → Option JobRefusal
+size_refusal m = if nat_lt (greatest_size m.stream_id) m.units.largest then Some (refusals.Size m.pid m.units.largest) else None
+
+unfoldable pub unit_counts : List PidBuffers → MeasuredView → Result UnitCountsView JobRefusal
+unit_counts given m =
+    unless (size_refusal m)
+    (Ok (record { needs = needs_of given m; multiplexing = multiplexing_for given m; framing = m.framing; max_group_packets = max_group_packets m }))
+
+abbrev pub all_unit_counts : List PidBuffers → List MeasuredView → Result (List UnitCountsView) JobRefusal
+all_unit_counts given streams = each (unit_counts given) streams
+
+-- 5. What each stream declares: the best of what is tried
+
+-- a group and a lead can be looked for
+unfoldable pub is_countable : Needs → List ℕ → Bool
+is_countable needs max_group_packets = is_needs needs && are_max_packets max_group_packets
+
+unfoldable pub share_of : UnitCountsView → ℕ
+share_of c = if is_countable c.needs c.max_group_packets then least_share c.needs c.max_group_packets else 0
+
+-- the share of an output of the least rate, in whole parts
+abbrev pub least_output : ℕ
+least_output = parts * LEAST_RATE / slot_units_at_1bps
+
+-- the least share of the multiplex that all take together by groups, as a number of 64 bits, and no less than that
+unfoldable pub shares_of : List UnitCountsView → ℕ
+shares_of all = max (min (sum_by share_of all) (2 ^ 64 - 1)) least_output
+
+-- by groups, and by pace; with a multiplexing buffer it is the leak that drains
+unfoldable pub groups_of : ℕ → ℕ → Option MultiplexingBuffer → UnitCountsView → Option Choice
+groups_of lead sum buffer c =
+    if is_countable (leaking_needs buffer c.needs) c.max_group_packets
+    then groups_choice (leaking_needs buffer c.needs) c.max_group_packets (delay_before buffer (leaking_needs buffer c.needs) sum) (min lead 90_000)
+    else None
+
+-- by groups, where that is asked for
+unfoldable pub asked_groups : DeclareBy → ℕ → ℕ → Option MultiplexingBuffer → UnitCountsView → Option Choice
+asked_groups by.Pace lead sum buffer c = None
+asked_groups by.Groups lead sum buffer c = groups_of lead sum buffer c
+asked_groups by.Either lead sum buffer c = groups_of lead sum buffer c
+
+-- the burst of units at a pace, as a number of 64 bits
+abbrev pub burst_of : UnitRunsView → ℕ → ℕ
+burst_of units pace = min (runs_burst pace units) (2 ^ 64 - 1)
+
+unfoldable pub pace_of : ℕ → ℕ → Option MultiplexingBuffer → UnitRunsView → UnitCountsView → Option Choice
+pace_of lead sum buffer units c =
+    if is_needs (leaking_needs buffer c.needs)
+    then pace_choice (leaking_needs buffer c.needs) (burst_of units) (delay_before buffer (leaking_needs buffer c.needs) sum) (min lead 90_000)
+    else None
+
+-- the one that is asked for, else the preferred of both
+abbrev pub choice_of : DeclareBy → ℕ → ℕ → Option MultiplexingBuffer → UnitRunsView → UnitCountsView → Option Choice
+choice_of by.Groups lead sum buffer units c = groups_of lead sum buffer c
+choice_of by.Pace lead sum buffer units c = pace_of lead sum buffer units c
+choice_of by.Either lead sum buffer units c = preferred (groups_of lead sum buffer c) (pace_of lead sum buffer units c)
+
+-- it, with the multiplexing buffer that it keeps
+abbrev pub kept : DeclareBy → ℕ → ℕ → Option MultiplexingBuffer → UnitRunsView → UnitCountsView → Option StreamChoice
+kept declare_by lead sum buffer units c =
+    option_map (λ choice. record { choice = choice; multiplexing = buffer }) (choice_of declare_by lead sum buffer units c)
+
+unfoldable pub first_kept : Option StreamChoice → Option StreamChoice → Option StreamChoice
+first_kept (Some choice) other = Some choice
+first_kept None other = other
+
+-- something lets its units into one main buffer
+unfoldable pub is_declared : DeclareBy → ℕ → ℕ → UnitRunsView → UnitCountsView → Bool
+is_declared by.Groups lead sum units c = is_some (groups_of lead sum None c)
+is_declared by.Pace lead sum units c = is_some (pace_of lead sum None units c)
+is_declared by.Either lead sum units c = is_some (pace_of lead sum None units c) || is_some (groups_of lead sum None c)
+
+-- with these buffers in place of the stream's
+abbrev pub greater_needs : GreaterBuffers → Needs → Needs
+greater_needs b n = record { interval = n.interval; size = n.size; rx = b.rx; main = b.main }
+
+unfoldable pub with_buffers : GreaterBuffers → UnitCountsView → UnitCountsView
+with_buffers b c = record { needs = greater_needs b c.needs; multiplexing = None; framing = None; max_group_packets = c.max_group_packets }
+
+-- the buffers that are tried, and the first of these into which something lets its units
+abbrev pub small_buffers : GreaterBuffers
+small_buffers = record { rx = 8_000_000; main = 65_536 }
+
+abbrev pub medium_buffers : GreaterBuffers
+medium_buffers = record { rx = 40_000_000; main = 1_000_000 }
+
+abbrev pub large_buffers : GreaterBuffers
+large_buffers = record { rx = 200_000_000; main = 10_000_000 }
+
+unfoldable pub way_out : DeclareBy → ℕ → ℕ → UnitRunsView → UnitCountsView → Option GreaterBuffers
+way_out declare_by lead sum units c =
+    if is_declared declare_by lead sum units (with_buffers small_buffers c) then Some small_buffers
+    else (if is_declared declare_by lead sum units (with_buffers medium_buffers c) then Some medium_buffers
+    else (if is_declared declare_by lead sum units (with_buffers large_buffers c) then Some large_buffers else None))
+
+unfoldable pub buffers_refusal : DeclareBy → ℕ → ℕ → MeasuredView → UnitCountsView → JobRefusal
+buffers_refusal declare_by lead sum m c = refusals.Buffers m.pid c.needs.size c.needs.rx c.needs.main (way_out declare_by lead sum m.units.runs c)
+
+-- with the stream's multiplexing buffer, if a choice keeps it; else with one main buffer. A stream of its level's greatest rate is of the
+-- second kind: its packets come faster than the leak by their headers, which the leak is counted with here
+unfoldable pub chosen : DeclareBy → ℕ → ℕ → MeasuredView × UnitCountsView → Result StreamChoice JobRefusal
+chosen declare_by lead sum s =
+    ok_or (first_kept (kept declare_by lead sum s.1.multiplexing s.0.units.runs s.1) (kept declare_by lead sum None s.0.units.runs s.1))
+    (buffers_refusal declare_by lead sum s.0 s.1)
+
+unfoldable pub choices : DeclareBy → ℕ → List MeasuredView → List UnitCountsView → Result (List StreamChoice) JobRefusal
+choices declare_by lead streams all = each (chosen declare_by lead (shares_of all)) (zip streams all)
+
+-- the access units that a stream declares: none if its choice does not keep them, so that no stream is refused for them
+unfoldable pub kept_framing : UnitCountsView → Choice → Option Framing
+kept_framing c choice = elim c.framing [ None ↦ None | Some f ↦ if keeps_framing c.needs f choice.lead choice.share then Some f else None ]

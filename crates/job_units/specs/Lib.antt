@@ -1,0 +1,6 @@
+pub mod Moments
+pub mod Declarations
+pub mod OddStreams
+pub mod WireStreams
+pub mod BufferWarnings
+pub mod TakenStreams

@@ -1,0 +1,141 @@
+-- The streams of a job, their units with the stamps on the wire.
+use Rattle.std.specs.Prelude.{ℕ, Bool, true, false, is_some, if◌then◌else◌, List, [], ◌∷◌, slice_get, filter, flat_map, ok_or, Option, Some, None, option_map}
+use Rattle.std.specs.Prelude.{option_and_then, option_to_list, Result, Ok, Err}
+use Rattle.std.specs.List.{list_any}
+use Rattle.demux.specs.Views.{FindingView}
+use Rattle.stream_coding.specs.Codings.{is_ac3}
+use Rattle.stream_programs.specs.Streams.{FoundStreamView}
+use Rattle.es_units.specs.ApartUnits.{apart_units}
+use Rattle.es_units.specs.CarriedUnits.{CarriedUnit, carried_units}
+use Rattle.es_units.specs.MadeDts.{dts_fault, made_units, pts_of}
+use Rattle.es_units.specs.StreamIds.{first_other_at, written_id}
+use Rattle.es_units.specs.UnitWarnings.{unit_warnings}
+use Rattle.es_units.specs.declared.unit_warning.UnitWarning.{UnitWarning}
+use Rattle.es_units.specs.declared.unit_warning.UnitWarningCause.{UnitWarningCause}
+use Rattle.es_units.specs.declared.unit_warning.UnitWarningCause.TheVariants as causes
+use Rattle.job_programs.specs.declared.refusal.JobRefusal.{JobRefusal}
+use Rattle.job_programs.specs.declared.refusal.JobRefusal.TheVariants as refusals
+use Rattle.job_programs.specs.declared.warning.Warning.{Warning}
+use Rattle.job_programs.specs.declared.warning.Warning.TheVariants as warnings
+use Rattle.job_programs.specs.Answers.{and_then, unless}
+use Rattle.job_units.specs.OddStreams.{odd_stream}
+use Rattle.job_programs.specs.Warnings.{pid_warnings}
+use Rattle.job_programs.specs.JobOptions.{JobOptionsView, is_selected_stream}
+use Rattle.job_programs.specs.JobStreams.{WireStreamView}
+
+-- 1. The stream_id: that of the first unit, if all have it
+
+unfoldable pub other_id_refusal : ℕ → ℕ → List CarriedUnit → Option JobRefusal
+other_id_refusal pid first units =
+    option_map (λ u. refusals.OtherStreamId u.packet pid u.stream_id first) (option_and_then (slice_get units) (first_other_at first 0 units))
+
+-- of a stream whose stream_id can be written
+unfoldable pub id_of : Bool → CarriedUnit → Result ℕ JobRefusal
+id_of ac3 u = ok_or (written_id u.stream_id ac3) refusals.NoStream
+
+unfoldable pub common_id : ℕ → Bool → List CarriedUnit → Result ℕ JobRefusal
+common_id pid ac3 [] = Err refusals.NoStream
+common_id pid ac3 (u ∷ us) = unless (other_id_refusal pid u.stream_id (u ∷ us)) (id_of ac3 u)
+
+-- 2. The stamps: those of the stream, where units of a data stream that are due at one moment have DTS of their own; or DTS that are made from
+-- PTS
+
+unfoldable pub dts_refusal : ℕ → List CarriedUnit → Option JobRefusal
+dts_refusal pid units = option_map (refusals.Dts pid) (dts_fault (pts_of units))
+
+unfoldable pub with_stamps : Bool → ℕ → List CarriedUnit → Result (List CarriedUnit) JobRefusal
+with_stamps false pid units = Ok (apart_units units)
+with_stamps true pid units = unless (dts_refusal pid units) (Ok (made_units units))
+
+-- 3. A stream
+
+unfoldable pub with_units : FoundStreamView → ℕ → List CarriedUnit → WireStreamView
+with_units s id units = record {
+  program = s.program;
+  pid = s.pid;
+  stream_type = s.stream_type;
+  stream_id = id;
+  descriptors = s.descriptors;
+  shared_with = s.shared_with;
+  units = units;
+}
+
+-- with these units
+unfoldable pub stream_of : Bool → FoundStreamView → List CarriedUnit → Result WireStreamView JobRefusal
+stream_of made s units =
+    and_then (λ id. and_then (λ us. Ok (with_units s id us)) (with_stamps made s.pid units)) (common_id s.pid (is_ac3 s.stream_type s.descriptors) units)
+
+-- with those of its PID
+unfoldable pub wire_stream : Bool → List FindingView → FoundStreamView → Result WireStreamView JobRefusal
+wire_stream made findings s = stream_of made s (carried_units s.pid findings)
+
+-- 4. All streams of the tables: those that are not to be left out, have units, and a stream_id that can be written, and are not odd
+
+unfoldable pub is_written : FoundStreamView → List CarriedUnit → Bool
+is_written s [] = false
+is_written s (u ∷ us) = is_some (written_id u.stream_id (is_ac3 s.stream_type s.descriptors))
+
+unfoldable pub can_carry : List FindingView → FoundStreamView → Bool
+can_carry findings s = is_written s (carried_units s.pid findings)
+
+-- a stream with its units, if it can be carried
+unfoldable pub stream_if_any : Bool → List FindingView → FoundStreamView → Result (Option WireStreamView) JobRefusal
+stream_if_any made findings s = if can_carry findings s then and_then (λ w. Ok (Some w)) (wire_stream made findings s) else Ok None
+
+abbrev pub selected : List ℕ → List FoundStreamView → List FoundStreamView
+selected without streams = filter (is_selected_stream without) streams
+
+-- it, unless its stream_ids or stamps refuse it, or it is odd
+unfoldable pub unless_odd : Option JobRefusal → WireStreamView → Option WireStreamView
+unless_odd None w = Some w
+unless_odd (Some why) w = None
+
+unfoldable pub kept_stream : JobOptionsView → List FindingView → Result (Option WireStreamView) JobRefusal → Option WireStreamView
+kept_stream options findings (Err why) = None
+kept_stream options findings (Ok None) = None
+kept_stream options findings (Ok (Some w)) = unless_odd (odd_stream options findings w) w
+
+unfoldable pub carried_stream : JobOptionsView → List FindingView → FoundStreamView → List WireStreamView
+carried_stream options findings s = option_to_list (kept_stream options findings (stream_if_any options.make_dts findings s))
+
+-- those that can be
+abbrev pub carried_streams : JobOptionsView → List FindingView → List FoundStreamView → List WireStreamView
+carried_streams options findings streams = flat_map (carried_stream options findings) streams
+
+abbrev pub wire_streams : JobOptionsView → List FindingView → List FoundStreamView → List WireStreamView
+wire_streams options findings streams = carried_streams options findings (selected options.without streams)
+
+-- 5. The warnings about a stream that can't be carried
+
+-- a PES packet that has no PTS, and no unit before it
+unfoldable pub is_unstamped_cause : UnitWarningCause → Bool
+is_unstamped_cause (causes.NoUnitBefore size) = true
+is_unstamped_cause _ = false
+
+unfoldable pub is_unstamped : UnitWarning → Bool
+is_unstamped w = is_unstamped_cause w.cause
+
+-- no PES packet comes on the PID, or none that has a PTS: then something is lost
+unfoldable pub no_unit_warning : ℕ → ℕ → List UnitWarning → Warning
+no_unit_warning program pid found = if list_any is_unstamped found then warnings.LeftOut pid (refusals.NoStamps pid) else warnings.NoUnit program pid
+
+-- it has no unit, or a stream_id that can't be written
+unfoldable pub why_not_carried : ℕ → List FindingView → ℕ → ℕ → List CarriedUnit → List Warning
+why_not_carried count findings program pid [] = no_unit_warning program pid (unit_warnings pid count findings) ∷ pid_warnings count findings pid
+why_not_carried count findings program pid (u ∷ us) = warnings.StreamId program pid u.packet u.stream_id ∷ []
+
+-- or it is left out for a reason
+unfoldable pub left_out_for : ℕ → Option JobRefusal → List Warning
+left_out_for pid None = []
+left_out_for pid (Some why) = warnings.LeftOut pid why ∷ []
+
+unfoldable pub warnings_by : JobOptionsView → ℕ → List FindingView → FoundStreamView → Result (Option WireStreamView) JobRefusal → List Warning
+warnings_by options count findings s (Err why) = left_out_for s.pid (Some why)
+warnings_by options count findings s (Ok None) = why_not_carried count findings s.program s.pid (carried_units s.pid findings)
+warnings_by options count findings s (Ok (Some w)) = left_out_for s.pid (odd_stream options findings w)
+
+unfoldable pub left_out_warnings : JobOptionsView → ℕ → List FindingView → FoundStreamView → List Warning
+left_out_warnings options count findings s = warnings_by options count findings s (stream_if_any options.make_dts findings s)
+
+abbrev pub all_left_out_warnings : JobOptionsView → ℕ → List FindingView → List FoundStreamView → List Warning
+all_left_out_warnings options count findings streams = flat_map (left_out_warnings options count findings) (selected options.without streams)

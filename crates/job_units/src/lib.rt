@@ -1,0 +1,30 @@
+//! Units of a job's streams, and what is declared of them.
+//!
+//! `wire_streams::wire_streams` returns the streams with units that a job can carry (`specs/WireStreams`,
+//! `specs/OddStreams`), `moved_streams::moved_streams` their moments (`specs/Moments`), and
+//! `timed_streams::timed_streams` moves the bytes of the units out of the findings (`specs/TakenStreams`).
+//! `declarations::count_units` and `choices::choices` return what a description declares of them
+//! (`specs/Declarations`), `buffer_warnings::push_buffer_warnings` appends the warnings about their buffers
+//! (`specs/BufferWarnings`).
+#![tactic(auto)]
+
+// Units as on the wire.
+mod odd_streams;
+pub mod wire_streams;
+
+// Units at moments of a run.
+pub mod moved_streams;
+pub mod pts_limit;
+pub mod timed_streams;
+
+// What is declared of them.
+mod alike;
+pub mod buffer_warnings;
+pub mod choices;
+pub mod declarations;
+mod greater_buffers;
+pub mod stream_measures;
+
+pub use declarations::{StreamChoice, UnitCounts};
+pub use moved_streams::FirstDts;
+pub use stream_measures::StreamMeasures;

@@ -1,0 +1,169 @@
+//! The measures of streams: what is said and counted of them, without the bytes of their units.
+
+ghost use Rattle.std.specs.Prelude.{◌≡◌, map, IfOk, None};
+ghost use Rattle.es_units.specs.Stamps.{moved};
+ghost use Rattle.es_units.specs.UnitMoments.{moment_of};
+ghost use Rattle.stream_coding.specs.Frames.{no_frames, all_frames};
+ghost use Rattle.stream_coding.specs.FrameHeaders.{frame_kind};
+ghost use Rattle.job_units.specs.Declarations as spec;
+ghost use Rattle.job_units.specs.Moments.{wire_of};
+ghost use Rattle.job_units.specs.OddStreams.{alone, first_carried, own_base};
+
+use es_units::{CountedUnits, UnitMoment};
+use job_programs::{TimedStream, WireStream};
+use pes_packet::Unit;
+use std::alloc::{AllocError, Global};
+use std::marker::Model;
+use stream_coding::{FrameKind, UnitFrames, frame_kind, unit_frames};
+use unit_timing::framing::Framing;
+
+/// The measures of a stream: what its entry in the program map says, the bytes of its first unit, the access units of a
+/// stream of sound whose units are whole frames, and what is counted of its units.
+#[derive(Drop)]
+pub struct StreamMeasures {
+    pub pid: u16,
+    pub stream_id: u8,
+    pub stream_type: u8,
+    pub descriptors: Vec<u8>,
+    pub first: Vec<u8>,
+    pub framing: Option<Framing>,
+    pub units: CountedUnits,
+}
+
+// A contract sees its bytes as lists.
+impl Model for StreamMeasures {
+    ghost use Rattle.job_units.specs.Declarations.{MeasuredView};
+
+    ghost Value = { MeasuredView };
+
+    ghost view = { λ m. record {
+      pid = m.pid;
+      stream_id = m.stream_id;
+      stream_type = m.stream_type;
+      descriptors = m.descriptors.items;
+      first = m.first.items;
+      framing = m.framing;
+      units = m.units;
+    } };
+}
+
+// The access units of a unit as a description declares them.
+#[tactic(auto, unfolding(crate::specs::Declarations::framing_of))]
+fn framing_of(frames: UnitFrames) -> Option<Framing>
+    ensures { result ≡ spec.framing_of frames }
+{
+    if frames.count <= 64 && frames.time < 1 << 32 {
+        Some(Framing {
+            frames: frames.count as u8,
+            frame: frames.time as u32,
+            frame_size: frames.largest,
+        })
+    } else {
+        None
+    }
+}
+
+// The frames of all units; none if a unit is not whole frames.
+fn all_frames(kind: FrameKind, units: &[Unit]) -> Option<UnitFrames>
+    ensures { result ≡ all_frames kind no_frames (map (λ u. u.bytes) units.now) }
+{
+    let mut frames = UnitFrames::none();
+    let mut left = units;
+    while let Some((unit, later)) = left.split_first() {
+        let others = unit_frames(kind, unit.bytes.as_slice())?;
+        frames = frames.joined(others);
+        left = later;
+    }
+    Some(frames)
+}
+
+// The access units of a stream's units, if it is sound whose units are whole frames.
+#[tactic(auto, unfolding(crate::specs::Declarations::framing_for))]
+fn framing_for(stream: &TimedStream) -> Option<Framing>
+    ensures { result ≡ spec.framing_for stream.now }
+{
+    let kind = frame_kind(stream.stream_type, &stream.descriptors)?;
+    framing_of(all_frames(kind, &stream.units)?)
+}
+
+// The bytes of the first unit.
+#[tactic(auto, unfolding(crate::specs::Declarations::first_bytes))]
+fn first_bytes(stream: &TimedStream) -> &[u8]
+    ensures { result.now ≡ spec.first_bytes stream.now.units }
+{
+    match stream.units.first() {
+        Some(unit) => unit.bytes.as_slice(),
+        None => &[],
+    }
+}
+
+/// Returns the measures of a stream.
+#[tactic(auto, unfolding(crate::specs::Declarations::measured))]
+pub(crate) fn measured(alloc: Global, stream: &TimedStream) -> Result<StreamMeasures, AllocError>
+    ensures { IfOk result (λ m. m ≡ spec.measured stream.now) }
+{
+    let units = CountedUnits::of_units(alloc, &stream.units)?;
+    let descriptors = Vec::from_slice(alloc, &stream.descriptors)?;
+    let first = Vec::from_slice(alloc, first_bytes(stream))?;
+    Ok(StreamMeasures {
+        pid: stream.pid,
+        stream_id: stream.stream_id,
+        stream_type: stream.stream_type,
+        descriptors,
+        first,
+        framing: framing_for(stream),
+        units,
+    })
+}
+
+/// Returns the measures of all streams.
+pub fn all_measured(
+    alloc: Global,
+    streams: &[TimedStream],
+) -> Result<Vec<StreamMeasures>, AllocError>
+    ensures { IfOk result (λ all. all.items ≡ spec.all_measured streams.now) }
+{
+    let mut all = Vec::with_capacity(alloc, streams.len())?;
+    for stream in streams {
+        all.push(measured(alloc, stream)?)?;
+    }
+    Ok(all)
+}
+
+// A copy of the bytes of the first unit.
+#[tactic(auto, unfolding(crate::specs::OddStreams::first_carried))]
+fn first_copy(alloc: Global, stream: &WireStream<'_>) -> Result<Vec<u8>, AllocError>
+    ensures { IfOk result (λ bytes. bytes.items ≡ first_carried stream.now.units) }
+{
+    let Some(unit) = stream.units.first() else {
+        return Ok(Vec::new(alloc));
+    };
+    let mut bytes = Vec::from_slice(alloc, unit.bytes.body)?;
+    bytes.extend_from_slice(&unit.bytes.more)?;
+    Ok(bytes)
+}
+
+/// Returns the measures of a stream without frames of sound at these moments, the first unit due at once. The bytes of
+/// its units stay where they are found.
+pub(crate) fn found_measured(
+    alloc: Global,
+    stream: &WireStream<'_>,
+    moments: &[UnitMoment],
+) -> Result<StreamMeasures, AllocError>
+    requires moments { moments.now ≡ map moment_of (moved (own_base stream.now) None (wire_of stream.now)) }
+    requires frames { frame_kind stream.now.stream_type stream.now.descriptors ≡ None }
+    ensures { IfOk result (λ m. m ≡ spec.measured (alone stream.now)) }
+{
+    let units = CountedUnits::of_found(alloc, moments, &stream.units)?;
+    let descriptors = Vec::from_slice(alloc, &stream.descriptors)?;
+    let first = first_copy(alloc, stream)?;
+    Ok(StreamMeasures {
+        pid: stream.pid,
+        stream_id: stream.stream_id,
+        stream_type: stream.stream_type,
+        descriptors,
+        first,
+        framing: None,
+        units,
+    })
+}

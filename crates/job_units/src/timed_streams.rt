@@ -1,0 +1,85 @@
+//! The units of streams, moved out of the findings.
+
+ghost use Rattle.std.specs.Prelude.{◌≡◌, IfOk, map};
+ghost use Rattle.demux.specs.Shown.{finding_view};
+ghost use Rattle.job_units.specs.Moments as spec;
+ghost use Rattle.job_units.specs.TakenStreams.{StayCarried};
+ghost use Rattle.es_units.specs.CarriedUnits.{carried_units};
+
+use demux::Finding;
+use es_units::{WireUnit, carried_units, taken_units, units_at};
+use job_programs::job_options::is_among;
+use job_programs::{StreamMoments, TimedStream};
+use std::alloc::{AllocError, Global};
+use std::collections::VecDeque;
+
+// The units of a PID: moved out of the findings, or copied where a later stream is of it too.
+#[tactic(auto, using(crate::proofs::TakenStreams::stay_same, crate::proofs::TakenStreams::stay_taken))]
+fn units_of(
+    alloc: Global,
+    pid: u16,
+    later: &[u16],
+    findings: &mut [Finding<'_>],
+) -> Result<Vec<WireUnit>, AllocError>
+    ensures units { IfOk result (λ units. units.items ≡ carried_units pid (map finding_view findings.old)) }
+    ensures others { IfOk result (λ units. StayCarried later.now (map finding_view findings.old)
+        (map finding_view findings.new)) }
+{
+    if is_among(pid, later) {
+        carried_units(alloc, pid, findings)
+    } else {
+        taken_units(alloc, pid, findings)
+    }
+}
+
+// A stream with its units.
+#[tactic(auto, unfolding(crate::specs::Moments::with_units))]
+fn timed_stream(
+    alloc: Global,
+    stream: StreamMoments,
+    units: Vec<WireUnit>,
+) -> Result<TimedStream, AllocError>
+    ensures { IfOk result (λ t. t ≡ spec.with_units stream units.items) }
+{
+    let units = units_at(alloc, &stream.units, units)?;
+    Ok(TimedStream {
+        program: stream.program,
+        pid: stream.pid,
+        stream_type: stream.stream_type,
+        stream_id: stream.stream_id,
+        descriptors: stream.descriptors,
+        shared_with: stream.shared_with,
+        units,
+    })
+}
+
+// The PIDs of streams.
+fn pids_of(alloc: Global, streams: &[StreamMoments]) -> Result<Vec<u16>, AllocError>
+    ensures { IfOk result (λ pids. pids.items ≡ map (λ s. s.pid) streams.now) }
+{
+    streams.iter().map(|stream| stream.pid).collect(alloc)
+}
+
+/// Returns the streams with their units at their moments. The bodies of these are moved out of the findings.
+pub fn timed_streams(
+    alloc: Global,
+    streams: Vec<StreamMoments>,
+    findings: &mut [Finding<'_>],
+) -> Result<Vec<TimedStream>, AllocError>
+    ensures { IfOk result (λ timed. timed.items
+        ≡ map (spec.timed_stream (map finding_view findings.old)) streams.items) }
+{
+    let pids = pids_of(alloc, &streams)?;
+    let mut timed = Vec::with_capacity(alloc, streams.len())?;
+    let mut left = VecDeque::from(streams);
+    let mut later = pids.as_slice();
+    'streams: while let Some(next) = left.pop_front() {
+        let Some((pid, rest)) = later.split_first() else {
+            return Err(AllocError);
+        };
+        let units = units_of(alloc, *pid, rest, findings)?;
+        timed.push(timed_stream(alloc, next, units)?)?;
+        later = rest;
+    }
+    Ok(timed)
+}

@@ -1,0 +1,349 @@
+//! The streams of a transport stream, their units with the stamps on the wire.
+
+ghost use Rattle.std.specs.Prelude.{◌≡◌, ◌++◌, IfOk, IfErr, OnOk, Ok, All, flat_map, map, option_to_list};
+ghost use Rattle.std.specs.List.{list_any};
+ghost use Rattle.demux.specs.Shown.{finding_view};
+ghost use Rattle.job_programs.specs.Answers.{Answers, Refuses};
+ghost use Rattle.job_units.specs.OddStreams.{odd_stream};
+ghost use Rattle.job_units.specs.WireStreams as spec;
+ghost use Rattle.job_programs.specs.JobOptions.{is_selected_stream};
+ghost use Rattle.es_units.specs.CarriedUnits.{carried_units};
+ghost use Rattle.job_programs.specs.FoundUnits.{IsCarried};
+
+use crate::odd_streams::odd_stream;
+use demux::Finding;
+use es_units::{
+    DtsError, FoundUnit, UnitWarning, UnitWarningCause, apart_units, first_other, found_units,
+    unit_warnings, units_with_made_dts, written_id,
+};
+use job_programs::job_options::is_among;
+use job_programs::warnings::push_pid_warnings;
+use job_programs::{JobError, JobOptions, JobRefusal, Warning, WireStream};
+use std::alloc::{AllocError, Global};
+use stream_coding::is_ac3;
+use stream_programs::FoundStream;
+
+// The refusal of the first unit of another stream_id.
+#[tactic(auto, unfolding(crate::specs::WireStreams::other_id_refusal))]
+fn other_id_refusal(pid: u16, first: u8, units: &[FoundUnit<'_>]) -> Option<JobRefusal>
+    ensures { result ≡ spec.other_id_refusal pid first units.now }
+{
+    let at = first_other(first, units)?;
+    let unit = units.get(at)?;
+    Some(JobRefusal::OtherStreamId {
+        packet: unit.packet,
+        pid,
+        id: unit.stream_id,
+        first,
+    })
+}
+
+// The stream_id that is written for that of the first unit.
+#[tactic(auto, unfolding(crate::specs::WireStreams::id_of))]
+fn id_of(is_ac3: bool, first: &FoundUnit<'_>) -> Result<u8, JobRefusal>
+    ensures { result ≡ spec.id_of is_ac3 first.now }
+{
+    match written_id(first.stream_id, is_ac3) {
+        Some(id) => Ok(id),
+        None => Err(JobRefusal::NoStream),
+    }
+}
+
+// The stream_id that is written for all of these units.
+#[tactic(auto, unfolding(crate::specs::WireStreams::common_id, job_programs::specs::Answers::unless))]
+fn common_id(pid: u16, is_ac3: bool, units: &[FoundUnit<'_>]) -> Result<u8, JobRefusal>
+    ensures { result ≡ spec.common_id pid is_ac3 units.now }
+{
+    let Some((first, _)) = units.split_first() else {
+        return Err(JobRefusal::NoStream);
+    };
+    match other_id_refusal(pid, first.stream_id, units) {
+        Some(refusal) => Err(refusal),
+        None => id_of(is_ac3, first),
+    }
+}
+
+// The units, each of a data stream with a DTS of its own; with DTS that are made from their PTS if `make_dts`.
+#[tactic(auto, unfolding(crate::specs::WireStreams::with_stamps, crate::specs::WireStreams::dts_refusal, job_programs::specs::Answers::unless, job_programs::specs::Answers::Refuses))]
+fn with_stamps<'f>(
+    alloc: Global,
+    make_dts: bool,
+    pid: u16,
+    units: Vec<FoundUnit<'f>>,
+) -> Result<Vec<FoundUnit<'f>>, JobError>
+    ensures value { IfOk result (λ with_stamps. spec.with_stamps make_dts pid units.entry.items
+        ≡ Ok with_stamps.items) }
+    ensures refused { IfErr result (Refuses (spec.with_stamps make_dts pid units.entry.items)) }
+{
+    if !make_dts {
+        return Ok(apart_units(alloc, units)?);
+    }
+    match units_with_made_dts(alloc, units) {
+        Ok(made) => Ok(made),
+        Err(DtsError::Fault(fault)) => Err(JobError::Refused(JobRefusal::Dts { pid, fault })),
+        Err(DtsError::Memory) => Err(JobError::Memory),
+    }
+}
+
+// A stream with its units.
+#[tactic(auto, unfolding(crate::specs::WireStreams::stream_of, crate::specs::WireStreams::with_units, job_programs::specs::Answers::and_then, job_programs::specs::Answers::Answers, job_programs::specs::Answers::Refuses))]
+fn stream_of<'f>(
+    alloc: Global,
+    make_dts: bool,
+    stream: FoundStream,
+    units: Vec<FoundUnit<'f>>,
+) -> Result<WireStream<'f>, JobError>
+    ensures { Answers (spec.stream_of make_dts stream units.entry.items) result }
+{
+    let is_ac3 = is_ac3(stream.stream_type, &stream.descriptors);
+    let stream_id = common_id(stream.pid, is_ac3, &units)?;
+    let units = with_stamps(alloc, make_dts, stream.pid, units)?;
+    Ok(WireStream {
+        program: stream.program,
+        pid: stream.pid,
+        stream_type: stream.stream_type,
+        stream_id,
+        descriptors: stream.descriptors,
+        shared_with: stream.shared_with,
+        units,
+    })
+}
+
+// Whether a stream with these units can be carried: there are any, and their stream_id can be written.
+#[tactic(auto, unfolding(crate::specs::WireStreams::is_written))]
+fn is_written(stream: &FoundStream, units: &[FoundUnit<'_>]) -> bool
+    ensures { result ≡ spec.is_written stream.now units.now }
+{
+    let Some((first, _)) = units.split_first() else {
+        return false;
+    };
+    let is_ac3 = is_ac3(stream.stream_type, &stream.descriptors);
+    written_id(first.stream_id, is_ac3).is_some()
+}
+
+// A stream with the units of its PID, if it can be carried.
+#[tactic(auto, unfolding(crate::specs::WireStreams::stream_if_any, crate::specs::WireStreams::can_carry, crate::specs::WireStreams::wire_stream, job_programs::specs::Answers::and_then, job_programs::specs::Answers::Answers, job_programs::specs::Answers::Refuses))]
+fn stream_if_any<'f>(
+    alloc: Global,
+    make_dts: bool,
+    stream: FoundStream,
+    findings: &'f [Finding<'_>],
+) -> Result<Option<WireStream<'f>>, JobError>
+    ensures { Answers (spec.stream_if_any make_dts (map finding_view findings.now) stream) result }
+{
+    let units = found_units(alloc, stream.pid, findings)?;
+    if !is_written(&stream, &units) {
+        return Ok(None);
+    }
+    Ok(Some(stream_of(alloc, make_dts, stream, units)?))
+}
+
+/// Returns whether a stream is selected: the options do not leave it out.
+#[tactic(auto, unfolding(job_programs::specs::JobOptions::is_selected_stream))]
+pub fn is_selected_stream(without: &[u16], stream: &FoundStream) -> bool
+    ensures { result ≡ is_selected_stream without.now stream.now }
+{
+    !is_among(stream.pid, without)
+}
+
+// Whether it is about a PES packet that has no PTS, and no unit before it.
+#[tactic(auto, unfolding(crate::specs::WireStreams::is_unstamped, crate::specs::WireStreams::is_unstamped_cause))]
+fn is_unstamped(warning: &UnitWarning) -> bool
+    ensures { result ≡ spec.is_unstamped warning.now }
+{
+    match warning.cause {
+        UnitWarningCause::NoUnitBefore(_) => true,
+        _ => false,
+    }
+}
+
+// Whether one of these is such a warning.
+fn has_unstamped(found: &[UnitWarning]) -> bool
+    ensures { result ≡ list_any spec.is_unstamped found.now }
+{
+    found.iter().any(|warning| is_unstamped(warning))
+}
+
+// The warning about a stream without a unit: no PES packet comes, or none that has a PTS.
+#[tactic(auto, unfolding(crate::specs::WireStreams::no_unit_warning))]
+fn no_unit_warning(program: u16, pid: u16, found: &[UnitWarning]) -> Warning
+    ensures { result ≡ spec.no_unit_warning program pid found.now }
+{
+    if has_unstamped(found) {
+        let why = JobRefusal::NoStamps(pid);
+        Warning::LeftOut { pid, why }
+    } else {
+        Warning::NoUnit { program, pid }
+    }
+}
+
+// Appends the warnings about a stream that can't be carried.
+#[tactic(auto, unfolding(crate::specs::WireStreams::why_not_carried))]
+fn push_empty_stream_warnings(
+    alloc: Global,
+    count: u64,
+    program: u16,
+    pid: u16,
+    findings: &[Finding<'_>],
+    warnings: &mut Vec<Warning>,
+) -> Result<(), AllocError>
+    ensures { OnOk result (warnings.new.items ≡ warnings.old.items
+        ++ spec.why_not_carried count (map finding_view findings.now) program pid
+        (carried_units pid (map finding_view findings.now))) }
+{
+    let units = found_units(alloc, pid, findings)?;
+    match units.first() {
+        Some(first) => {
+            warnings.push(Warning::StreamId {
+                program,
+                pid,
+                packet: first.packet,
+                id: first.stream_id,
+            })?;
+            Ok(())
+        }
+        None => {
+            let found = unit_warnings(alloc, pid, count, findings)?;
+            warnings.push(no_unit_warning(program, pid, &found))?;
+            push_pid_warnings(alloc, pid, count, findings, warnings)
+        }
+    }
+}
+
+// Appends the warning about a stream that is left out for a reason.
+#[tactic(auto, unfolding(crate::specs::WireStreams::left_out_for))]
+fn push_left_out(
+    pid: u16,
+    why: Option<JobRefusal>,
+    warnings: &mut Vec<Warning>,
+) -> Result<(), AllocError>
+    ensures { OnOk result (warnings.new.items ≡ warnings.old.items ++ spec.left_out_for pid why) }
+{
+    let Some(why) = why else {
+        return Ok(());
+    };
+    warnings.push(Warning::LeftOut { pid, why })?;
+    Ok(())
+}
+
+// Appends a stream, unless it is left out for this reason.
+#[tactic(auto, unfolding(crate::specs::WireStreams::unless_odd))]
+fn push_unless<'f>(
+    odd: Option<JobRefusal>,
+    stream: WireStream<'f>,
+    streams: &mut Vec<WireStream<'f>>,
+) -> Result<(), AllocError>
+    ensures { OnOk result (streams.new.items ≡ streams.old.items ++ option_to_list (spec.unless_odd odd stream.entry)) }
+{
+    if odd.is_none() {
+        streams.push(stream)?;
+    }
+    Ok(())
+}
+
+// Appends a stream, if a job can carry it, else the warning about it.
+fn push_unless_odd<'f>(
+    alloc: Global,
+    options: &JobOptions<'_>,
+    pid: u16,
+    stream: WireStream<'f>,
+    findings: &[Finding<'_>],
+    streams: &mut Vec<WireStream<'f>>,
+    warnings: &mut Vec<Warning>,
+) -> Result<(), AllocError>
+    ensures streams { OnOk result (streams.new.items ≡ streams.old.items ++ option_to_list
+        (spec.unless_odd (odd_stream options.now (map finding_view findings.now) stream.entry) stream.entry)) }
+    ensures warnings { OnOk result (warnings.new.items ≡ warnings.old.items
+        ++ spec.left_out_for pid (odd_stream options.now (map finding_view findings.now) stream.entry)) }
+{
+    let odd = odd_stream(alloc, options, &stream, findings)?;
+    push_left_out(pid, odd, warnings)?;
+    push_unless(odd, stream, streams)
+}
+
+// Appends a stream with its units, if it can be carried, else the warnings about it.
+#[tactic(auto, unfolding(crate::specs::WireStreams::carried_stream, crate::specs::WireStreams::kept_stream, crate::specs::WireStreams::left_out_warnings, crate::specs::WireStreams::warnings_by, job_programs::specs::Answers::Answers, job_programs::specs::Answers::Refuses))]
+fn push_stream<'f>(
+    alloc: Global,
+    options: &JobOptions<'_>,
+    count: u64,
+    stream: FoundStream,
+    findings: &'f [Finding<'_>],
+    streams: &mut Vec<WireStream<'f>>,
+    warnings: &mut Vec<Warning>,
+) -> Result<(), AllocError>
+    ensures streams { OnOk result (streams.new.items ≡ streams.old.items
+        ++ spec.carried_stream options.now (map finding_view findings.now) stream) }
+    ensures warnings { OnOk result (warnings.new.items ≡ warnings.old.items
+        ++ spec.left_out_warnings options.now count (map finding_view findings.now) stream) }
+{
+    let (program, pid) = (stream.program, stream.pid);
+    match stream_if_any(alloc, options.make_dts, stream, findings) {
+        Ok(Some(stream)) => {
+            push_unless_odd(alloc, options, pid, stream, findings, streams, warnings)
+        }
+        Ok(None) => push_empty_stream_warnings(alloc, count, program, pid, findings, warnings),
+        Err(JobError::Refused(why)) => push_left_out(pid, Some(why), warnings),
+        Err(JobError::Memory) => Err(AllocError),
+    }
+}
+
+// The streams that can be carried, each with its units, and the warnings about the others.
+fn carried_streams<'f>(
+    alloc: Global,
+    options: &JobOptions<'_>,
+    count: u64,
+    selected: Vec<FoundStream>,
+    findings: &'f [Finding<'_>],
+    warnings: &mut Vec<Warning>,
+) -> Result<Vec<WireStream<'f>>, AllocError>
+    ensures streams { IfOk result (λ streams. streams.items
+        ≡ spec.carried_streams options.now (map finding_view findings.now) selected.items) }
+    ensures warnings { OnOk result (warnings.new.items ≡ warnings.old.items
+        ++ flat_map (spec.left_out_warnings options.now count (map finding_view findings.now)) selected.items) }
+{
+    let mut streams = Vec::new(alloc);
+    for stream in selected {
+        push_stream(
+            alloc,
+            options,
+            count,
+            stream,
+            findings,
+            &mut streams,
+            warnings,
+        )?;
+    }
+    Ok(streams)
+}
+
+// The selected streams.
+fn selected(without: &[u16], found: Vec<FoundStream>) -> Vec<FoundStream>
+    ensures { result.items ≡ spec.selected without.now found.items }
+{
+    let mut selected = found;
+    selected.retain(|stream| is_selected_stream(without, stream));
+    selected
+}
+
+/// Returns the selected streams that have units and a stream_id that can be written, and that a job can carry, each
+/// with its units, and the warnings about the others.
+#[tactic(auto, using(crate::proofs::CarriedStreams::all_carried))]
+pub fn wire_streams<'f>(
+    alloc: Global,
+    options: &JobOptions<'_>,
+    count: u64,
+    found: Vec<FoundStream>,
+    findings: &'f [Finding<'_>],
+    warnings: &mut Vec<Warning>,
+) -> Result<Vec<WireStream<'f>>, AllocError>
+    ensures streams { IfOk result (λ streams. streams.items
+        ≡ spec.wire_streams options.now (map finding_view findings.now) found.items) }
+    ensures warnings { OnOk result (warnings.new.items ≡ warnings.old.items
+        ++ spec.all_left_out_warnings options.now count (map finding_view findings.now) found.items) }
+    ensures carried { IfOk result (λ streams. All (IsCarried options.now.make_dts (map finding_view findings.now))
+        streams.items) }
+{
+    let selected = selected(options.without, found);
+    carried_streams(alloc, options, count, selected, findings, warnings)
+}
