@@ -1,28 +1,41 @@
--- The conditions that fail, one number after another.
-use Rattle.std.specs.Prelude.{map, take}
-use Rattle.std.proofs.Common.{◌≡◌, ℕ, zero, suc, ◌<◌, List, [], ◌∷◌, ◌++◌, length, get_or, slice_get, Some, None, refl, ap, sym, ◌∙◌}
-use Rattle.std.proofs.lemmas.List.{map-append, length-append, take_more}
-use Rattle.std.proofs.lemmas.Option.{get_or_from_slice_get, slice_get_within}
+-- The conditions that fail, one window after another.
+use Rattle.std.specs.Prelude.{map, min, take}
+use Rattle.std.proofs.Common.{◌≡◌, ℕ, ◌+◌, ◌-◌, ◌<◌, ◌≤◌, List, ◌++◌, drop, length, ap, sym, ◌∙◌, arith}
+use Rattle.std.proofs.Math.Seq.{take-add}
+use Rattle.std.proofs.lemmas.List.{length-append, length-drop, length-map, length-take, map-append, take-append-drop, take_all, take_min}
 use Rattle.slot_plan.specs.Entries.{Entry}
 use Rattle.plan_checker.specs.Refusals.{entry_of}
 use Rattle.plan_checker.specs.declared.refusal.Refusal.{Refusal}
 
--- one more is found
-pub one_more : (all : List Entry) (xs : List Refusal) (r : Refusal) → map entry_of xs ≡ take (length xs) all → Some (entry_of r) ≡ slice_get all (length xs) →
-    map entry_of (xs ++ r ∷ []) ≡ take (length (xs ++ r ∷ [])) all
-one_more all xs r so at =
-    let below : length xs < length all = slice_get_within all (length xs) (entry_of r) (sym at) in
-    let here : get_or all (length xs) (entry_of r) ≡ entry_of r = get_or_from_slice_get all (length xs) (entry_of r) (entry_of r) (sym at) in
-    map-append entry_of xs (r ∷ []) ∙ ap (λ (es : List Entry). es ++ entry_of r ∷ []) so
-    ∙ ap (λ (e : Entry). take (length xs) all ++ e ∷ []) (sym here) ∙ sym (take_more all (length xs) (entry_of r) below)
-    ∙ ap (λ (n : ℕ). take n all) (sym (length-append xs (r ∷ [])))
+-- 1. How many a part of a list has
 
--- there is no other
-none_left : (all : List Entry) (n : ℕ) → None ≡ slice_get all n → take n all ≡ all
-none_left [] zero none = refl
-none_left [] (suc n) none = refl
-none_left (e ∷ all) zero none = absurd cc
-none_left (e ∷ all) (suc n) none = ap (λ (es : List Entry). e ∷ es) (none_left all n none)
+counted : (k : ℕ) (es : List Entry) (xs : List Refusal) → map entry_of xs ≡ take k es → length xs ≡ min k (length es)
+counted k es xs so = sym (length-map xs entry_of) ∙ ap length so ∙ length-take k es
 
-pub all_found : (all : List Entry) (xs : List Refusal) → map entry_of xs ≡ take (length xs) all → None ≡ slice_get all (length xs) → map entry_of xs ≡ all
-all_found all xs so none = so ∙ none_left all (length xs) none
+by_count : (k : ℕ) (es : List Entry) (xs : List Refusal) → map entry_of xs ≡ take k es → map entry_of xs ≡ take (length xs) es
+by_count k es xs so = so ∙ sym (take_min k es) ∙ ap (λ (n : ℕ). take n es) (sym (counted k es xs so))
+
+-- 2. A window of k after those that are found
+
+module _ (all : List Entry) (xs more : List Refusal) (so : map entry_of xs ≡ take (length xs) all) (k : ℕ) (next : map entry_of more ≡ take k (drop (length xs) all)) where
+  appended : (ys : List Entry) → map entry_of more ≡ ys → map entry_of (xs ++ more) ≡ take (length xs) all ++ ys
+  appended ys is = map-append entry_of xs more ∙ ap (λ (es : List Entry). es ++ map entry_of more) so ∙ ap (λ (es : List Entry). take (length xs) all ++ es) is
+
+  -- more are found
+  pub more_found : map entry_of (xs ++ more) ≡ take (length (xs ++ more)) all
+  more_found =
+      appended (take (length more) (drop (length xs) all)) (by_count k (drop (length xs) all) more next)
+      ∙ sym (take-add (length xs) (length more) all) ∙ ap (λ (n : ℕ). take n all) (sym (length-append xs more))
+
+  left_over : length more ≡ min k (length all - length xs)
+  left_over = counted k (drop (length xs) all) more next ∙ ap (min k) (length-drop (length xs) all)
+
+  -- a window that is full leaves fewer
+  pub fewer_left : length more ≡ k → 0 < k → length all - length (xs ++ more) < length all - length xs
+  fewer_left full some = let n : length (xs ++ more) ≡ length xs + length more = length-append xs more in rw n (omega (arith, left_over, full, some))
+
+  -- one that is not full is the last
+  pub all_found : length more < k → map entry_of (xs ++ more) ≡ all
+  all_found short =
+      let fit : length (drop (length xs) all) ≤ k = omega (arith, counted k (drop (length xs) all) more next, short) in
+      appended (drop (length xs) all) (next ∙ take_all k (drop (length xs) all) fit) ∙ take-append-drop (length xs) all

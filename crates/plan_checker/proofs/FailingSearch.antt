@@ -1,10 +1,10 @@
--- The search for a condition that fails, through the conditions of a plan in their order.
-use Rattle.std.specs.Prelude.{is_none, is_some, not, option_map}
+-- The search for conditions that fail, through the conditions of a plan in their order.
+use Rattle.std.specs.Prelude.{is_none, is_some, nat_le, not, take}
 use Rattle.std.proofs.Common.{◌≡◌, ℕ, zero, suc, ◌+◌, ◌-◌, ◌<◌, ◌≤◌, ◌==◌, Bool, true, false, cond, List, [], ◌∷◌, ◌++◌, length, drop, get_or, slice_get, Option, Some, None, refl, ap, sym, ◌∙◌, add-one, arith}
 use Rattle.std.proofs.Math.Seq.{drop-cons}
 use Rattle.std.specs.Option.{unwrap_or}
 use Rattle.std.proofs.lemmas.Bool.Decides.{nat_tests}
-use Rattle.std.proofs.lemmas.List.{drop_all}
+use Rattle.std.proofs.lemmas.List.{append-nil, append_assoc, drop_all, length-append}
 use Rattle.std.proofs.lemmas.List.Elements.{filter-append}
 use Rattle.std.proofs.lemmas.Option.{slice_get-get_or, unwrap_or-slice_get}
 use Rattle.description.specs.Described.{Described}
@@ -12,10 +12,8 @@ use Rattle.slot_plan.specs.Entries.{Entry, entry_holds, first_failing}
 use Rattle.slot_plan.specs.Numbered.{numbered}
 use Rattle.slot_plan.specs.Planned.{Planned}
 use Rattle.slot_plan.specs.Conditions.{entries_from, shape_entries, timing_entries}
-use Rattle.plan_checker.specs.Failing.{Search, after, after_failure, after_one, asked_entries, failing, failing_of, fails, search_of, start}
-use Rattle.plan_checker.specs.Refusals.{entry_of}
+use Rattle.plan_checker.specs.Failing.{Search, after, after_failure, after_one, asked_entries, failing, failing_of, fails, is_full, search_of, start}
 use Rattle.plan_checker.specs.declared.failure_search.FailureSearch.{FailureSearch}
-use Rattle.plan_checker.specs.declared.refusal.Refusal.{Refusal}
 
 -- 1. Conditions one after another
 
@@ -74,52 +72,120 @@ counts_on f i n whole s t e lt next =
 pub counts_done : (f : ℕ → Entry) (i n : ℕ) (whole s : Search) → whole ≡ after s (entries_from f (i + 1) (n - i)) → n ≤ i → s ≡ whole
 counts_done f i n whole s e le = let none : n - i ≡ 0 = omega arith in sym (e ∙ ap (λ (k : ℕ). after s (entries_from f (i + 1) k)) none)
 
--- 2. Once the one is found
+-- 2. Once as many are kept as may be
 
-same_either : (b : Bool) (s : Search) → cond b s s ≡ s
-same_either true s = refl
-same_either false s = refl
+full_step : (b f : Bool) (s t : Search) → f ≡ true → cond b s (cond f s t) ≡ s
+full_step true f s t full = refl
+full_step false f s t full = rw full refl
 
-found_stays : (n : ℕ) (f : Entry) (es : List Entry) → after (record { left = n; found = Some f }) es ≡ record { left = n; found = Some f }
-found_stays n f [] = refl
-found_stays n f (e ∷ es) = ap (λ (u : Search). after u es) (same_either (entry_holds e) (record { left = n; found = Some f })) ∙ found_stays n f es
+one_stays : (s : Search) (e : Entry) → is_full s ≡ true → after_one s e ≡ s
+unfolding after_failure
+one_stays s e full = full_step (entry_holds e) (is_full s) s _ full
 
-settled : (n : ℕ) (o : Option Refusal) (es : List Entry) → is_some o ≡ true →
-    after (record { left = n; found = option_map entry_of o }) es ≡ record { left = n; found = option_map entry_of o }
-settled n None es some = absurd cc
-settled n (Some r) es some = found_stays n (entry_of r) es
+full_stays : (s : Search) (es : List Entry) → is_full s ≡ true → after s es ≡ s
+full_stays s [] full = refl
+full_stays s (e ∷ es) full = ap (λ (u : Search). after u es) (one_stays s e full) ∙ full_stays s es full
 
-pub ends_here : (s : FailureSearch) (whole : Search) (es : List Entry) → whole ≡ after (search_of s) es → is_some s.found ≡ true → search_of s ≡ whole
-ends_here s whole es e some = sym (e ∙ settled s.left s.found es some)
+pub ends_here : (s : FailureSearch) (whole : Search) (es : List Entry) → whole ≡ after (search_of s) es → is_full (search_of s) ≡ true → search_of s ≡ whole
+ends_here s whole es e full = sym (e ∙ full_stays (search_of s) es full)
+
+-- how many are kept at most is never changed
+most_step : (b f z : Bool) (s t u : Search) → t.most ≡ s.most → u.most ≡ s.most → (cond b s (cond f s (cond z t u))).most ≡ s.most
+most_step true f z s t u kept passed = refl
+most_step false true z s t u kept passed = refl
+most_step false false true s t u kept passed = kept
+most_step false false false s t u kept passed = passed
+
+most_of_one : (s : Search) (e : Entry) → (after_one s e).most ≡ s.most
+unfolding after_failure
+most_of_one s e = most_step (entry_holds e) (is_full s) (s.left == 0) s _ _ refl refl
+
+most_stays : (s : Search) (es : List Entry) → (after s es).most ≡ s.most
+most_stays s [] = refl
+most_stays s (e ∷ es) = most_stays (after_one s e) es ∙ most_of_one s e
 
 -- 3. What is found
 
-first_step : (b : Bool) (e : Entry) (es : List Entry) → (after (start 0) es).found ≡ first_failing es →
-    (after (cond b (start 0) (after_failure (start 0) e)) es).found ≡ cond b (first_failing es) (Some e)
-first_step true e es same = same
-first_step false e es same = ap (λ (u : Search). u.found) (found_stays 0 e es)
+-- a search that has still to pass n, and keeps at most m: what it keeps after conditions
+abbrev kept_after : (m : ℕ) → List Entry → ℕ → List Entry → List Entry
+kept_after m es n kept = (after (record { left = n; most = m; found = kept }) es).found
 
-pub found_first : (es : List Entry) → (after (start 0) es).found ≡ first_failing es
-found_first [] = refl
-found_first (e ∷ es) = first_step (entry_holds e) e es (found_first es)
+nothing_from : (n k : ℕ) → take k (drop n (failing_of [])) ≡ []
+nothing_from zero zero = refl
+nothing_from zero (suc k) = refl
+nothing_from (suc n) zero = refl
+nothing_from (suc n) (suc k) = refl
 
-number_step : (b : Bool) (n : ℕ) (e : Entry) (es : List Entry) → ((m : ℕ) → (after (start m) es).found ≡ slice_get (failing_of es) m) →
-    (after (cond b (start n) (after_failure (start n) e)) es).found ≡ slice_get (cond (not b) (e ∷ failing_of es) (failing_of es)) n
-number_step true n e es later = later n
-number_step false zero e es later = ap (λ (u : Search). u.found) (found_stays 0 e es)
-number_step false (suc n) e es later =
-    let some : (suc n == 0) ≡ false = grind (arith, nat_tests) in
-    let one : suc n - 1 ≡ n = omega arith in
-    ap (λ (b : Bool). (after (record { left = cond b (suc n) (suc n - 1); found = cond b (Some e) None }) es).found) some
-    ∙ ap (λ (m : ℕ). (after (start m) es).found) one ∙ later n
+module _ (m : ℕ) (e : Entry) (es : List Entry) (later : (n : ℕ) (kept : List Entry) → kept_after m es n kept ≡ kept ++ take (m - length kept) (drop n (failing_of es))) where
+  -- one more is kept
+  one_kept : (kept : List Entry) → length kept < m → kept_after m es 0 (kept ++ e ∷ []) ≡ kept ++ take (m - length kept) (e ∷ failing_of es)
+  one_kept kept lt =
+      let rest : ℕ = m - length (kept ++ e ∷ []) in
+      let room : m - length kept ≡ suc rest = rw (length-append kept (e ∷ [])) (omega arith) in
+      later 0 (kept ++ e ∷ []) ∙ append_assoc kept (e ∷ []) (take rest (failing_of es)) ∙ ap (λ (k : ℕ). kept ++ take k (e ∷ failing_of es)) (sym room)
 
-pub found_number : (es : List Entry) (n : ℕ) → (after (start n) es).found ≡ slice_get (failing_of es) n
-found_number [] n = refl
-found_number (e ∷ es) n = number_step (entry_holds e) n e es (found_number es)
+  fails_within : (n : ℕ) (kept : List Entry) → length kept < m →
+      (after (cond (n == 0) (record { left = n; most = m; found = kept ++ e ∷ [] }) (record { left = n - 1; most = m; found = kept })) es).found
+      ≡ kept ++ take (m - length kept) (drop n (e ∷ failing_of es))
+  fails_within zero kept lt = one_kept kept lt
+  fails_within (suc n) kept lt =
+      let some : (suc n == 0) ≡ false = grind (arith, nat_tests) in
+      let one : suc n - 1 ≡ n = omega arith in
+      ap (λ (b : Bool). (after (cond b (record { left = suc n; most = m; found = kept ++ e ∷ [] }) (record { left = suc n - 1; most = m; found = kept })) es).found) some
+      ∙ ap (λ (k : ℕ). kept_after m es k kept) one ∙ later n kept
+
+  fails_step : (f : Bool) (n : ℕ) (kept : List Entry) → nat_le m (length kept) ≡ f →
+      (after (cond f (record { left = n; most = m; found = kept })
+      (cond (n == 0) (record { left = n; most = m; found = kept ++ e ∷ [] }) (record { left = n - 1; most = m; found = kept }))) es).found
+      ≡ kept ++ take (m - length kept) (drop n (e ∷ failing_of es))
+  fails_step true n kept full =
+      let le : m ≤ length kept = grind (arith, nat_tests) in
+      let none : m - length kept ≡ 0 = omega arith in
+      ap (λ (u : Search). u.found) (full_stays (record { left = n; most = m; found = kept }) es full) ∙ sym (append-nil kept)
+      ∙ ap (λ (k : ℕ). kept ++ take k (drop n (e ∷ failing_of es))) (sym none)
+  fails_step false n kept room = let lt : length kept < m = grind (arith, nat_tests) in fails_within n kept lt
+
+  number_step : (b : Bool) (n : ℕ) (kept : List Entry) →
+      (after (cond b (record { left = n; most = m; found = kept }) (after_failure (record { left = n; most = m; found = kept }) e)) es).found
+      ≡ kept ++ take (m - length kept) (drop n (cond (not b) (e ∷ failing_of es) (failing_of es)))
+  unfolding after_failure
+  number_step true n kept = later n kept
+  number_step false n kept = fails_step (nat_le m (length kept)) n kept refl
+
+found_more : (m : ℕ) (es : List Entry) (n : ℕ) (kept : List Entry) → kept_after m es n kept ≡ kept ++ take (m - length kept) (drop n (failing_of es))
+found_more m [] n kept = sym (ap (λ (es : List Entry). kept ++ es) (nothing_from n (m - length kept)) ∙ append-nil kept)
+found_more m (e ∷ es) n kept = number_step m e es (found_more m es) (entry_holds e) n kept
+
+pub found_from : (es : List Entry) (n m : ℕ) → (after (start n m) es).found ≡ take m (drop n (failing_of es))
+found_from es n m = let all : m - 0 ≡ m = omega arith in found_more m es n [] ∙ ap (λ (k : ℕ). take k (drop n (failing_of es))) all
 
 -- the first is the one by which a plan is refused
+first_step : (b : Bool) (e : Entry) (es : List Entry) → slice_get (failing_of es) 0 ≡ first_failing es →
+    slice_get (cond (not b) (e ∷ failing_of es) (failing_of es)) 0 ≡ cond b (first_failing es) (Some e)
+first_step true e es same = same
+first_step false e es same = refl
+
 pub first_is : (es : List Entry) → slice_get (failing_of es) 0 ≡ first_failing es
-first_is es = sym (found_number es 0) ∙ found_first es
+first_is [] = refl
+first_is (e ∷ es) = first_step (entry_holds e) e es (first_is es)
+
+-- a search for one alone
+
+one_of : (es : List Entry) → slice_get (take 1 es) 0 ≡ slice_get es 0
+one_of [] = refl
+one_of (e ∷ es) = refl
+
+pub found_first : (es : List Entry) → slice_get (after (start 0 1) es).found 0 ≡ first_failing es
+found_first es = ap (λ (fs : List Entry). slice_get fs 0) (found_from es 0 1) ∙ one_of (failing_of es) ∙ first_is es
+
+one_or_none : (es : List Entry) → nat_le 1 (length (take 1 es)) ≡ is_some (slice_get es 0)
+one_or_none [] = refl
+one_or_none (e ∷ es) = refl
+
+pub done_if_one_fails : (es : List Entry) → is_full (after (start 0 1) es) ≡ is_some (first_failing es)
+done_if_one_fails es =
+    ap (λ (m : ℕ). nat_le m (length (after (start 0 1) es).found)) (most_stays (start 0 1) es)
+    ∙ ap (λ (fs : List Entry). nat_le 1 (length fs)) (found_from es 0 1) ∙ one_or_none (failing_of es) ∙ ap is_some (first_is es)
 
 -- 4. The shape, and the timing after it
 
@@ -127,9 +193,9 @@ pub is_missing : (o : Option Entry) → is_none o ≡ true → o ≡ None
 is_missing None none = refl
 is_missing (Some e) none = absurd cc
 
-pub missing_seen : (o : Option Refusal) → is_none o ≡ is_none (option_map entry_of o)
-missing_seen None = refl
-missing_seen (Some r) = refl
+pub none_is : (o : Option Entry) → not (is_some o) ≡ is_none o
+none_is None = refl
+none_is (Some e) = refl
 
 none_step : (b : Bool) (e : Entry) (es : List Entry) → cond b (first_failing es) (Some e) ≡ None → (first_failing es ≡ None → failing_of es ≡ []) →
     cond (not b) (e ∷ failing_of es) (failing_of es) ≡ []

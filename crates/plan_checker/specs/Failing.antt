@@ -1,5 +1,5 @@
--- The conditions that a plan does not keep, and the search for one of them.
-use Rattle.std.specs.Prelude.{ℕ, ◌-◌, ◌==◌, Bool, List, [], ◌∷◌, Option, Some, None, filter, is_none, not, option_map, if◌then◌else◌}
+-- The conditions that a plan does not keep, and the search for those from a number on.
+use Rattle.std.specs.Prelude.{ℕ, ◌-◌, ◌==◌, Bool, List, [], ◌∷◌, ◌++◌, filter, is_none, length, map, nat_le, not, if◌then◌else◌}
 use Rattle.description.specs.Described.{Described}
 use Rattle.slot_plan.specs.Planned.{Planned}
 use Rattle.slot_plan.specs.Entries.{Entry, entry_holds, first_failing}
@@ -23,27 +23,27 @@ failing d p = failing_of (entries d p)
 abbrev pub asked_entries : Described → Planned → List Entry
 asked_entries d p = if is_none (first_failing (shape_entries d p)) then timing_entries d p else shape_entries d p
 
--- 2. The search for the one of a number
+-- 2. The search for those from a number on
 
--- how many have still to fail before it, and the one, once it is found
+-- how many have still to fail before the first that is kept, how many are kept at most, and those that are kept
 pub record Search : Type 0 where
   pub left : ℕ
-  pub found : Option Entry
+  pub most : ℕ
+  pub found : List Entry
 
-abbrev pub start : ℕ → Search
-start number = record { left = number; found = None }
+abbrev pub start : ℕ → ℕ → Search
+start number most = record { left = number; most = most; found = [] }
 
--- after one more that fails: nothing changes once the one is found
-abbrev pub found_after : Option Entry → ℕ → Entry → Option Entry
-found_after (Some f) left e = Some f
-found_after None left e = if left == 0 then Some e else None
+-- whether as many are kept as may be
+abbrev pub is_full : Search → Bool
+is_full s = nat_le s.most (length s.found)
 
-abbrev pub left_after : Option Entry → ℕ → ℕ
-left_after (Some f) left = left
-left_after None left = if left == 0 then left else left - 1
-
-abbrev pub after_failure : Search → Entry → Search
-after_failure s e = record { left = left_after s.found s.left; found = found_after s.found s.left e }
+-- after one more that fails: nothing changes once as many are kept as may be
+unfoldable pub after_failure : Search → Entry → Search
+after_failure s e =
+    if is_full s then s
+    else if s.left == 0 then record { left = s.left; most = s.most; found = s.found ++ e ∷ [] }
+    else record { left = s.left - 1; most = s.most; found = s.found }
 
 -- after conditions, in their order
 abbrev pub after_one : Search → Entry → Search
@@ -55,4 +55,4 @@ after s (e ∷ es) = after (after_one s e) es
 
 -- a search of the code
 abbrev pub search_of : FailureSearch → Search
-search_of s = record { left = s.left; found = option_map entry_of s.found }
+search_of s = record { left = s.left; most = s.most; found = map entry_of s.found.items }

@@ -1,16 +1,17 @@
 //! Whether a plan serves a description.
 
-ghost use Rattle.std.specs.Prelude.{◌≡◌, IfOk, IfErr, map, option_map, slice_get};
+ghost use Rattle.std.specs.Prelude.{◌≡◌, IfOk, IfErr, drop, map, option_map, slice_get, take};
 ghost use Rattle.slot_plan.specs.Entries.{first_failing};
 ghost use Rattle.slot_plan.specs.Conditions.{entries};
 ghost use Rattle.plan_checker.specs.Failing.{after, asked_entries, failing, search_of};
 ghost use Rattle.plan_checker.specs.Refusals.{entry_of, refusal_of};
 
 use crate::checked_plan::CheckedPlan;
-use crate::failure_search::FailureSearch;
+use crate::failure_search::{FailureSearch, WINDOW};
 use crate::refusal::Refusal;
 use crate::shape::{is_shaped, shape};
 use crate::timing::timing;
+use arrayvec::ArrayVec;
 use slot_plan::{Description, Plan};
 use std::alloc::{AllocError, Allocator};
 
@@ -30,28 +31,31 @@ fn search_conditions<A: Allocator>(
     }
 }
 
-/// Returns the condition of a number, from 0, among those that a plan for a description does not keep.
-fn failing_condition<A: Allocator>(
-    description: &Description,
-    plan: &Plan<A>,
-    number: usize,
-) -> Option<Refusal>
-    ensures { option_map entry_of result ≡ slice_get (failing description.now plan.now) number }
-{
-    let mut search = FailureSearch::new(number);
-    search_conditions(description, plan, &mut search);
-    search.found
-}
-
 /// Returns the first condition that a plan for a description does not keep.
 pub fn first_failing<A: Allocator>(description: &Description, plan: &Plan<A>) -> Option<Refusal>
     ensures { option_map entry_of result ≡ first_failing (entries description.now plan.now) }
 {
-    failing_condition(description, plan, 0)
+    let mut search = FailureSearch::new(0, 1);
+    search_conditions(description, plan, &mut search);
+    search.first()
+}
+
+/// Returns the conditions that a plan for a description does not keep, from a number on, which counts from 0: as many
+/// as one search keeps.
+fn failing_from<A: Allocator>(
+    description: &Description,
+    plan: &Plan<A>,
+    number: usize,
+) -> ArrayVec<Refusal, 1024>
+    ensures { map entry_of result.items ≡ take 1024 (drop number (failing description.now plan.now)) }
+{
+    let mut search = FailureSearch::new(number, WINDOW);
+    search_conditions(description, plan, &mut search);
+    search.found
 }
 
 /// Returns each condition that a plan for a description does not keep, in their order: [`check`] refuses the plan with
-/// the first. Each has a walk of its own over the plan.
+/// the first. One walk over the plan finds 1,024 of them.
 pub fn failing<A: Allocator>(
     alloc: A,
     description: &Description,
@@ -62,10 +66,13 @@ pub fn failing<A: Allocator>(
         ≡ first_failing (entries description.now plan.now)) }
 {
     let mut found = Vec::new(alloc);
-    'numbers: while let Some(refusal) = failing_condition(description, plan, found.len()) {
-        found.push(refusal)?;
+    'windows: loop {
+        let more = failing_from(description, plan, found.len());
+        found.extend_from_slice(more.as_slice())?;
+        if !more.is_full() {
+            return Ok(found);
+        }
     }
-    Ok(found)
 }
 
 /// Returns the plan as a checked plan, if it keeps every condition. Otherwise returns the first condition that it does

@@ -17,3 +17,17 @@ pub struct Refusal {
     pub left: u128,
     pub right: u128,
 }
+
+impl Default for Refusal {
+    /// Returns a refusal of no plan, which fills unused places.
+    fn default() -> Refusal {
+        Refusal {
+            condition: Condition::Shape,
+            part: 0,
+            item: 0,
+            relation: Relation::AtMost,
+            left: 0,
+            right: 0,
+        }
+    }
+}

@@ -39,7 +39,7 @@ pub fn shape<A: Allocator>(description: &Description, plan: &Plan<A>, search: &m
 pub fn is_shaped<A: Allocator>(description: &Description, plan: &Plan<A>) -> bool
     ensures { result ≡ is_none (first_failing (shape_entries description.now plan.now)) }
 {
-    let mut search = FailureSearch::new(0);
+    let mut search = FailureSearch::new(0, 1);
     shape(description, plan, &mut search);
     !search.is_done()
 }

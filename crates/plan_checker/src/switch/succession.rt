@@ -38,7 +38,7 @@ fn joint<A: Allocator>(
         first,
         second,
     };
-    let mut search = FailureSearch::new(0);
+    let mut search = FailureSearch::new(0, 1);
     check_each::<PcrSwitches, _>(plans, &mut search);
     check_each::<TableSwitches, _>(plans, &mut search);
     check_each::<StreamWorks, _>(plans, &mut search);
@@ -48,7 +48,7 @@ fn joint<A: Allocator>(
     check_each::<LeadSwitches, _>(plans, &mut search);
     check_each::<MainSwitches, _>(plans, &mut search);
     check_each::<ElementarySwitches, _>(plans, &mut search);
-    search.found
+    search.first()
 }
 
 /// Returns the first condition that a second plan after a first one does not keep: its own, then those of the two

@@ -1,4 +1,5 @@
 use Rattle.std.proofs.Common.{◌++◌, ◌∙◌, List, ap}
+use Rattle.std.specs.Prelude.{slice_get}
 use Rattle.slot_plan.specs.Entries.{Entry}
 use Rattle.slot_plan.specs.SwitchConditions.{joint_entries, pcr_switches, table_switches, stream_works, transport_works, system_works, multiplexing_works, lead_switches, main_switches, elementary_switches}
 use Rattle.plan_checker.specs.Failing.{Search, after}
@@ -25,4 +26,5 @@ returns g c =
     (then_next _ _ _ (multiplexing_works d p q) from_leads c.check_each-6.ensures
     (then_next _ _ _ (lead_switches d p q) from_mains c.check_each-7.ensures
     (then_next _ _ _ (main_switches d p q) (elementary_switches d p q) c.check_each-8.ensures c.check_each-9.ensures))))))) in
-    ap (λ (s : Search). s.found) (all ∙ ap (λ (s : Search). after s (joint_entries d p q)) c.new-search.ensures) ∙ found_first (joint_entries d p q)
+    c.first.ensures ∙ ap (λ (s : Search). slice_get s.found 0) (all ∙ ap (λ (s : Search). after s (joint_entries d p q)) c.new-search.ensures)
+    ∙ found_first (joint_entries d p q)
