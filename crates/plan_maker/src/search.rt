@@ -1,5 +1,5 @@
 //! The search for a plan of a period: each item with the least own slots that its conditions ask for, placed by the
-//! earliest deadline first. Nothing is promised of what it finds; the plan checker decides.
+//! earliest deadline first. Of what it finds only the period and the certificate are promised; the plan checker decides.
 
 pub mod demand;
 pub mod numbers;
@@ -7,7 +7,8 @@ pub mod placement;
 pub mod recurrence;
 pub mod stream_rate;
 
-ghost use Rattle.std.specs.Prelude.{◌≤◌, OnOk, IfOk, IfSome, length};
+ghost use Rattle.std.specs.Prelude.{◌≡◌, ◌≤◌, OnOk, IfOk, IfSome, length};
+ghost use Rattle.plan_maker.specs.Certificates.{certificate_of};
 
 use crate::certificates::certificate_of;
 use demand::{Demand, demands, total};
@@ -98,14 +99,16 @@ fn period_slots<A: Allocator + Clone>(
     Ok(None)
 }
 
-/// Returns a plan of a period of `period` slots, where one is found. Whether it serves the description is for the plan
-/// checker to say.
+/// Returns a plan of a period of at most `period` slots, if one is found; its certificate is the least that its slots can
+/// claim. Whether it serves the description is for the plan checker to say.
 pub fn period_plan<A: Allocator + Clone>(
     alloc: &A,
     description: &Description,
     period: u64,
 ) -> Result<Option<Plan<A>>, AllocError>
     requires { period ≤ 65536 }
+    ensures period { IfOk result (λ found. IfSome found (λ plan. length plan.slots ≤ period)) }
+    ensures certificate { IfOk result (λ found. IfSome found (λ plan. plan.certificate ≡ certificate_of description.now plan.slots)) }
 {
     let Some(slots) = period_slots(alloc.clone()?, description, period)? else {
         return Ok(None);
