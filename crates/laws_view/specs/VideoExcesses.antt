@@ -1,6 +1,6 @@
 -- Of what a multiplexer wrote, viewed at its rate, no elementary stream buffer of video ever holds more than its size (ISO/IEC 13818-1, 2.4.2.3),
 -- nor does a multiplexing buffer.
-use Rattle.std.specs.Prelude.{◌≡◌, ℕ, ◌*◌, ◌≤◌, false, List, [], ◌∷◌, flat_map, Option, Some, None}
+use Rattle.std.specs.Prelude.{◌≡◌, ℕ, ◌≤◌, false, List, [], ◌∷◌, flat_map, Option, Some, None}
 use Rattle.std.specs.Option.{option_to_list}
 use Rattle.ts_packet.specs.PidList.{cut_packets}
 use Rattle.slot_contents.specs.Contents.{run_bytes}
@@ -16,6 +16,7 @@ use Rattle.arrival.specs.declared.arrival.Arrival.{Arrival}
 use Rattle.arrival.specs.declared.arrival.Arrival.TheVariants.{AtRate}
 use Rattle.tstd_rows.specs.Held.{Held, empty}
 use Rattle.tstd_rows.specs.HeldVideo.{VideoEnteredView, VideoSizes}
+use Rattle.tstd_rows.specs.VideoViewed.{leak_step}
 use Rattle.tstd_rows.specs.Entering.{after}
 use Rattle.tstd_rows.specs.EnteringVideo.{video_of}
 use Rattle.tstd_rows.specs.declared.arriving.Arriving.{Arriving}
@@ -23,7 +24,7 @@ use Rattle.ts_watch.specs.Choices.{RequestView}
 use Rattle.es_view.specs.Entries.{EntryState}
 use Rattle.es_view.specs.VideoFigures.{figures_with}
 use Rattle.laws_view.specs.StreamPackets.{most_packets}
-use Rattle.laws_view.specs.ViewedRuns.{FromTheFirst, IsViewedAs}
+use Rattle.laws_view.specs.ViewedRuns.{IsViewedAs}
 use Rattle.laws_view.specs.WholeStreams.{IsWhole, stream_packets}
 
 -- packets enter buffers one after another: what has ended with each in the two buffers of video
@@ -68,18 +69,18 @@ pub record NoMultiplexingExcess (request : RequestView) (rate : ℕ) (packets : 
       (stream_packets request e whole.begun.before (whole.begun.first ∷ whole.begun.later))) ≡ []
   pub none_under_way : (figures_with sizes e.held).multiplexing ≡ None
 
--- a multiplexing buffer of that size, which a byte takes the time to leave that it takes at the rate of the description: a whole number of the
--- view's units of time, which the view does not round up
+-- a multiplexing buffer of that size that is viewed at the rate of the description: a byte takes a whole number of the view's units of time to
+-- leave it, which is rounded up
 pub record LeaksAs (rate rx : ℕ) (b : MultiplexingBuffer) (sizes : VideoSizes) : Type 0 where
   pub size : sizes.multiplexing ≡ b.size
-  pub leak : sizes.leak * b.rbx ≡ rate * rx
+  pub leak : sizes.leak ≡ leak_step rate rx b.rbx
 
--- so of each stream of the description that is viewed so, whose buffers begin with the first packet of its PID
+-- so of each stream of the description that is viewed so, wherever its buffers begin
 abbrev pub RunMultiplexingLaw : Type 0
 RunMultiplexingLaw = (d : Scheduled) (units : ℕ → List AccessUnit) (slots : ℕ) (request : RequestView) (e : EntryState) (k : ℕ) (b : MultiplexingBuffer)
     (sizes : VideoSizes) →
     IsInRange d.description → Promised d.description d.schedule → UnitsKept d units → slots ≤ most_packets → (viewed : IsViewedAs d request k e) →
-    (whole : IsWhole request d.description.rate (cut_packets (run_bytes (content_at d units) 0 slots)) e) → FromTheFirst e.pid whole.begun.before →
+    (whole : IsWhole request d.description.rate (cut_packets (run_bytes (content_at d units) 0 slots)) e) →
     viewed.stream.multiplexing ≡ Some b → e.video ≡ Some sizes → LeaksAs d.description.rate viewed.stream.rx b sizes →
     NoMultiplexingExcess request d.description.rate (cut_packets (run_bytes (content_at d units) 0 slots)) e sizes whole
 
@@ -88,5 +89,5 @@ JobMultiplexingLaw = (d : Scheduled) (units : List (ℕ × AccessUnit)) (slots :
     (sizes : VideoSizes) →
     IsInRange d.description → Promised d.description d.schedule → first_refused d (capacity_for units) [] units ≡ None → slots ≤ most_packets →
     (viewed : IsViewedAs d request k e) → (whole : IsWhole request d.description.rate (cut_packets (output_of false d (job_history units slots))) e) →
-    FromTheFirst e.pid whole.begun.before → viewed.stream.multiplexing ≡ Some b → e.video ≡ Some sizes → LeaksAs d.description.rate viewed.stream.rx b sizes →
+    viewed.stream.multiplexing ≡ Some b → e.video ≡ Some sizes → LeaksAs d.description.rate viewed.stream.rx b sizes →
     NoMultiplexingExcess request d.description.rate (cut_packets (output_of false d (job_history units slots))) e sizes whole

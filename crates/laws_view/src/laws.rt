@@ -123,8 +123,7 @@ pub fn muxed_units()
 
 /// States that there is no excess of the elementary stream buffer of video there either (ISO/IEC 13818-1, 2.4.2.3),
 /// wherever the stream's buffers begin: its line says no more than its size, if that is the size of the description.
-/// Nor is there one of its multiplexing buffer, if buffers begin with the first packet of its PID and a byte takes a
-/// whole number of the view's units of time to leave it.
+/// Nor is there one of its multiplexing buffer, although the view rounds up the time that a byte takes to leave it.
 pub fn muxed_video_buffers()
     ensures run { RunElementaryLaw }
     ensures jobs { JobElementaryLaw }

@@ -20,6 +20,7 @@ pub mod MomentLemmas
 pub mod NotEarly
 pub mod Thinning
 pub mod MultiplexingLemmas
+pub mod SlowLeaks
 pub mod LeakMethodLemmas
 pub mod ByteByByte
 pub mod VideoLemmas

@@ -54,7 +54,7 @@ unfolding bytes_from
 length-bytes_from r i zero = refl
 length-bytes_from r i (suc n) = ap suc (length-bytes_from r (suc i) n)
 
-stays-append : (wait : ℕ) (ts ds ts' ds' : List ℕ) → length ts ≡ length ds → Stays wait ts ds → Stays wait ts' ds' → Stays wait (ts ++ ts') (ds ++ ds')
+pub stays-append : (wait : ℕ) (ts ds ts' ds' : List ℕ) → length ts ≡ length ds → Stays wait ts ds → Stays wait ts' ds' → Stays wait (ts ++ ts') (ds ++ ds')
 unfolding Stays
 stays-append wait [] [] ts' ds' e h h' = h'
 stays-append wait [] (d ∷ ds) ts' ds' e h h' = cc

@@ -34,6 +34,7 @@ use Rattle.unit_timing.proofs.NotEarly.{none_leaves_early_law, small_packets, un
 use Rattle.unit_timing.proofs.PlanLemmas.{some_slots, main_fits, in_time, deadline_switch_law, main_switch_law}
 use Rattle.unit_timing.proofs.Thinning.{falls_from, payload_rises}
 use Rattle.unit_timing.proofs.ByteByByte.{departures_later, leaves_later}
+use Rattle.unit_timing.proofs.SlowLeaks.{slow_leak_law}
 use Rattle.unit_timing.proofs.MultiplexingLemmas.{multiplexing_law, whole_in_time_law}
 use Rattle.unit_timing.proofs.LeakMethodLemmas.{never_full_law}
 
@@ -164,6 +165,8 @@ video_served rate s m own peak leak_peak W V units proper leak keeps work leak_w
       (rising_run own rate s.lead n units);
   multiplexing = λ n x. multiplexing_law own rate s.drain m.rbx m.mb leak_peak V (run_packets own rate s units n) x proper.some_rate proper.some_drain
       leak.no_faster leak_work (rising_run own rate s.lead n units);
+  some_multiplexing = λ slow packets x fast no_faster rounded small rises. slow_leak_law own rate s.drain m.rbx slow m.mb leak_peak V packets x fast
+      proper.some_drain leak.no_faster no_faster rounded small leak_work rises;
   elementary = λ n x. fits n x (multiplexing_left rate s.drain m.rbx (run_packets own rate s units n)) (leaked_early own rate s.lead s.drain m.rbx n units);
   together = λ n x. fits n x (multiplexing_entered rate s.drain m.rbx (run_packets own rate s units n)) (entered_early own rate s.lead s.drain m.rbx n units);
   never_full = λ n. freely rate (s.drain * m.rbx) (s.drain * rate) s.main s.interval s.lead units

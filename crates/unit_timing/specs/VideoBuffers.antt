@@ -59,6 +59,12 @@ abbrev pub MultiplexingLaw : Type 0
 MultiplexingLaw = (own : ℕ → Bool) (rate rx rbx room peak : ℕ) (W : ℕ → ℕ) (packets : List Packet) (x : ℕ) → 0 < rate → 0 < rx → rbx ≤ rx →
     BoundsWork own rate rbx room peak W → Rises own 0 (slots_of packets) → multiplexing_fullness rate rx rbx x packets ≤ room
 
+-- nor where it leaks a little slower: a byte takes up to 8 / (R * Rx) seconds more, and packets have headers of 4 bytes or more
+abbrev pub SlowLeakLaw : Type 0
+SlowLeakLaw = (own : ℕ → Bool) (rate rx rbx slow room peak : ℕ) (W : ℕ → ℕ) (packets : List Packet) (x : ℕ) → 184 ≤ rate → 0 < rx → rbx ≤ rx →
+    rx * rate ≤ slow → slow ≤ rx * rate + rbx → All (λ p. p.size ≤ 184) packets → BoundsWork own rate rbx room peak W → Rises own 0 (slots_of packets) →
+    fullness x (multiplexing_entered rate rx rbx packets) (departures slow 0 (multiplexing_entered rate rx rbx packets)) ≤ room
+
 -- each byte is in EB at most the time that a byte takes to leave TB after it would leave a TB that is drained at Rbx
 abbrev pub LeakLaw : Type 0
 LeakLaw = (rate rx rbx : ℕ) (packets : List Packet) → rbx ≤ rx →

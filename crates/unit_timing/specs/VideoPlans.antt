@@ -1,8 +1,11 @@
 -- A video stream whose multiplexing buffer MB and elementary stream buffer EB are known (ISO/IEC 13818-1, 2.4.2.3, the leak
 -- method): the conditions on its own slots in one plan and in two plans in turn, and what is promised of it.
-use Rattle.std.specs.Prelude.{◌≡◌, ℕ, ◌+◌, ◌*◌, ◌<◌, ◌≤◌, Bool, List, length, map}
+use Rattle.std.specs.Prelude.{◌≡◌, ℕ, ◌+◌, ◌*◌, ◌<◌, ◌≤◌, Bool, List, length, map, All}
+use Rattle.clock27.specs.Departure.{departures}
+use Rattle.clock27.specs.Fullness.{fullness}
 use Rattle.clock27.specs.Units.{byte_units_at_1bps}
 use Rattle.own_slots.specs.Period.{own, per_period}
+use Rattle.own_slots.specs.Slots.{Rises}
 use Rattle.own_slots.specs.Spread.{spread}
 use Rattle.own_slots.specs.Work.{HoldsWork, work_left}
 use Rattle.own_slots.specs.Switch.{shift}
@@ -15,7 +18,8 @@ use Rattle.unit_timing.specs.Arrived.{AllLeft}
 use Rattle.unit_timing.specs.VideoBuffers.{multiplexing_entered, multiplexing_left, multiplexing_fullness, elementary_fullness, video_fullness}
 use Rattle.unit_timing.specs.LeakMethod.{transfers, rooms_of, removed_at}
 use Rattle.unit_timing.specs.Plans.{Declaration, KeepsDeclaration, run_packets}
-use Rattle.unit_timing.specs.Conditions.{IsProper, StreamClaim, Share, share_of, rate_needed, rate_given, lead_needed, lead_across, time_given, bytes_waiting, bytes_across}
+use Rattle.unit_timing.specs.Conditions.{IsProper, StreamClaim, Share, share_of, rate_needed, rate_given, lead_needed, lead_across, time_given, bytes_waiting}
+use Rattle.unit_timing.specs.Conditions.{bytes_across}
 use Rattle.unit_timing.specs.PlanLaws.{in_turn}
 
 -- what is declared of MB: the rate of the leak in bits a second, Rbx, and its size in bytes. The size of EB is the `main` of
@@ -79,10 +83,14 @@ video_transfers rate s m units packets =
 
 -- of a video stream in runs of any length: at each moment TB holds at most 512 bytes, MB at most its size, EB at most its
 -- size, and both together at most EB's, so that EB never is full, and bytes go to it as from a queue alone; each unit that
--- is due is whole in EB by its stamp
+-- is due is whole in EB by its stamp. MB holds no more of any packets in the stream's own slots, as of those from one of them on, nor where
+-- it leaks a little slower (`SlowLeakLaw`)
 pub record VideoServed (own : ℕ → Bool) (rate : ℕ) (s : Declaration) (m : Leak) (units : List PesPacket) : Type 0 where
   pub transport : (n x : ℕ) → tb_fullness rate s.drain x (slots_of (run_packets own rate s units n)) ≤ tb_size
   pub multiplexing : (n x : ℕ) → multiplexing_fullness rate s.drain m.rbx x (run_packets own rate s units n) ≤ m.mb
+  pub some_multiplexing : (slow : ℕ) (packets : List Packet) (x : ℕ) → 184 ≤ rate → s.drain * rate ≤ slow → slow ≤ s.drain * rate + m.rbx →
+      All (λ p. p.size ≤ 184) packets → Rises own 0 (slots_of packets) →
+      fullness x (multiplexing_entered rate s.drain m.rbx packets) (departures slow 0 (multiplexing_entered rate s.drain m.rbx packets)) ≤ m.mb
   pub elementary : (n x : ℕ) → elementary_fullness rate s.drain m.rbx x units (run_packets own rate s units n) ≤ s.main
   pub together : (n x : ℕ) → video_fullness rate s.drain m.rbx x units (run_packets own rate s units n) ≤ s.main
   pub never_full : (n : ℕ) → video_transfers rate s m units (run_packets own rate s units n)

@@ -1,6 +1,6 @@
 //! The multiplexing buffer MB and the elementary stream buffer EB of a video stream, by the leak method
 //! (ISO/IEC 13818-1, 2.4.2.3).
-ghost use Rattle.unit_timing.specs.VideoBuffers.{MultiplexingLaw, LeakLaw, LeakedLaw, FastLeakLaw, WholeInTimeLaw};
+ghost use Rattle.unit_timing.specs.VideoBuffers.{MultiplexingLaw, SlowLeakLaw, LeakLaw, LeakedLaw, FastLeakLaw, WholeInTimeLaw};
 ghost use Rattle.unit_timing.specs.LeakMethod.{TransfersLaw, NeverFullLaw};
 ghost use Rattle.unit_timing.specs.PesHeaders.{HeadersLaw};
 ghost use Rattle.unit_timing.specs.VideoPlans.{VideoLaw, VideoSwitchLaw};
@@ -9,6 +9,11 @@ ghost use Rattle.unit_timing.specs.VideoPlans.{VideoLaw, VideoSwitchLaw};
 /// whichever own slots are used.
 pub fn multiplexing()
     ensures { MultiplexingLaw }
+{}
+
+/// States that it does not either if it leaks a little slower, since the headers of packets, for which the work counts, never enter MB.
+pub fn slow_leak()
+    ensures { SlowLeakLaw }
 {}
 
 /// States that each byte is in EB at most one byte's time in the transport buffer later than it would leave a buffer drained at Rbx.
