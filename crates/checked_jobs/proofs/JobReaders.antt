@@ -5,8 +5,8 @@ use Rattle.std.specs.Str.{IsUtf8, is_utf8}
 use Rattle.std.proofs.lemmas.Str.{IsUtf8-from_is_utf8, is_utf8-from_IsUtf8}
 use Rattle.toml.specs.Parse.{parse_document}
 use Rattle.description.specs.Reading.{description_of}
-use Rattle.description.specs.declared.fault.DescFault.TheVariants as fault
-use Rattle.description.specs.declared.fault.DescError.TheVariants as refused_by
+use Rattle.description_keys.specs.declared.fault.DescFault.TheVariants as fault
+use Rattle.description_keys.specs.declared.fault.DescError.TheVariants as refused_by
 use Rattle.slot_plan.specs.Planned.{Planned}
 use Rattle.slot_plan.specs.PlanTexts.{Refuses, BeginsWithPlan}
 use Rattle.slot_plan.specs.declared.reader.PlanTextError.{PlanTextError}

@@ -6,9 +6,9 @@ use Rattle.std.specs.Cmp.Lexicographic.{pointwise}
 use Rattle.std.proofs.lemmas.Bool.{false≢true}
 use Rattle.std.proofs.lemmas.List.{drop-append-le, length-take, take-append-drop, take-append-le}
 use Rattle.std.proofs.Math.Seq.{drop-append_seam}
-use Rattle.description.specs.Described.{Described}
-use Rattle.description.specs.declared.fault.DescError.{DescError}
-use Rattle.description.specs.declared.fault.DescError.TheVariants as refused_by
+use Rattle.description_parts.specs.Described.{Described}
+use Rattle.description_keys.specs.declared.fault.DescError.{DescError}
+use Rattle.description_keys.specs.declared.fault.DescError.TheVariants as refused_by
 use Rattle.slot_plan.specs.Entries.{Entry}
 use Rattle.slot_plan.specs.Planned.{Planned}
 use Rattle.slot_plan.specs.Readers.{plan_at}

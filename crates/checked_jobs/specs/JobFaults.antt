@@ -1,6 +1,6 @@
 -- A job as it is read, and the line for the first fault in it.
 use Rattle.std.specs.Prelude.{◌≡◌, ◌≤◌, ℕ, Bool, true, false, List, [], ◌∷◌, length, drop, Some, None, Result, Ok, Err, codes, ⊤}
-use Rattle.description.specs.Codes.{fault_code, fault_item}
+use Rattle.description_keys.specs.Codes.{fault_code, fault_item}
 use Rattle.slot_plan.specs.Entries.{code_of}
 use Rattle.plan_checker.specs.Refusals.{entry_of}
 use Rattle.devices.specs.Lines.{line_text}

@@ -3,12 +3,12 @@ use Rattle.std.specs.Prelude.{◌≡◌, ◌+◌, ◌==◌, ◌&&◌, ℕ, Bool,
 use Rattle.std.specs.List.{starts_with}
 use Rattle.std.specs.Str.{is_utf8}
 use Rattle.toml.specs.Parse.{parse_document}
-use Rattle.description.specs.Described.{Described}
+use Rattle.description_parts.specs.Described.{Described}
 use Rattle.description.specs.Reading.{description_of}
-use Rattle.description.specs.declared.fault.DescFault.{DescFault}
-use Rattle.description.specs.declared.fault.DescFault.TheVariants as fault
-use Rattle.description.specs.declared.fault.DescError.{DescError}
-use Rattle.description.specs.declared.fault.DescError.TheVariants as refused_by
+use Rattle.description_keys.specs.declared.fault.DescFault.{DescFault}
+use Rattle.description_keys.specs.declared.fault.DescFault.TheVariants as fault
+use Rattle.description_keys.specs.declared.fault.DescError.{DescError}
+use Rattle.description_keys.specs.declared.fault.DescError.TheVariants as refused_by
 use Rattle.slot_plan.specs.Planned.{Planned}
 use Rattle.slot_plan.specs.declared.reader.PlanTextError.{PlanTextError}
 use Rattle.slot_plan.specs.declared.reader.PlanTextError.TheVariants as bad_text

@@ -8,7 +8,7 @@ ghost use Rattle.devices.specs.Lines.{Reports, WritesLine};
 use crate::fault_lines::report_refusal;
 use arrayvec::ArrayVec;
 use counted_io::Sink;
-use description::DescFault;
+use description_keys::DescFault;
 use devices::{Halt, write_line};
 use plan_checker::Refusal;
 

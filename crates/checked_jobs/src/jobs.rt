@@ -8,7 +8,8 @@ ghost use Rattle.checked_jobs.specs.Jobs.{with_plan, with_second};
 
 use crate::job_fault::{JobFault, JobReadError};
 use crate::job_parts::parts_of;
-use description::{DescError, DescFault, Description};
+use description::Description;
+use description_keys::{DescError, DescFault};
 use plan_checker::{CheckedPlan, CheckedSwitch, Refusal, check, check_switch};
 use slot_plan::{Plan, PlanTextError};
 use std::alloc::Global;

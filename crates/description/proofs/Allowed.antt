@@ -5,9 +5,9 @@ use Rattle.std.proofs.lemmas.Nat.{mul-le}
 use Rattle.unit_timing.specs.declared.allowance.Allowance.{Allowance}
 use Rattle.unit_timing.specs.declared.allowance.Allowance.TheVariants.{Groups, Pace}
 use Rattle.unit_timing.specs.Allowances.{allowance_rows, packets_at_once, packets_within, steady_packets, steady_time}
-use Rattle.description.specs.Described.{DescribedStream}
-use Rattle.description.specs.Ranges.{IsAllowance, IsStream}
-use Rattle.description.specs.Tables.{greatest_unit_packets}
+use Rattle.description_parts.specs.Described.{DescribedStream}
+use Rattle.description_parts.specs.Ranges.{IsAllowance, IsStream}
+use Rattle.description_parts.specs.Tables.{greatest_unit_packets}
 
 -- a unit has a packet, and at most those of 4,000,000 bytes
 pub unit_some : (s : DescribedStream) → 1 ≤ greatest_unit_packets s

@@ -6,8 +6,8 @@ use Rattle.std.proofs.lemmas.Bool.{eq-eqb}
 use Rattle.std.proofs.lemmas.List.{map-append}
 use Rattle.std.proofs.lemmas.List.Elements.{filter-append, All-head, All-tail, Contains-append_left, Contains-append_right}
 use Rattle.psi_tables.specs.ProgramMap.{StreamView}
-use Rattle.description.specs.Described.{DescribedStream, DescribedEntry, DescribedTable}
-use Rattle.description.specs.Tables.{is_shared_with, entry_if_of, entry_in}
+use Rattle.description_parts.specs.Described.{DescribedStream, DescribedEntry, DescribedTable}
+use Rattle.description_parts.specs.Tables.{is_shared_with, entry_if_of, entry_in}
 use Rattle.description.specs.SectionBytes.{pmt_stream, pmt_streams, pmt_shared, table_stream, pmt_table, pmt_tables}
 use Rattle.description.specs.Entries.{SharedLaw, EntryLaw, OwnLaw}
 

@@ -7,7 +7,7 @@ use Rattle.std.proofs.lemmas.Option.{slice_get_past, cond_some}
 use Rattle.std.specs.List.{position_or_len}
 use Rattle.dvb_tables.specs.Schedule.{is_present, is_following}
 use Rattle.dvb_tables.specs.declared.schedule.Event.{Event}
-use Rattle.description.specs.Described.{event_view}
+use Rattle.description_parts.specs.Described.{event_view}
 use Rattle.description.specs.SectionBytes.{is_present_event, is_following_event}
 
 either : {X Y : Type 0} (b : Bool) (y : Y) (later : Option Y) (x : X) (v : X → Y) (o : Option X) → y ≡ v x → later ≡ option_map v o

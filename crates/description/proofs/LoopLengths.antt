@@ -10,9 +10,9 @@ use Rattle.dvb_tables.specs.Descriptors.{iso_639_language_descriptor, network_na
 use Rattle.dvb_tables.specs.Services.{ServiceView, services_bytes, service_bytes, service_front}
 use Rattle.dvb_tables.specs.TransportStreams.{TransportStreamView, transport_streams_bytes, transport_stream_bytes, transport_stream_front}
 use Rattle.dvb_tables.specs.EventEntries.{EventView, events_bytes, event_bytes, event_status}
-use Rattle.description.specs.Described.{DescribedStream}
-use Rattle.description.specs.Ranges.{IsLanguage, IsStream}
-use Rattle.description.specs.Tables.{es_info_length}
+use Rattle.description_parts.specs.Described.{DescribedStream}
+use Rattle.description_parts.specs.Ranges.{IsLanguage, IsStream}
+use Rattle.description_parts.specs.Tables.{es_info_length}
 use Rattle.description.specs.SectionBytes.{tag_bytes, language_bytes, stream_descriptors}
 
 -- one more entry

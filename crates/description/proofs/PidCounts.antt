@@ -5,7 +5,7 @@ use Rattle.std.proofs.lemmas.List.Sums.{sum_by-cons, sum_by-append}
 use Rattle.std.proofs.lemmas.List.Elements.{All-head, All-tail}
 use Rattle.std.proofs.lemmas.Map.Keys.{IsDistinct-head, IsDistinct-tail}
 use Rattle.std.specs.List.{IsDistinct, AllByRecursion, list_all}
-use Rattle.description.specs.Ranges.{IsPid}
+use Rattle.description_parts.specs.Ranges.{IsPid}
 
 -- how often x stands in a list
 unfoldable pub times : ℕ → List ℕ → ℕ

@@ -4,13 +4,13 @@ use Rattle.std.proofs.lemmas.Bool.{cases_lt}
 use Rattle.std.proofs.lemmas.List.{length-map, map-append}
 use Rattle.std.proofs.lemmas.List.Elements.{All-head, All-tail, All-nil, All-cons}
 use Rattle.std.specs.List.{list_any}
-use Rattle.description.specs.Described.{Described, DescribedProgram, DescribedStream, DescribedTable}
-use Rattle.description.specs.Ranges.{IsInRange, IsProgram, IsStream, IsTable, named_pids}
-use Rattle.description.specs.Tables.{numbers_from, only_if, has_event, service_tables, table_kinds, table_count, table_kind, kind_pid, table_pid}
-use Rattle.description.specs.declared.table_kind.TableKind.{TableKind}
-use Rattle.description.specs.declared.table_kind.TableKind.TheVariants.{Pat, Pmt, Nit, Sdt, Eit, Tdt, Private}
+use Rattle.description_parts.specs.Described.{Described, DescribedProgram, DescribedStream, DescribedTable}
+use Rattle.description_parts.specs.Ranges.{IsInRange, IsProgram, IsStream, IsTable, named_pids}
+use Rattle.description_parts.specs.Tables.{numbers_from, only_if, has_event, service_tables, table_kinds, table_count, table_kind, kind_pid, table_pid}
+use Rattle.description_parts.specs.declared.table_kind.TableKind.{TableKind}
+use Rattle.description_parts.specs.declared.table_kind.TableKind.TheVariants.{Pat, Pmt, Nit, Sdt, Eit, Tdt, Private}
 use Rattle.description.specs.Pids.{all_pids, PidsApartLaw, PidsBelowLaw, PidPositionsLaw, StreamRangeLaw, ProgramRangeLaw}
-use Rattle.description.proofs.Distinct.{IsDistinct-is}
+use Rattle.description_parts.proofs.Distinct.{IsDistinct-is}
 use Rattle.description.proofs.PidCounts.{times, times-append, some_times, two_times, at_most_once, none_low, none_outside}
 
 -- elements that are numbered

@@ -2,16 +2,16 @@
 use Rattle.std.proofs.Common.{◌≡◌, Option, None, Some, Result, Ok, Err, refl, ap, sym, subst, ◌∙◌}
 use Rattle.std.specs.Option.{option_or}
 use Rattle.toml.specs.Data.{Data}
-use Rattle.description.specs.Described.{Described}
-use Rattle.description.specs.Contents.{described}
-use Rattle.description.specs.Refusals.{key_fault}
-use Rattle.description.specs.Ranges.{IsInRange}
-use Rattle.description.specs.Consistency.{joint_fault}
+use Rattle.description_parts.specs.Described.{Described}
+use Rattle.description_parts.specs.Contents.{described}
+use Rattle.description_keys.specs.Refusals.{key_fault}
+use Rattle.description_parts.specs.Ranges.{IsInRange}
+use Rattle.description_parts.specs.Consistency.{joint_fault}
 use Rattle.description.specs.Reading.{fault, read_document}
-use Rattle.description.specs.declared.fault.DescFault.{DescFault}
-use Rattle.description.specs.declared.fault.DescError.{DescError}
-use Rattle.description.specs.declared.fault.DescError.TheVariants.{Refused}
-use Rattle.description.proofs.WholeInRange.{described-in_range}
+use Rattle.description_keys.specs.declared.fault.DescFault.{DescFault}
+use Rattle.description_keys.specs.declared.fault.DescError.{DescError}
+use Rattle.description_keys.specs.declared.fault.DescError.TheVariants.{Refused}
+use Rattle.description_parts.proofs.WholeInRange.{described-in_range}
 
 second : (a b : Option DescFault) → a ≡ None → option_or a b ≡ b
 second None b h = refl

@@ -23,12 +23,12 @@ use Rattle.dvb_tables.specs.Descriptors.{short_event_descriptor}
 use Rattle.dvb_tables.specs.declared.running_status.RunningStatus.{RunningStatus}
 use Rattle.dvb_tables.specs.declared.running_status.RunningStatus.TheVariants.{Running, NotRunning}
 use Rattle.dvb_tables.proofs.BodyLengths.{nit_body_length, sdt_body_length, eit_body_length}
-use Rattle.description.specs.Described.{Described, DescribedNetwork, DescribedProgram, DescribedStream, DescribedEvent, DescribedEntry, DescribedTable}
-use Rattle.description.specs.Ranges.{IsInRange, IsProgram, IsStream, IsEvent}
-use Rattle.description.specs.Tables.{has_event, pat_length, pmt_length, nit_length, sdt_length, eit_length, eit_lengths, es_info_length, entry_length, is_shared_with, shared_length, entry_in, listed_length, service_length, event_length, longest_event, kind_lengths, section_lengths, scheduled_programs, table_kind, greatest_length}
+use Rattle.description_parts.specs.Described.{Described, DescribedNetwork, DescribedProgram, DescribedStream, DescribedEvent, DescribedEntry, DescribedTable}
+use Rattle.description_parts.specs.Ranges.{IsInRange, IsProgram, IsStream, IsEvent}
+use Rattle.description_parts.specs.Tables.{has_event, pat_length, pmt_length, nit_length, sdt_length, eit_length, eit_lengths, es_info_length, entry_length, is_shared_with, shared_length, entry_in, listed_length, service_length, event_length, longest_event, kind_lengths, section_lengths, scheduled_programs, table_kind, greatest_length}
 use Rattle.description.specs.SectionBytes.{network_entries, pat_entry, pat_says, pmt_stream, is_of_program, pmt_streams, pmt_shared, table_stream, pmt_table, pmt_tables, pmt_says, network_stream, nit_says, service_says, sdt_says, event_says, is_present_event, is_following_event, eit_says, eit_bytes, tdt_bytes, kind_bytes, table_bytes}
-use Rattle.description.specs.declared.table_kind.TableKind.{TableKind}
-use Rattle.description.specs.declared.table_kind.TableKind.TheVariants as kind
+use Rattle.description_parts.specs.declared.table_kind.TableKind.{TableKind}
+use Rattle.description_parts.specs.declared.table_kind.TableKind.TheVariants as kind
 use Rattle.description.proofs.LoopLengths.{stream_descriptors-length, transport_streams_bytes-one, network_name_descriptor-length, service_descriptor-length, length_service_bytes, length_event_bytes}
 
 -- a section of the long form

@@ -4,11 +4,11 @@ use Rattle.std.proofs.lemmas.List.{length-map}
 use Rattle.std.proofs.lemmas.List.Sums.{sum_by-cons, length-filter, count_by-le-length}
 use Rattle.std.proofs.lemmas.List.Elements.{All-nil, All-cons, All-append}
 use Rattle.std.specs.List.{list_any}
-use Rattle.description.specs.Described.{Described, DescribedProgram, DescribedTable}
-use Rattle.description.specs.Ranges.{IsInRange, IsTable}
-use Rattle.description.specs.Tables.{numbers_from, only_if, has_event, scheduled_programs, service_tables, table_kinds, table_count, table_kind, kind_lengths, eit_lengths, packets_of_section, section_lengths, section_count}
-use Rattle.description.specs.declared.table_kind.TableKind.{TableKind}
-use Rattle.description.specs.declared.table_kind.TableKind.TheVariants.{Pat, Pmt, Nit, Sdt, Eit, Tdt, Private}
+use Rattle.description_parts.specs.Described.{Described, DescribedProgram, DescribedTable}
+use Rattle.description_parts.specs.Ranges.{IsInRange, IsTable}
+use Rattle.description_parts.specs.Tables.{numbers_from, only_if, has_event, scheduled_programs, service_tables, table_kinds, table_count, table_kind, kind_lengths, eit_lengths, packets_of_section, section_lengths, section_count}
+use Rattle.description_parts.specs.declared.table_kind.TableKind.{TableKind}
+use Rattle.description_parts.specs.declared.table_kind.TableKind.TheVariants.{Pat, Pmt, Nit, Sdt, Eit, Tdt, Private}
 use Rattle.description.specs.Pids.{SectionsLaw}
 use Rattle.description.proofs.Pids.{at_place}
 

@@ -1,7 +1,7 @@
 -- What the PMTs say beside a program's own streams (ISO/IEC 13818-1, 2.4.4.8): the streams that it shares, the private
 -- tables that name it.
 use Rattle.std.specs.Prelude.{◌≡◌, ℕ, [], None, Some, All, Contains, slice_get}
-use Rattle.description.specs.Described.{Described, DescribedProgram, DescribedStream, DescribedEntry, DescribedTable}
+use Rattle.description_parts.specs.Described.{Described, DescribedProgram, DescribedStream, DescribedEntry, DescribedTable}
 use Rattle.description.specs.SectionBytes.{pmt_stream, pmt_streams, pmt_says}
 
 -- the PMT of a program names each stream of another program that it shares, as the PMT of that one does

@@ -1,8 +1,8 @@
 -- The PIDs on which a description's output has packets, and that no two of its parts share one.
 use Rattle.std.specs.Prelude.{◌≡◌, ℕ, ◌+◌, ◌<◌, ◌≤◌, List, ◌++◌, Some, length, map, slice_get}
-use Rattle.description.specs.Described.{Described, DescribedProgram, DescribedStream}
-use Rattle.description.specs.Ranges.{IsInRange, IsProgram, IsStream}
-use Rattle.description.specs.Tables.{kind_pid, table_kinds, table_count, table_pid, section_count, round_packets}
+use Rattle.description_parts.specs.Described.{Described, DescribedProgram, DescribedStream}
+use Rattle.description_parts.specs.Ranges.{IsInRange, IsProgram, IsStream}
+use Rattle.description_parts.specs.Tables.{kind_pid, table_kinds, table_count, table_pid, section_count, round_packets}
 
 -- those of the tables in the order of their numbers, of the programs' clocks, of the streams
 abbrev pub all_pids : Described → List ℕ

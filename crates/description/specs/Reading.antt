@@ -2,14 +2,14 @@
 use Rattle.std.specs.Prelude.{Option, None, Some, Result, Ok, Err}
 use Rattle.std.specs.Option.{option_or}
 use Rattle.toml.specs.Data.{Data, Members, table}
-use Rattle.description.specs.Described.{Described}
-use Rattle.description.specs.Contents.{described}
-use Rattle.description.specs.Refusals.{key_fault}
-use Rattle.description.specs.Consistency.{joint_fault}
-use Rattle.description.specs.declared.fault.DescFault.{DescFault}
-use Rattle.description.specs.declared.fault.DescFault.TheVariants.{Text}
-use Rattle.description.specs.declared.fault.DescError.{DescError}
-use Rattle.description.specs.declared.fault.DescError.TheVariants.{Refused}
+use Rattle.description_parts.specs.Described.{Described}
+use Rattle.description_parts.specs.Contents.{described}
+use Rattle.description_keys.specs.Refusals.{key_fault}
+use Rattle.description_parts.specs.Consistency.{joint_fault}
+use Rattle.description_keys.specs.declared.fault.DescFault.{DescFault}
+use Rattle.description_keys.specs.declared.fault.DescFault.TheVariants.{Text}
+use Rattle.description_keys.specs.declared.fault.DescError.{DescError}
+use Rattle.description_keys.specs.declared.fault.DescError.TheVariants.{Refused}
 
 -- the first refusal of a document
 abbrev pub fault : Data → Option DescFault

@@ -19,10 +19,10 @@ use Rattle.dvb_tables.specs.EventInformation.{EitView, eit_section}
 use Rattle.dvb_tables.specs.TimeAndDate.{tdt_section}
 use Rattle.dvb_tables.specs.declared.running_status.RunningStatus.{RunningStatus}
 use Rattle.dvb_tables.specs.declared.running_status.RunningStatus.TheVariants.{Running, NotRunning}
-use Rattle.description.specs.Described.{Described, DescribedNetwork, DescribedProgram, DescribedStream, DescribedEvent, DescribedEntry, DescribedTable}
-use Rattle.description.specs.Tables.{has_event, scheduled_programs, table_kind, is_shared_with, entry_in}
-use Rattle.description.specs.declared.table_kind.TableKind.{TableKind}
-use Rattle.description.specs.declared.table_kind.TableKind.TheVariants as kind
+use Rattle.description_parts.specs.Described.{Described, DescribedNetwork, DescribedProgram, DescribedStream, DescribedEvent, DescribedEntry, DescribedTable}
+use Rattle.description_parts.specs.Tables.{has_event, scheduled_programs, table_kind, is_shared_with, entry_in}
+use Rattle.description_parts.specs.declared.table_kind.TableKind.{TableKind}
+use Rattle.description_parts.specs.declared.table_kind.TableKind.TheVariants as kind
 
 -- the header of a table that is one section, version 0
 abbrev pub single_header : ℕ → LongHeader

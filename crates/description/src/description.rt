@@ -2,14 +2,11 @@
 
 ghost use Rattle.std.specs.Prelude.{◌≡◌, ◌^◌, ◌<◌, option_map};
 
-use crate::contents::Contents;
-use crate::network::Network;
-use crate::private_table::PrivateTable;
-use crate::program::ProgramDescription;
-use crate::section_lengths::packets_of_sections;
-use crate::stream::StreamDescription;
-use crate::table_kind::TableKind;
 use clock27::Rate;
+use description_parts::section_lengths::packets_of_sections;
+use description_parts::{
+    Contents, Network, PrivateTable, ProgramDescription, StreamDescription, TableKind,
+};
 use std::marker::Model;
 
 /// What a transport stream carries: its rate and clock, its programs and streams, its tables. PIDs and
@@ -20,11 +17,11 @@ pub struct Description {
 }
 
 impl Model for Description {
-    ghost use Rattle.description.specs.Described.{Described};
+    ghost use Rattle.description_parts.specs.Described.{Described};
 
     ghost Value = { Described };
 
-    ghost use Rattle.description.specs.Ranges.{IsInRange};
+    ghost use Rattle.description_parts.specs.Ranges.{IsInRange};
 
     ghost view = { λ d. d.contents };
 
@@ -32,9 +29,9 @@ impl Model for Description {
 }
 
 impl Description {
-    ghost use Rattle.description.specs.Ranges.{IsInRange};
-    ghost use Rattle.description.specs.Tables.{table_count, table_kind, table_pid, table_limit, section_count};
-    ghost use Rattle.description.specs.Tables.{greatest_length, round_packets};
+    ghost use Rattle.description_parts.specs.Ranges.{IsInRange};
+    ghost use Rattle.description_parts.specs.Tables.{table_count, table_kind, table_pid, table_limit, section_count};
+    ghost use Rattle.description_parts.specs.Tables.{greatest_length, round_packets};
 
     /// States that the numbers of every description are in range, and its PIDs distinct.
     pub fn keeps_ranges(&self)

@@ -7,12 +7,12 @@ ghost use Rattle.std.specs.Option.{option_to_list};
 ghost use Rattle.dvb_tables.specs.Descriptors.{short_event_descriptor};
 ghost use Rattle.dvb_tables.specs.EventEntries.{event_view as entry_view};
 ghost use Rattle.dvb_tables.specs.EventInformation.{event_loop_of};
-ghost use Rattle.description.specs.Described.{event_view};
+ghost use Rattle.description_parts.specs.Described.{event_view};
 ghost use Rattle.description.specs.SectionBytes as spec;
 
 use crate::description::Description;
-use crate::program::ProgramDescription;
 use arrayvec::ArrayVec;
+use description_parts::ProgramDescription;
 use dvb_tables::{
     EIT_TABLE_ID, EitPf, Event, EventEntry, EventLoop, RunningStatus, duration_digits,
     present_following, push_short_event, utc_time,

@@ -7,13 +7,13 @@ ghost use Rattle.dvb_tables.specs.Descriptors.{network_name_descriptor};
 ghost use Rattle.dvb_tables.specs.NetworkInformation.{nit_section};
 ghost use Rattle.dvb_tables.specs.TransportStreams.{transport_stream_view, transport_stream_loop_of};
 ghost use Rattle.dvb_tables.specs.TransportStreams.{transport_streams_of, transport_streams_bytes};
-ghost use Rattle.description.specs.Ranges.{IsNetwork, longest_section};
-ghost use Rattle.description.specs.Tables.{nit_length};
+ghost use Rattle.description_parts.specs.Ranges.{IsNetwork, longest_section};
+ghost use Rattle.description_parts.specs.Tables.{nit_length};
 ghost use Rattle.description.specs.SectionBytes as spec;
 
 use crate::description::Description;
-use crate::network::Network;
 use arrayvec::ArrayVec;
+use description_parts::Network;
 use dvb_tables::{Nit, TransportStream, TransportStreamLoop, TransportStreams, push_network_name};
 use psi_tables::LongHeader;
 

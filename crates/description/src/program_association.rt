@@ -3,12 +3,12 @@
 ghost use Rattle.std.specs.Prelude.{◌≡◌, ◌≤◌, ◌<◌, ◌++◌, ◌+◌, [], ◌∷◌, All, length, map};
 ghost use Rattle.psi_tables.specs.ProgramAssociation.{program_loop_of, pat_section};
 ghost use Rattle.psi_tables.specs.Encoding.{section_bytes};
-ghost use Rattle.description.specs.Ranges.{IsProgram};
+ghost use Rattle.description_parts.specs.Ranges.{IsProgram};
 ghost use Rattle.description.specs.SectionBytes as spec;
 
 use crate::description::Description;
-use crate::program::ProgramDescription;
 use arrayvec::ArrayVec;
+use description_parts::ProgramDescription;
 use psi_tables::{LongHeader, Pat, Program, ProgramLoop};
 
 // Adds an entry, for which there is room.

@@ -6,17 +6,15 @@ ghost use Rattle.arrayvec.specs.ArrayVec.{array_vec_len};
 ghost use Rattle.psi_tables.specs.ProgramMap.{stream_loop_of, streams_of, streams_bytes, pmt_section};
 ghost use Rattle.psi_tables.specs.Encoding.{section_bytes};
 ghost use Rattle.psi_tables.specs.declared.writing.TheConstants.{GREATEST_TABLE_LENGTH};
-ghost use Rattle.description.specs.Ranges.{IsProgram, IsStream, IsTable, longest_section};
-ghost use Rattle.description.specs.Tables.{es_info_length, entry_length, shared_length, listed_length, pmt_length};
+ghost use Rattle.description_parts.specs.Ranges.{IsProgram, IsStream, IsTable, longest_section};
+ghost use Rattle.description_parts.specs.Tables.{es_info_length, entry_length, shared_length, listed_length};
+ghost use Rattle.description_parts.specs.Tables.{pmt_length};
 ghost use Rattle.description.specs.SectionBytes as spec;
 
 use crate::description::Description;
-use crate::map_entry::MapEntry;
-use crate::private_table::PrivateTable;
-use crate::program::ProgramDescription;
-use crate::stream::StreamDescription;
 use arrayvec::ArrayVec;
 use bit_fields::append;
+use description_parts::{MapEntry, PrivateTable, ProgramDescription, StreamDescription};
 use dvb_tables::{push_iso_639_language, push_stream_identifier};
 use psi_tables::{LongHeader, Pmt, Stream, StreamLoop, Streams};
 

@@ -5,11 +5,11 @@ ghost use Rattle.toml.specs.Parse.{parse_document};
 ghost use Rattle.toml.specs.View.{view};
 ghost use Rattle.description.specs.Reading.{read_document, description_of};
 
-use crate::building::contents_of;
-use crate::consistency::joint_fault;
 use crate::description::Description;
-use crate::fault::{DescError, DescFault};
-use crate::refusals::key_fault;
+use description_keys::refusals::key_fault;
+use description_keys::{DescError, DescFault};
+use description_parts::building::contents_of;
+use description_parts::consistency::joint_fault;
 use std::alloc::{AllocError, Global};
 use toml::Value;
 

@@ -2,14 +2,14 @@
 
 ghost use Rattle.std.specs.Prelude.{◌≡◌, ◌<◌, ◌≤◌, filter, option_map, slice_get};
 ghost use Rattle.arrayvec.specs.ArrayVec.{array_vec_len};
-ghost use Rattle.description.specs.Tables.{has_event, table_count, section_count, greatest_length};
+ghost use Rattle.description_parts.specs.Tables.{has_event, table_count, section_count, greatest_length};
 ghost use Rattle.description.specs.SectionBytes as spec;
 
 use crate::description::Description;
-use crate::program::ProgramDescription;
-use crate::table_kind::{TableKind, has_event};
 use arrayvec::ArrayVec;
 use bit_fields::append;
+use description_parts::table_kind::has_event;
+use description_parts::{ProgramDescription, TableKind};
 use dvb_tables::{Tdt, utc_time};
 
 // The time and date section.

@@ -7,14 +7,14 @@ ghost use Rattle.dvb_tables.specs.declared.service_loop.TheConstants.{GREATEST_S
 ghost use Rattle.dvb_tables.specs.Descriptors.{service_descriptor};
 ghost use Rattle.dvb_tables.specs.ServiceDescription.{sdt_section};
 ghost use Rattle.dvb_tables.specs.Services.{service_loop_of, services_of, services_bytes};
-ghost use Rattle.description.specs.Ranges.{IsProgram, longest_section};
-ghost use Rattle.description.specs.Tables.{service_length, sdt_length};
+ghost use Rattle.description_parts.specs.Ranges.{IsProgram, longest_section};
+ghost use Rattle.description_parts.specs.Tables.{service_length, sdt_length};
 ghost use Rattle.description.specs.SectionBytes as spec;
 
 use crate::description::Description;
-use crate::program::ProgramDescription;
-use crate::table_kind::has_event;
 use arrayvec::ArrayVec;
+use description_parts::ProgramDescription;
+use description_parts::table_kind::has_event;
 use dvb_tables::{RunningStatus, Sdt, Service, ServiceLoop, Services, push_service};
 use psi_tables::LongHeader;
 

@@ -1,7 +1,7 @@
 //! The sections of a table, by their greatest lengths.
 
 ghost use Rattle.std.specs.Prelude.{◌≡◌};
-ghost use Rattle.description.specs.Tables.{section_lengths};
+ghost use Rattle.description_parts.specs.Tables.{section_lengths};
 
 use crate::description::Description;
 use arrayvec::ArrayVec;

@@ -5,7 +5,7 @@ use Rattle.std.specs.Int.{div_ceil}
 use Rattle.std.specs.List.{flat_map}
 use Rattle.clock27.specs.Units.{slot_seconds_at_1bps}
 use Rattle.unit_timing.specs.Allowances.{steady_time}
-use Rattle.description.specs.Described.{Described, DescribedProgram, DescribedStream}
+use Rattle.description_parts.specs.Described.{Described, DescribedProgram, DescribedStream}
 use Rattle.slot_plan.specs.Entries.{Entry, code_of}
 use Rattle.slot_plan.specs.Planned.{Planned}
 use Rattle.slot_plan.specs.declared.condition.Condition.{Condition}

@@ -1,11 +1,11 @@
 -- What is said of a description, or of a description and a plan for it.
 use Rattle.std.specs.Prelude.{◌≡◌, ℕ, ◌==◌, List, [], ◌++◌, length, Option, Some, None, Result, Ok, Err, codes, decimal, if◌then◌else◌}
 use Rattle.std.specs.Str.{is_utf8}
-use Rattle.description.specs.Described.{Described}
-use Rattle.description.specs.declared.fault.DescError.{DescError}
-use Rattle.description.specs.declared.fault.DescFault.{DescFault}
-use Rattle.description.specs.declared.fault.DescFault.TheVariants.{Text, UnknownKey}
-use Rattle.description.specs.declared.fault.DescError.TheVariants.{Refused, Memory}
+use Rattle.description_parts.specs.Described.{Described}
+use Rattle.description_keys.specs.declared.fault.DescError.{DescError}
+use Rattle.description_keys.specs.declared.fault.DescFault.{DescFault}
+use Rattle.description_keys.specs.declared.fault.DescFault.TheVariants.{Text, UnknownKey}
+use Rattle.description_keys.specs.declared.fault.DescError.TheVariants.{Refused, Memory}
 use Rattle.slot_plan.specs.Planned.{Planned}
 use Rattle.checked_jobs.specs.Jobs.{described, parts_of, planned}
 use Rattle.diagnosis.specs.ConditionLines.{condition_lines}

@@ -1,7 +1,7 @@
 -- The line for why a description is refused.
 use Rattle.std.specs.Prelude.{ℕ, ◌==◌, Bool, List, ◌++◌, length, Option, Some, None, codes, decimal, if◌then◌else◌}
-use Rattle.description.specs.declared.fault.DescFault.{DescFault}
-use Rattle.description.specs.declared.fault.DescFault.TheVariants as fault
+use Rattle.description_keys.specs.declared.fault.DescFault.{DescFault}
+use Rattle.description_keys.specs.declared.fault.DescFault.TheVariants as fault
 use Rattle.diagnosis.specs.declared.key_tables.KeyTable.{KeyTable}
 use Rattle.diagnosis.specs.declared.key_tables.KeyTable.TheVariants.{Document, Network, Program, Stream, Event, Private}
 use Rattle.diagnosis.specs.declared.equal_keys.EqualKeys.TheVariants.{Pids, Numbers}

@@ -1,17 +1,17 @@
 -- The keys of a description by name, and the values that each may have, in words.
 use Rattle.std.specs.Prelude.{ℕ, List, codes}
-use Rattle.description.specs.declared.top_keys.TopKey.{TopKey}
-use Rattle.description.specs.declared.top_keys.TopKey.TheVariants as top
-use Rattle.description.specs.declared.network_keys.NetworkKey.{NetworkKey}
-use Rattle.description.specs.declared.network_keys.NetworkKey.TheVariants as network
-use Rattle.description.specs.declared.program_keys.ProgramKey.{ProgramKey}
-use Rattle.description.specs.declared.program_keys.ProgramKey.TheVariants as program
-use Rattle.description.specs.declared.stream_keys.StreamKey.{StreamKey}
-use Rattle.description.specs.declared.stream_keys.StreamKey.TheVariants as stream
-use Rattle.description.specs.declared.event_keys.EventKey.{EventKey}
-use Rattle.description.specs.declared.event_keys.EventKey.TheVariants as event
-use Rattle.description.specs.declared.table_keys.TableKey.{TableKey}
-use Rattle.description.specs.declared.table_keys.TableKey.TheVariants as table
+use Rattle.description_keys.specs.declared.top_keys.TopKey.{TopKey}
+use Rattle.description_keys.specs.declared.top_keys.TopKey.TheVariants as top
+use Rattle.description_keys.specs.declared.network_keys.NetworkKey.{NetworkKey}
+use Rattle.description_keys.specs.declared.network_keys.NetworkKey.TheVariants as network
+use Rattle.description_keys.specs.declared.program_keys.ProgramKey.{ProgramKey}
+use Rattle.description_keys.specs.declared.program_keys.ProgramKey.TheVariants as program
+use Rattle.description_keys.specs.declared.stream_keys.StreamKey.{StreamKey}
+use Rattle.description_keys.specs.declared.stream_keys.StreamKey.TheVariants as stream
+use Rattle.description_keys.specs.declared.event_keys.EventKey.{EventKey}
+use Rattle.description_keys.specs.declared.event_keys.EventKey.TheVariants as event
+use Rattle.description_keys.specs.declared.table_keys.TableKey.{TableKey}
+use Rattle.description_keys.specs.declared.table_keys.TableKey.TheVariants as table
 
 unfoldable pub top_words : TopKey → List ℕ × List ℕ
 top_words top.Rate = (codes "rate", codes "100000 to 100000000 bits a second")

@@ -4,7 +4,7 @@ use Rattle.std.specs.List.{flat_map}
 use Rattle.unit_timing.specs.declared.allowance.Allowance.{Allowance}
 use Rattle.unit_timing.specs.declared.allowance.Allowance.TheVariants.{Groups, Pace}
 use Rattle.unit_timing.specs.declared.multiplexing_buffer.MultiplexingBuffer.{MultiplexingBuffer}
-use Rattle.description.specs.Described.{Described, DescribedProgram, DescribedStream}
+use Rattle.description_parts.specs.Described.{Described, DescribedProgram, DescribedStream}
 use Rattle.plan_maker.specs.declared.reason.Reason.{Reason}
 use Rattle.plan_maker.specs.declared.reason.Reason.TheVariants.{PcrLimit, TableLimit, SlowDrain, SlowLeak, ShortLead, SmallMain, Overload}
 use Rattle.plan_maker.specs.Reasons.{reasons_of}

@@ -3,12 +3,12 @@
 use Rattle.std.specs.Prelude.{ℕ, ◌+◌, ◌==◌, ◌&&◌, not, Bool, true, false, List, [], ◌∷◌, ◌++◌, length, Option, Some, None, codes, nat_lt, if◌then◌else◌}
 use Rattle.std.specs.List.{before_first, list_any, position_or_len}
 use Rattle.std.specs.Str.{bytes_eq, is_utf8}
-use Rattle.description.specs.EventKeys.{event_key_names}
-use Rattle.description.specs.NetworkKeys.{network_key_names}
-use Rattle.description.specs.ProgramKeys.{program_key_names}
-use Rattle.description.specs.StreamKeys.{stream_key_names}
-use Rattle.description.specs.TableKeys.{table_key_names}
-use Rattle.description.specs.TopKeys.{top_key_names}
+use Rattle.description_keys.specs.EventKeys.{event_key_names}
+use Rattle.description_keys.specs.NetworkKeys.{network_key_names}
+use Rattle.description_keys.specs.ProgramKeys.{program_key_names}
+use Rattle.description_keys.specs.StreamKeys.{stream_key_names}
+use Rattle.description_keys.specs.TableKeys.{table_key_names}
+use Rattle.description_keys.specs.TopKeys.{top_key_names}
 use Rattle.word_faults.specs.Hints.{nearest}
 use Rattle.diagnosis.specs.EqualKeys.{first_word}
 use Rattle.diagnosis.specs.KeyPlaces.{begins, row_words, unindented}

@@ -9,7 +9,7 @@ use crate::key_tables::{KeyTable, row_of, write_table};
 use crate::key_words::{
     KeyWords, event_words, network_words, program_words, stream_words, table_words, top_words,
 };
-use description::DescFault;
+use description_keys::DescFault;
 use std::alloc::AllocError;
 use std::fmt::Write;
 

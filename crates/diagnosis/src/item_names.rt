@@ -3,7 +3,8 @@
 ghost use Rattle.std.specs.Prelude.{◌≡◌, ◌++◌, OnOk, option_map, string_bytes};
 ghost use Rattle.diagnosis.specs.ItemNames as spec;
 
-use description::{Description, ProgramDescription, StreamDescription, TableKind};
+use description::Description;
+use description_parts::{ProgramDescription, StreamDescription, TableKind};
 use std::alloc::AllocError;
 use std::fmt::Write;
 

@@ -3,7 +3,7 @@
 ghost use Rattle.std.specs.Prelude.{◌≡◌};
 ghost use Rattle.diagnosis.specs.KeyWords as spec;
 
-use description::{EventKey, NetworkKey, ProgramKey, StreamKey, TableKey, TopKey};
+use description_keys::{EventKey, NetworkKey, ProgramKey, StreamKey, TableKey, TopKey};
 
 /// The name of a key, and the values that it may have.
 pub type KeyWords = (&'static str, &'static str);

@@ -5,7 +5,7 @@ ghost use Rattle.diagnosis.specs.ReasonLines as spec;
 
 use crate::item_names::write_name_of_program;
 use crate::least_values::write_less;
-use description::ProgramDescription;
+use description_parts::ProgramDescription;
 use std::alloc::AllocError;
 
 /// The greatest value of `pcr_limit`, in ms.

@@ -5,7 +5,7 @@ ghost use Rattle.diagnosis.specs.ReasonLines as spec;
 
 use crate::item_names::write_name_of_stream;
 use crate::least_values::write_less;
-use description::StreamDescription;
+use description_parts::StreamDescription;
 use std::alloc::AllocError;
 use unit_timing::allowance::Allowance;
 use unit_timing::multiplexing_buffer::MultiplexingBuffer;

@@ -3,7 +3,8 @@
 ghost use Rattle.std.specs.Prelude.{◌≡◌, ◌≤◌, ◌++◌, OnOk, option_map, string_bytes};
 ghost use Rattle.explained_jobs.specs.UnitWords as spec;
 
-use description::{Description, StreamDescription};
+use description::Description;
+use description_parts::StreamDescription;
 use pes_packet::Unit;
 use std::alloc::AllocError;
 use std::fmt::Write;

@@ -4,7 +4,7 @@ ghost use Rattle.std.specs.Prelude.{◌≡◌, ◌++◌, OnOk, string_bytes};
 ghost use Rattle.job_run.specs.RefusalLine as spec;
 ghost use Rattle.stream_jobs.specs.declared.refusal.JobRefusal.TheVariants as refusals;
 
-use description::DescFault;
+use description_keys::DescFault;
 use diagnosis::write_fault;
 use es_units::{DtsFault, StampFault};
 use std::alloc::AllocError;

@@ -12,7 +12,7 @@ use Rattle.carry.specs.RecordRuns.{after_records}
 use Rattle.mux_core.specs.Scheduled.{Scheduled}
 use Rattle.mux_core.specs.WholeJobs.{capacity_for, first_refused, job_history, or_cause, output_of}
 use Rattle.mux_core.specs.declared.multiplexing.MuxError.{MuxError}
-use Rattle.description.specs.Described.{Described}
+use Rattle.description_parts.specs.Described.{Described}
 use Rattle.slot_plan.specs.Planned.{Planned}
 use Rattle.plan_checker.specs.Served.{Served}
 use Rattle.devices.specs.Devices.{Device, Port, Takes, between}

@@ -9,18 +9,19 @@ use Rattle.unit_timing.specs.declared.allowance.Allowance.{Allowance}
 use Rattle.unit_timing.specs.declared.allowance.Allowance.TheVariants.{Groups, Pace}
 use Rattle.unit_timing.specs.declared.framing.Framing.{Framing}
 use Rattle.unit_timing.specs.declared.multiplexing_buffer.MultiplexingBuffer.{MultiplexingBuffer}
-use Rattle.description.specs.Described.{Described, DescribedStream}
-use Rattle.description.specs.Contents.{described, described_stream}
+use Rattle.description_parts.specs.Described.{Described, DescribedStream}
+use Rattle.description_parts.specs.Contents.{described, described_stream}
 use Rattle.description.specs.Reading.{description_of, fault}
-use Rattle.description.specs.Consistency.{joint_fault}
-use Rattle.description.specs.Refusals.{key_fault, first_refused, stream_keys, streams_of}
-use Rattle.description.specs.StreamKeys.{refuses_stream, refuses_rbx, refuses_mb, refuses_frames, refuses_frame, refuses_frame_size, stream_multiplexing, stream_framing, greatest_rbx, greatest_frame, stream_size}
-use Rattle.description.specs.Values.{elements, elements_in, integer_in, list_of, tables_at}
-use Rattle.description.specs.declared.fault.DescFault.{DescFault}
-use Rattle.description.specs.declared.fault.DescFault.TheVariants.{Streams, Stream}
-use Rattle.description.specs.declared.fault.DescError.{DescError}
-use Rattle.description.specs.declared.fault.DescError.TheVariants.{Refused}
-use Rattle.description.proofs.Counts.{AllAccept, all_accept, if_none, map_none, no_fault, or_none}
+use Rattle.description_parts.specs.Consistency.{joint_fault}
+use Rattle.description_values.specs.KnownKeys.{first_refused}
+use Rattle.description_keys.specs.Refusals.{key_fault, stream_keys, streams_of}
+use Rattle.description_keys.specs.StreamKeys.{refuses_stream, refuses_rbx, refuses_mb, refuses_frames, refuses_frame, refuses_frame_size, stream_multiplexing, stream_framing, greatest_rbx, greatest_frame, stream_size}
+use Rattle.description_values.specs.Values.{elements, elements_in, integer_in, list_of, tables_at}
+use Rattle.description_keys.specs.declared.fault.DescFault.{DescFault}
+use Rattle.description_keys.specs.declared.fault.DescFault.TheVariants.{Streams, Stream}
+use Rattle.description_keys.specs.declared.fault.DescError.{DescError}
+use Rattle.description_keys.specs.declared.fault.DescError.TheVariants.{Refused}
+use Rattle.description_parts.proofs.Counts.{AllAccept, all_accept, if_none, map_none, no_fault, or_none}
 use Rattle.job_text.specs.DescriptionParts.{EventPartView, HeadingView, NetworkPartView, ProgramPartView, StreamPartView, TablePartView}
 use Rattle.job_text.specs.Documents.{document, elements_of, event_table, network_table, program_table, stream_table, table_table, stream_members, stream_rest, with_table, with_tables}
 use Rattle.job_text.specs.Fields.{limit_numbers}

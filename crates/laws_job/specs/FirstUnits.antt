@@ -3,8 +3,8 @@ use Rattle.std.specs.Prelude.{◌≡◌, ◌<◌, ℕ, ◌+◌, ◌*◌, ◌%◌
 use Rattle.pes_packet.specs.AccessUnits.{AccessUnit}
 use Rattle.pes_packet.specs.Units.{units_of}
 use Rattle.ts_packet.specs.PidList.{Entry, pid_list}
-use Rattle.description.specs.Described.{Described, DescribedStream}
-use Rattle.description.specs.Ranges.{IsInRange}
+use Rattle.description_parts.specs.Described.{Described, DescribedStream}
+use Rattle.description_parts.specs.Ranges.{IsInRange}
 use Rattle.slot_plan.specs.Planned.{Planned}
 use Rattle.slot_plan.specs.Conditions.{IsServing}
 use Rattle.demux.specs.Views.{FindingView}

@@ -8,20 +8,20 @@ use Rattle.std.proofs.lemmas.Str.{is_utf8-from_IsUtf8}
 use Rattle.toml.specs.Parse.{parse_document}
 use Rattle.toml.specs.Data.{Data, Members, table}
 use Rattle.pes_packet.specs.AccessUnits.{AccessUnit}
-use Rattle.description.specs.Consistency.{joint_fault}
-use Rattle.description.specs.Contents.{described as described_by}
-use Rattle.description.specs.Described.{Described}
-use Rattle.description.specs.Ranges.{IsInRange}
+use Rattle.description_parts.specs.Consistency.{joint_fault}
+use Rattle.description_parts.specs.Contents.{described as described_by}
+use Rattle.description_parts.specs.Described.{Described}
+use Rattle.description_parts.specs.Ranges.{IsInRange}
 use Rattle.description.specs.Reading.{description_of, fault, read_document}
-use Rattle.description.specs.Refusals.{key_fault}
-use Rattle.description.specs.Tables.{has_event, only_if, service_tables, table_count}
-use Rattle.description.specs.declared.table_kind.TableKind.TheVariants.{Eit, Nit, Sdt, Tdt}
-use Rattle.description.specs.declared.fault.DescError.{DescError}
-use Rattle.description.specs.declared.fault.DescError.TheVariants as refused_by
-use Rattle.description.specs.declared.fault.DescFault.{DescFault}
-use Rattle.description.specs.declared.fault.DescFault.TheVariants as desc
-use Rattle.description.proofs.TableNumbers.{table_count-is}
-use Rattle.description.proofs.WholeInRange.{described-in_range}
+use Rattle.description_keys.specs.Refusals.{key_fault}
+use Rattle.description_parts.specs.Tables.{has_event, only_if, service_tables, table_count}
+use Rattle.description_parts.specs.declared.table_kind.TableKind.TheVariants.{Eit, Nit, Sdt, Tdt}
+use Rattle.description_keys.specs.declared.fault.DescError.{DescError}
+use Rattle.description_keys.specs.declared.fault.DescError.TheVariants as refused_by
+use Rattle.description_keys.specs.declared.fault.DescFault.{DescFault}
+use Rattle.description_keys.specs.declared.fault.DescFault.TheVariants as desc
+use Rattle.description_parts.proofs.TableNumbers.{table_count-is}
+use Rattle.description_parts.proofs.WholeInRange.{described-in_range}
 use Rattle.slot_plan.specs.Conditions.{IsServing}
 use Rattle.slot_plan.specs.Entries.{Entry}
 use Rattle.slot_plan.specs.Planned.{Planned, plan_error}

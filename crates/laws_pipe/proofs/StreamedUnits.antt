@@ -7,10 +7,10 @@ use Rattle.std.proofs.lemmas.List.{append-nil, length-map}
 use Rattle.std.proofs.lemmas.Option.{get_or_from_slice_get, same_Some, slice_get_within, slice_get-map}
 use Rattle.pes_packet.specs.AccessUnits.{AccessUnit}
 use Rattle.pes_packet.specs.Units.{units_of}
-use Rattle.description.specs.Described.{Described, DescribedStream}
-use Rattle.description.specs.Ranges.{IsInRange}
+use Rattle.description_parts.specs.Described.{Described, DescribedStream}
+use Rattle.description_parts.specs.Ranges.{IsInRange}
 use Rattle.description.proofs.Pids.{pid_positions, pids_apart}
-use Rattle.description.specs.Tables.{table_count}
+use Rattle.description_parts.specs.Tables.{table_count}
 use Rattle.demux.specs.Views.{FindingView}
 use Rattle.packet_sync.specs.Slips.{carried}
 use Rattle.data_times.specs.DataTimes.{is_unstamped, seen_in}

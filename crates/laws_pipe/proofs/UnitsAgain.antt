@@ -4,8 +4,8 @@ use Rattle.std.proofs.Common.{ap, subst, ◌∙◌, arith, mul-le-mul, mul-le-mu
 use Rattle.std.proofs.lemmas.List.Elements.{All-nil, All-cons, All-filter, All-map, All-weaker}
 use Rattle.pes_packet.specs.AccessUnits.{AccessUnit}
 use Rattle.pes_packet.specs.Units.{units_of}
-use Rattle.description.specs.Described.{Described, DescribedStream}
-use Rattle.description.specs.Ranges.{IsInRange}
+use Rattle.description_parts.specs.Described.{Described, DescribedStream}
+use Rattle.description_parts.specs.Ranges.{IsInRange}
 use Rattle.demux.specs.Views.{FindingView}
 use Rattle.slot_plan.specs.Conditions.{IsServing}
 use Rattle.mux_core.specs.WholeJobs.{job_history, output_of}

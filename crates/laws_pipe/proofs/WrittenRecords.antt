@@ -5,8 +5,8 @@ use Rattle.std.proofs.lemmas.List.Elements.{All-nil, All-cons, All-head, All-tai
 use Rattle.byteorder.specs.Endian.{big_bytes}
 use Rattle.pes_packet.specs.AccessUnits.{AccessUnit}
 use Rattle.pes_packet.specs.Units.{units_of}
-use Rattle.description.specs.Described.{DescribedStream}
-use Rattle.description.specs.Ranges.{IsInRange, IsStream}
+use Rattle.description_parts.specs.Described.{DescribedStream}
+use Rattle.description_parts.specs.Ranges.{IsInRange, IsStream}
 use Rattle.description.proofs.Pids.{stream_range}
 use Rattle.unit_records.specs.Laws.{FitsRecord, RecordsAreRead}
 use Rattle.unit_records.specs.Records.{after_record, private_bytes, private_size, record_at, record_bytes, record_head, word_of}

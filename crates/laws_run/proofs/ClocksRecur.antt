@@ -15,10 +15,10 @@ use Rattle.ts_packet.specs.PidList.{Entry, is_of_pid, pid_list}
 use Rattle.slot_contents.specs.Contents.{Content, PayloadContent, PcrContent, NullContent, Piece, view_of, run_bytes, entries_in}
 use Rattle.slot_contents.specs.RunLaws.{Fits}
 use Rattle.slot_contents.proofs.Runs.{run_pid_list}
-use Rattle.description.specs.Described.{Described, DescribedProgram, DescribedStream}
-use Rattle.description.specs.Tables.{table_kinds, table_pid}
+use Rattle.description_parts.specs.Described.{Described, DescribedProgram, DescribedStream}
+use Rattle.description_parts.specs.Tables.{table_kinds, table_pid}
 use Rattle.description.proofs.Pids.{at_place}
-use Rattle.description.specs.declared.table_kind.TableKind.{TableKind}
+use Rattle.description_parts.specs.declared.table_kind.TableKind.{TableKind}
 use Rattle.slot_plan.specs.declared.slot.Slot.{Slot}
 use Rattle.slot_plan.specs.declared.slot.Slot.TheVariants.{Stream, Pcr, Table, Null}
 use Rattle.slot_plan.specs.Schedule.{slot_of}

@@ -14,11 +14,11 @@ use Rattle.dvb_tables.specs.ServiceDescription.{sdt_body, sdt_section}
 use Rattle.dvb_tables.specs.EventInformation.{eit_body, eit_section}
 use Rattle.dvb_tables.specs.TimeAndDate.{tdt_section}
 use Rattle.dvb_tables.specs.CodedTimes.{utc_time_bytes}
-use Rattle.description.specs.Described.{Described, DescribedNetwork, DescribedProgram}
-use Rattle.description.specs.Ranges.{IsInRange, IsProgram, IsNetwork}
-use Rattle.description.specs.Tables.{pmt_length, nit_length}
+use Rattle.description_parts.specs.Described.{Described, DescribedNetwork, DescribedProgram}
+use Rattle.description_parts.specs.Ranges.{IsInRange, IsProgram, IsNetwork}
+use Rattle.description_parts.specs.Tables.{pmt_length, nit_length}
 use Rattle.description.specs.SectionBytes.{single_header, pat_says, pmt_says, nit_says, sdt_says, eit_says, kind_bytes}
-use Rattle.description.specs.declared.table_kind.TableKind.TheVariants.{Pat, Tdt}
+use Rattle.description_parts.specs.declared.table_kind.TableKind.TheVariants.{Pat, Tdt}
 
 -- these bytes are a section that can be written, and their table_id is not 0xFF
 pub record IsWritten (text : List ℕ) : Type 0 where

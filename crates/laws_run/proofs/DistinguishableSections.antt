@@ -9,13 +9,13 @@ use Rattle.std.specs.List.{flat_map}
 use Rattle.psi_tables.specs.Views.{SectionView}
 use Rattle.psi_tables.specs.Reading.{section_at}
 use Rattle.psi_tables.specs.declared.error.SectionError.{SectionError}
-use Rattle.description.specs.Described.{Described, DescribedTable}
-use Rattle.description.specs.Ranges.{IsInRange, IsTable}
-use Rattle.description.specs.Values.{is_one_section}
-use Rattle.description.specs.Tables.{table_kinds, table_kind, table_count, section_count, section_lengths}
+use Rattle.description_parts.specs.Described.{Described, DescribedTable}
+use Rattle.description_parts.specs.Ranges.{IsInRange, IsTable}
+use Rattle.description_values.specs.Values.{is_one_section}
+use Rattle.description_parts.specs.Tables.{table_kinds, table_kind, table_count, section_count, section_lengths}
 use Rattle.description.specs.SectionBytes.{table_bytes}
-use Rattle.description.specs.declared.table_kind.TableKind.{TableKind}
-use Rattle.description.specs.declared.table_kind.TableKind.TheVariants.{Pat, Pmt, Nit, Sdt, Eit, Tdt, Private}
+use Rattle.description_parts.specs.declared.table_kind.TableKind.{TableKind}
+use Rattle.description_parts.specs.declared.table_kind.TableKind.TheVariants.{Pat, Pmt, Nit, Sdt, Eit, Tdt, Private}
 use Rattle.demux.specs.Roles.{may_begin_pes}
 use Rattle.table_rounds.specs.Tables.{Table, moment_of}
 use Rattle.laws_pid.specs.Sections.{IsRecognized}

@@ -13,11 +13,11 @@ use Rattle.psi_tables.specs.ProgramMap.{StreamFits, StreamsFit, PmtFits, PmtView
 use Rattle.psi_tables.specs.declared.pat.programs.Program.{Program}
 use Rattle.psi_tables.proofs.PmtForms.{written}
 use Rattle.psi_tables.proofs.SectionWritten.{written as section_written}
-use Rattle.description.specs.Described.{Described, DescribedProgram, DescribedStream}
-use Rattle.description.specs.Ranges.{IsInRange, IsProgram, IsStream, longest_section}
-use Rattle.description.specs.Tables.{table_kinds, table_kind, table_count, table_limit, section_lengths, kind_lengths, pmt_length, is_shared_with}
+use Rattle.description_parts.specs.Described.{Described, DescribedProgram, DescribedStream}
+use Rattle.description_parts.specs.Ranges.{IsInRange, IsProgram, IsStream, longest_section}
+use Rattle.description_parts.specs.Tables.{table_kinds, table_kind, table_count, table_limit, section_lengths, kind_lengths, pmt_length, is_shared_with}
 use Rattle.description.specs.SectionBytes.{network_entries, pat_entry, pmt_stream, is_of_program, pmt_streams, pmt_shared, pmt_tables, pmt_says, kind_bytes, table_bytes}
-use Rattle.description.specs.declared.table_kind.TableKind.TheVariants.{Pmt}
+use Rattle.description_parts.specs.declared.table_kind.TableKind.TheVariants.{Pmt}
 use Rattle.description.proofs.LoopLengths.{stream_descriptors-length}
 use Rattle.description.proofs.Pids.{at_place}
 use Rattle.description.proofs.SectionBounds.{table_bytes_fit}

@@ -2,7 +2,7 @@
 use Rattle.std.proofs.Common.{◌≡◌, ℕ, List, [], ◌∷◌, ◌++◌, length, Option, Some, None, refl, sym, subst, append-nil, append_assoc}
 use Rattle.pes_packet.specs.AccessUnits.{AccessUnit}
 use Rattle.pes_packet.specs.Units.{units_of}
-use Rattle.description.specs.Ranges.{IsInRange}
+use Rattle.description_parts.specs.Ranges.{IsInRange}
 use Rattle.unit_queue.specs.declared.refusal.FeedError.{FeedError}
 use Rattle.mux_core.specs.Scheduled.{Scheduled}
 use Rattle.mux_core.specs.Histories.{content_at}

@@ -4,9 +4,9 @@ use Rattle.std.specs.List.{cons_option}
 use Rattle.std.specs.Option.{option_to_list}
 use Rattle.std.proofs.lemmas.List.Elements.{All-nil, All-head, All-tail}
 use Rattle.psi_tables.specs.ProgramMap.{StreamView, StreamFits, StreamsFit}
-use Rattle.description.specs.Described.{DescribedEntry, DescribedTable}
-use Rattle.description.specs.Ranges.{IsPid, IsEntry, IsTable}
-use Rattle.description.specs.Tables.{entry_if_of, entry_in}
+use Rattle.description_parts.specs.Described.{DescribedEntry, DescribedTable}
+use Rattle.description_parts.specs.Ranges.{IsPid, IsEntry, IsTable}
+use Rattle.description_parts.specs.Tables.{entry_if_of, entry_in}
 use Rattle.description.specs.SectionBytes.{table_stream, pmt_tables}
 
 kept_if : (b : Bool) (e : DescribedEntry) → All IsEntry (e ∷ []) → All IsEntry (option_to_list (if b then Some e else None))

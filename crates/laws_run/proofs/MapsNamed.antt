@@ -18,9 +18,9 @@ use Rattle.psi_tables.proofs.SectionWritten.{written as section_written}
 use Rattle.slot_contents.specs.Contents.{Content, run_bytes}
 use Rattle.slot_contents.specs.RunLaws.{Fits}
 use Rattle.slot_contents.proofs.Runs.{run_length}
-use Rattle.description.specs.Described.{Described, DescribedNetwork, DescribedProgram}
-use Rattle.description.specs.Ranges.{IsInRange, IsProgram}
-use Rattle.description.specs.Tables.{table_count}
+use Rattle.description_parts.specs.Described.{Described, DescribedNetwork, DescribedProgram}
+use Rattle.description_parts.specs.Ranges.{IsInRange, IsProgram}
+use Rattle.description_parts.specs.Tables.{table_count}
 use Rattle.description.specs.SectionBytes.{network_entries, pat_entry, pat_says, table_bytes}
 use Rattle.demux.specs.Views.{WhatView, IsSection, IsTruncated, PidFinding, FindingView}
 use Rattle.demux.specs.Laws.{with_pid_at}

@@ -5,12 +5,12 @@ use Rattle.pes_packet.specs.AccessUnits.{AccessUnit}
 use Rattle.slot_contents.specs.Contents.{Content, run_bytes}
 use Rattle.slot_contents.specs.RunLaws.{Fits}
 use Rattle.slot_contents.proofs.Runs.{run_length}
-use Rattle.description.specs.Described.{Described, DescribedProgram}
-use Rattle.description.specs.Ranges.{IsInRange}
-use Rattle.description.specs.Tables.{table_kinds, table_kind, table_count, kind_pid, table_pid, table_limit, section_count}
-use Rattle.description.specs.declared.table_kind.TableKind.TheVariants.{Pmt}
+use Rattle.description_parts.specs.Described.{Described, DescribedProgram}
+use Rattle.description_parts.specs.Ranges.{IsInRange}
+use Rattle.description_parts.specs.Tables.{table_kinds, table_kind, table_count, kind_pid, table_pid, table_limit, section_count}
+use Rattle.description_parts.specs.declared.table_kind.TableKind.TheVariants.{Pmt}
 use Rattle.description.proofs.SectionCounts.{sections_law}
-use Rattle.description.proofs.TableNumbers.{table_kind-pmt}
+use Rattle.description_parts.proofs.TableNumbers.{table_kind-pmt}
 use Rattle.slot_plan.specs.TableRounds.{section_starts}
 use Rattle.plan_timing.specs.Promised.{Promised}
 use Rattle.monitor.specs.Gaps.{late}

@@ -6,9 +6,9 @@ use Rattle.own_slots.specs.Rounds.{starts}
 use Rattle.pes_packet.specs.AccessUnits.{AccessUnit}
 use Rattle.pes_packet.specs.StreamIds.{fits_packet}
 use Rattle.slot_contents.specs.Contents.{run_bytes}
-use Rattle.description.specs.Described.{DescribedStream}
-use Rattle.description.specs.Ranges.{IsInRange}
-use Rattle.description.specs.Tables.{table_kinds, table_count, table_pid}
+use Rattle.description_parts.specs.Described.{DescribedStream}
+use Rattle.description_parts.specs.Ranges.{IsInRange}
+use Rattle.description_parts.specs.Tables.{table_kinds, table_count, table_pid}
 use Rattle.description.proofs.SectionCounts.{sections_law}
 use Rattle.description.proofs.SectionBounds.{table_bytes_fit}
 use Rattle.demux.specs.Laws.{with_pid_at, found_of}

@@ -6,11 +6,11 @@ use Rattle.std.proofs.lemmas.List.Elements.{All-head}
 use Rattle.pes_packet.specs.AccessUnits.{AccessUnit}
 use Rattle.slot_contents.specs.Contents.{run_bytes}
 use Rattle.slot_contents.proofs.Runs.{run_length}
-use Rattle.description.specs.Described.{Described, DescribedProgram, DescribedStream, DescribedTable}
-use Rattle.description.specs.Ranges.{IsInRange, IsProgram, IsStream, IsTable}
-use Rattle.description.specs.Tables.{table_kinds, table_pid, kind_pid, kind_limit}
-use Rattle.description.specs.declared.table_kind.TableKind.{TableKind}
-use Rattle.description.specs.declared.table_kind.TableKind.TheVariants.{Pat, Pmt, Nit, Sdt, Eit, Tdt, Private}
+use Rattle.description_parts.specs.Described.{Described, DescribedProgram, DescribedStream, DescribedTable}
+use Rattle.description_parts.specs.Ranges.{IsInRange, IsProgram, IsStream, IsTable}
+use Rattle.description_parts.specs.Tables.{table_kinds, table_pid, kind_pid, kind_limit}
+use Rattle.description_parts.specs.declared.table_kind.TableKind.{TableKind}
+use Rattle.description_parts.specs.declared.table_kind.TableKind.TheVariants.{Pat, Pmt, Nit, Sdt, Eit, Tdt, Private}
 use Rattle.description.proofs.Pids.{at_place}
 use Rattle.demux.specs.Laws.{with_pid_at}
 use Rattle.plan_timing.specs.Promised.{Promised}

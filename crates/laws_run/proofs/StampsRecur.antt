@@ -11,9 +11,9 @@ use Rattle.ts_packet.specs.PidList.{pid_list}
 use Rattle.slot_contents.specs.Contents.{run_bytes}
 use Rattle.slot_contents.specs.RunLaws.{Fits}
 use Rattle.slot_contents.proofs.Runs.{run_length}
-use Rattle.description.specs.Described.{DescribedStream}
-use Rattle.description.specs.Ranges.{IsInRange}
-use Rattle.description.specs.Tables.{table_pid}
+use Rattle.description_parts.specs.Described.{DescribedStream}
+use Rattle.description_parts.specs.Ranges.{IsInRange}
+use Rattle.description_parts.specs.Tables.{table_pid}
 use Rattle.description.proofs.Pids.{stream_range}
 use Rattle.demux.specs.Findings.{findings_to_end}
 use Rattle.slot_plan.specs.declared.slot.Item.TheVariants.{Stream as StreamItem}

@@ -9,11 +9,11 @@ use Rattle.ts_packet.specs.PidList.{Entry, pid_list}
 use Rattle.slot_contents.specs.Contents.{Content, run_bytes, entries_in}
 use Rattle.slot_contents.specs.RunLaws.{Fits}
 use Rattle.slot_contents.proofs.Runs.{run_length, run_pid_list}
-use Rattle.description.specs.Described.{Described}
-use Rattle.description.specs.Ranges.{IsInRange}
-use Rattle.description.specs.Tables.{table_kinds, table_kind, table_count, table_pid}
-use Rattle.description.specs.declared.table_kind.TableKind.{TableKind}
-use Rattle.description.specs.declared.table_kind.TableKind.TheVariants.{Pat, Pmt, Nit, Sdt, Eit, Tdt, Private}
+use Rattle.description_parts.specs.Described.{Described}
+use Rattle.description_parts.specs.Ranges.{IsInRange}
+use Rattle.description_parts.specs.Tables.{table_kinds, table_kind, table_count, table_pid}
+use Rattle.description_parts.specs.declared.table_kind.TableKind.{TableKind}
+use Rattle.description_parts.specs.declared.table_kind.TableKind.TheVariants.{Pat, Pmt, Nit, Sdt, Eit, Tdt, Private}
 use Rattle.table_rounds.specs.Tables.{Table, round_places}
 use Rattle.table_rounds.specs.Payloads.{TableIsAlone, Begins}
 use Rattle.monitor.specs.Begins.{found_on, table_begins}

@@ -9,11 +9,11 @@ use Rattle.dvb_tables.specs.NetworkInformation.{nit_section}
 use Rattle.dvb_tables.specs.ServiceDescription.{sdt_section}
 use Rattle.dvb_tables.specs.EventInformation.{eit_section}
 use Rattle.dvb_tables.specs.TimeAndDate.{tdt_section}
-use Rattle.description.specs.Described.{Described, DescribedNetwork, DescribedProgram}
-use Rattle.description.specs.Tables.{scheduled_programs, table_kinds, table_kind, kind_lengths, section_lengths, section_count, pmt_length, nit_length}
+use Rattle.description_parts.specs.Described.{Described, DescribedNetwork, DescribedProgram}
+use Rattle.description_parts.specs.Tables.{scheduled_programs, table_kinds, table_kind, kind_lengths, section_lengths, section_count, pmt_length, nit_length}
 use Rattle.description.specs.SectionBytes.{pmt_says, nit_says, sdt_says, eit_bytes, kind_bytes, table_bytes}
-use Rattle.description.specs.declared.table_kind.TableKind.{TableKind}
-use Rattle.description.specs.declared.table_kind.TableKind.TheVariants.{Pat, Pmt, Nit, Sdt, Eit, Tdt, Private}
+use Rattle.description_parts.specs.declared.table_kind.TableKind.{TableKind}
+use Rattle.description_parts.specs.declared.table_kind.TableKind.TheVariants.{Pat, Pmt, Nit, Sdt, Eit, Tdt, Private}
 use Rattle.description.proofs.Pids.{at_place}
 use Rattle.laws_run.proofs.TablesWritten.{IsThere, kinds_there, IsMade, some_there}
 use Rattle.description.proofs.SectionCounts.{eit_count}

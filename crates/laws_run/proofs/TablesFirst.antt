@@ -17,9 +17,9 @@ use Rattle.ts_packet.specs.PidList.{Entry, is_of_pid, pid_list}
 use Rattle.slot_contents.specs.Contents.{Content, Piece, packet_of, view_of, run_bytes, entry_at, entries_in, payload_at}
 use Rattle.slot_contents.specs.RunLaws.{Fits}
 use Rattle.slot_contents.proofs.Runs.{content_again, run_pid_list}
-use Rattle.description.specs.Described.{DescribedStream}
-use Rattle.description.specs.Ranges.{IsInRange}
-use Rattle.description.specs.Tables.{table_count, table_limit, round_packets}
+use Rattle.description_parts.specs.Described.{DescribedStream}
+use Rattle.description_parts.specs.Ranges.{IsInRange}
+use Rattle.description_parts.specs.Tables.{table_count, table_limit, round_packets}
 use Rattle.description.proofs.SectionCounts.{sections_law}
 use Rattle.slot_plan.specs.declared.slot.Slot.{Slot}
 use Rattle.slot_plan.specs.declared.slot.Slot.TheVariants.{Stream}

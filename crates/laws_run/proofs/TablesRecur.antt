@@ -5,10 +5,10 @@ use Rattle.pes_packet.specs.AccessUnits.{AccessUnit}
 use Rattle.slot_contents.specs.Contents.{Content, run_bytes}
 use Rattle.slot_contents.specs.RunLaws.{Fits}
 use Rattle.slot_contents.proofs.Runs.{run_length}
-use Rattle.description.specs.Ranges.{IsInRange}
-use Rattle.description.specs.Tables.{table_kinds, table_kind, table_count, table_pid, kind_limit, table_limit, section_count}
-use Rattle.description.specs.declared.table_kind.TableKind.{TableKind}
-use Rattle.description.specs.declared.table_kind.TableKind.TheVariants.{Pat}
+use Rattle.description_parts.specs.Ranges.{IsInRange}
+use Rattle.description_parts.specs.Tables.{table_kinds, table_kind, table_count, table_pid, kind_limit, table_limit, section_count}
+use Rattle.description_parts.specs.declared.table_kind.TableKind.{TableKind}
+use Rattle.description_parts.specs.declared.table_kind.TableKind.TheVariants.{Pat}
 use Rattle.description.proofs.SectionCounts.{sections_law}
 use Rattle.slot_plan.specs.TableRounds.{section_starts}
 use Rattle.plan_timing.specs.Promised.{Promised}

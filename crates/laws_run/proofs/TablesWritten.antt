@@ -4,12 +4,12 @@ use Rattle.std.specs.Option.{option_to_list}
 use Rattle.std.specs.List.{list_any}
 use Rattle.std.specs.Prelude.{is_some, ⊤}
 use Rattle.std.proofs.lemmas.List.Elements.{All-head, All-tail, All-nil, All-cons, All-append, All-filter, All-get_or}
-use Rattle.description.specs.Described.{Described, DescribedNetwork, DescribedProgram, DescribedEvent}
-use Rattle.description.specs.Ranges.{IsInRange, IsProgram, IsEvent}
-use Rattle.description.specs.Tables.{numbers_from, only_if, has_event, scheduled_programs, service_tables, table_kinds, table_kind, kind_lengths, section_lengths, section_count, pat_length, pmt_length, nit_length, sdt_length, eit_length, eit_lengths, longest_event}
+use Rattle.description_parts.specs.Described.{Described, DescribedNetwork, DescribedProgram, DescribedEvent}
+use Rattle.description_parts.specs.Ranges.{IsInRange, IsProgram, IsEvent}
+use Rattle.description_parts.specs.Tables.{numbers_from, only_if, has_event, scheduled_programs, service_tables, table_kinds, table_kind, kind_lengths, section_lengths, section_count, pat_length, pmt_length, nit_length, sdt_length, eit_length, eit_lengths, longest_event}
 use Rattle.description.specs.SectionBytes.{kind_bytes, table_bytes}
-use Rattle.description.specs.declared.table_kind.TableKind.{TableKind}
-use Rattle.description.specs.declared.table_kind.TableKind.TheVariants.{Pat, Pmt, Nit, Sdt, Eit, Tdt, Private}
+use Rattle.description_parts.specs.declared.table_kind.TableKind.{TableKind}
+use Rattle.description_parts.specs.declared.table_kind.TableKind.TheVariants.{Pat, Pmt, Nit, Sdt, Eit, Tdt, Private}
 use Rattle.description.proofs.SectionBounds.{table_bytes_fit}
 use Rattle.description.proofs.Pids.{at_place}
 use Rattle.laws_run.proofs.DescribedSections.{IsWritten, Fits4096, pat_written, pmt_written, nit_written, sdt_written, eit_written, tdt_written}

@@ -13,8 +13,8 @@ use Rattle.own_slots.specs.Rounds.{starts}
 use Rattle.ts_packet.specs.Beginnings.{is_start, start_by}
 use Rattle.ts_packet.specs.PidList.{Entry, pid_list}
 use Rattle.slot_contents.specs.Contents.{Piece, payload_at}
-use Rattle.description.specs.Ranges.{IsInRange}
-use Rattle.description.specs.Tables.{table_count, table_pid, section_count, section_lengths}
+use Rattle.description_parts.specs.Ranges.{IsInRange}
+use Rattle.description_parts.specs.Tables.{table_count, table_pid, section_count, section_lengths}
 use Rattle.description.specs.SectionBytes.{table_bytes}
 use Rattle.description.proofs.Pids.{at_place}
 use Rattle.slot_plan.specs.TableRounds.{section_starts}

@@ -3,9 +3,9 @@ use Rattle.std.specs.Prelude.{Contains}
 use Rattle.std.specs.List.{IsDistinct}
 use Rattle.std.proofs.Common.{◌≡◌, ◌≤◌, ◌<◌, ℕ, [], refl, inr, arith}
 use Rattle.std.proofs.lemmas.List.Elements.{All-nil, All-cons}
-use Rattle.description.specs.Described.{DescribedNetwork, DescribedProgram, DescribedStream}
-use Rattle.description.specs.Tables.{pmt_length, nit_length}
-use Rattle.description.specs.Ranges.{IsPid, IsBytes, IsLanguage, IsNetwork, IsProgram, IsEvent, IsMultiplexingBuffer, IsFraming, IsStream, IsTable, IsListed, IsSharing, IsInRange, program_numbers, longest_section}
+use Rattle.description_parts.specs.Described.{DescribedNetwork, DescribedProgram, DescribedStream}
+use Rattle.description_parts.specs.Tables.{pmt_length, nit_length}
+use Rattle.description_parts.specs.Ranges.{IsPid, IsBytes, IsLanguage, IsNetwork, IsProgram, IsEvent, IsMultiplexingBuffer, IsFraming, IsStream, IsTable, IsListed, IsSharing, IsInRange, program_numbers, longest_section}
 use Rattle.laws_run.specs.WorkedService.{worked_stream, worked_program, worked_service}
 
 pid : (n : ℕ) → 32 ≤ n → n ≤ 8190 → IsPid n

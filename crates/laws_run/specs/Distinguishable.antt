@@ -1,10 +1,10 @@
 -- Which sections a demultiplexer can distinguish from PES packets and stuffing: all that are made from a description, and most that a
 -- description has ready-made.
 use Rattle.std.specs.Prelude.{◌≡◌, ℕ, ◌==◌, ◌&&◌, ◌||◌, Bool, false, List, [], slice_get, slice_index, Option, Some, None, All}
-use Rattle.description.specs.Described.{Described, DescribedTable}
-use Rattle.description.specs.Tables.{table_kind}
-use Rattle.description.specs.declared.table_kind.TableKind.{TableKind}
-use Rattle.description.specs.declared.table_kind.TableKind.TheVariants.{Pat, Pmt, Nit, Sdt, Eit, Tdt, Private}
+use Rattle.description_parts.specs.Described.{Described, DescribedTable}
+use Rattle.description_parts.specs.Tables.{table_kind}
+use Rattle.description_parts.specs.declared.table_kind.TableKind.{TableKind}
+use Rattle.description_parts.specs.declared.table_kind.TableKind.TheVariants.{Pat, Pmt, Nit, Sdt, Eit, Tdt, Private}
 
 -- a section that is taken for something else: its table_id is that of stuffing (ISO/IEC 13818-1, 2.4.4), or after pointer_field 0 it begins
 -- as a PES packet does (2.4.3.6)

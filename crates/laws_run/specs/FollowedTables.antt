@@ -9,8 +9,8 @@ use Rattle.psi_tables.specs.Reading.{section_at}
 use Rattle.psi_tables.specs.ProgramMap.{PmtView, pmt_at}
 use Rattle.psi_tables.specs.declared.error.SectionError.{SectionError}
 use Rattle.psi_tables.specs.declared.pat.programs.Program.{Program}
-use Rattle.description.specs.Described.{Described, DescribedProgram}
-use Rattle.description.specs.Ranges.{IsInRange}
+use Rattle.description_parts.specs.Described.{Described, DescribedProgram}
+use Rattle.description_parts.specs.Ranges.{IsInRange}
 use Rattle.description.specs.SectionBytes.{pat_entry, pmt_says}
 use Rattle.monitor.specs.ProgramMaps.{programs_in_section}
 use Rattle.mux_core.specs.Scheduled.{Scheduled}

@@ -2,9 +2,9 @@
 use Rattle.std.specs.Prelude.{◌≡◌, ◌⊎◌, ℕ, ◌-◌, ◌^◌, ◌<◌, ◌≤◌, List, map, slice_get, Some, All}
 use Rattle.pes_packet.specs.AccessUnits.{AccessUnit}
 use Rattle.slot_contents.specs.Contents.{run_bytes}
-use Rattle.description.specs.Described.{Described, DescribedStream}
-use Rattle.description.specs.Tables.{table_count, table_pid}
-use Rattle.description.specs.Ranges.{IsInRange}
+use Rattle.description_parts.specs.Described.{Described, DescribedStream}
+use Rattle.description_parts.specs.Tables.{table_count, table_pid}
+use Rattle.description_parts.specs.Ranges.{IsInRange}
 use Rattle.demux.specs.Views.{FindingView}
 use Rattle.demux.specs.Laws.{with_pid_at}
 use Rattle.laws_pid.specs.Sent.{each_found}

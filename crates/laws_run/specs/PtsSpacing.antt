@@ -4,9 +4,9 @@ use Rattle.std.specs.Prelude.{◌≡◌, ℕ, ◌+◌, ◌-◌, ◌^◌, ◌<◌
 use Rattle.pes_packet.specs.AccessUnits.{AccessUnit}
 use Rattle.pes_packet.specs.Units.{units_of}
 use Rattle.slot_contents.specs.Contents.{run_bytes}
-use Rattle.description.specs.Described.{DescribedStream}
-use Rattle.description.specs.Ranges.{IsInRange}
-use Rattle.description.specs.Tables.{table_count}
+use Rattle.description_parts.specs.Described.{DescribedStream}
+use Rattle.description_parts.specs.Ranges.{IsInRange}
+use Rattle.description_parts.specs.Tables.{table_count}
 use Rattle.plan_timing.specs.Promised.{Promised}
 use Rattle.monitor.specs.Faults.{faults_of}
 use Rattle.mux_core.specs.Scheduled.{Scheduled}

@@ -2,7 +2,7 @@
 use Rattle.std.specs.Prelude.{◌≡◌, ℕ, List, [], ◌∷◌, None}
 use Rattle.pes_packet.specs.AccessUnits.{AccessUnit}
 use Rattle.pes_packet.specs.Units.{units_of}
-use Rattle.description.specs.Ranges.{IsInRange}
+use Rattle.description_parts.specs.Ranges.{IsInRange}
 use Rattle.slot_plan.specs.Conditions.{IsServing}
 use Rattle.plan_timing.specs.Promised.{Promised}
 use Rattle.mux_core.specs.Scheduled.{Scheduled}

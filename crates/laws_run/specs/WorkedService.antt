@@ -1,7 +1,7 @@
 -- A small service and a plan that serves it: one stream at 100,000 bits a second, where a slot lasts 15.04 ms, and a period of four slots.
 use Rattle.std.specs.Prelude.{false, [], ◌∷◌, None}
 use Rattle.unit_timing.specs.declared.allowance.Allowance.TheVariants.{Groups}
-use Rattle.description.specs.Described.{Described, DescribedProgram, DescribedStream}
+use Rattle.description_parts.specs.Described.{Described, DescribedProgram, DescribedStream}
 use Rattle.slot_plan.specs.declared.slot.Slot.TheVariants.{Stream, Pcr, Table}
 use Rattle.slot_plan.specs.Planned.{Planned}
 

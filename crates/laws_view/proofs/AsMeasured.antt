@@ -8,7 +8,7 @@ use Rattle.ts_packet.specs.PidList.{Entry, cut_packets, pid_list}
 use Rattle.pes_packet.specs.AccessUnits.{AccessUnit}
 use Rattle.pes_packet.specs.Units.{units_of}
 use Rattle.slot_contents.specs.Contents.{run_bytes}
-use Rattle.description.specs.Described.{DescribedStream}
+use Rattle.description_parts.specs.Described.{DescribedStream}
 use Rattle.unit_timing.specs.MainBuffer.{mb_fullness}
 use Rattle.unit_timing.specs.Schedule.{Packet}
 use Rattle.unit_timing.specs.Transport.{pes_left}

@@ -24,11 +24,11 @@ use Rattle.psi_tables.proofs.PatForms.{written as pat_written}
 use Rattle.psi_tables.proofs.PmtForms.{written as pmt_written}
 use Rattle.psi_tables.proofs.SectionWritten.{written as section_written}
 use Rattle.slot_contents.specs.Contents.{run_bytes}
-use Rattle.description.specs.Described.{Described, DescribedNetwork, DescribedProgram}
-use Rattle.description.specs.Ranges.{IsInRange, IsProgram}
+use Rattle.description_parts.specs.Described.{Described, DescribedNetwork, DescribedProgram}
+use Rattle.description_parts.specs.Ranges.{IsInRange, IsProgram}
 use Rattle.description.specs.SectionBytes.{network_entries, pat_entry, pat_says, pmt_says, table_bytes}
-use Rattle.description.specs.Tables.{section_lengths, table_count, table_kinds, table_limit, table_pid}
-use Rattle.description.specs.declared.table_kind.TableKind.TheVariants.{Pmt}
+use Rattle.description_parts.specs.Tables.{section_lengths, table_count, table_kinds, table_limit, table_pid}
+use Rattle.description_parts.specs.declared.table_kind.TableKind.TheVariants.{Pmt}
 use Rattle.description.proofs.Pids.{at_place}
 use Rattle.description.proofs.SectionCounts.{sections_law}
 use Rattle.demux.specs.Findings.{at_packet, end_of, ended, findings, open_after}

@@ -13,8 +13,8 @@ use Rattle.std.proofs.lemmas.Option.{get_or_from_slice_get, slice_get_within}
 use Rattle.pes_packet.specs.AccessUnits.{AccessUnit}
 use Rattle.slot_contents.specs.Contents.{Content, entries_in, run_bytes, view_of}
 use Rattle.slot_contents.proofs.Runs.{run_pid_list}
-use Rattle.description.specs.Described.{Described, DescribedProgram}
-use Rattle.description.specs.Ranges.{IsInRange, IsProgram}
+use Rattle.description_parts.specs.Described.{Described, DescribedProgram}
+use Rattle.description_parts.specs.Ranges.{IsInRange, IsProgram}
 use Rattle.plan_timing.specs.Promised.{Promised}
 use Rattle.mux_core.specs.Scheduled.{Scheduled}
 use Rattle.mux_core.specs.Headline.{Headline, ProgramKept, UnitsKept}

@@ -18,8 +18,8 @@ use Rattle.pes_packet.specs.StreamIds.{fits_packet}
 use Rattle.pes_packet.proofs.Payloads.{payloads_join}
 use Rattle.pes_packet.proofs.UnitPieces.{unit_pieces_join}
 use Rattle.slot_contents.specs.Contents.{Piece, payload_at}
-use Rattle.description.specs.Described.{DescribedStream}
-use Rattle.description.specs.Ranges.{IsInRange}
+use Rattle.description_parts.specs.Described.{DescribedStream}
+use Rattle.description_parts.specs.Ranges.{IsInRange}
 use Rattle.unit_timing.specs.Arrived.{AllLeft}
 use Rattle.unit_timing.specs.Schedule.{Packet}
 use Rattle.unit_timing.specs.Transport.{pes_left}

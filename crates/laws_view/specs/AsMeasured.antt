@@ -5,8 +5,8 @@ use Rattle.ts_packet.specs.PidList.{cut_packets, pid_list}
 use Rattle.slot_contents.specs.Contents.{run_bytes}
 use Rattle.pes_packet.specs.AccessUnits.{AccessUnit}
 use Rattle.pes_packet.specs.Units.{units_of}
-use Rattle.description.specs.Described.{DescribedProgram, DescribedStream}
-use Rattle.description.specs.Ranges.{IsInRange}
+use Rattle.description_parts.specs.Described.{DescribedProgram, DescribedStream}
+use Rattle.description_parts.specs.Ranges.{IsInRange}
 use Rattle.laws_run.specs.TablesFirst.{DueLate}
 use Rattle.tstd.specs.Carried.{packets_on}
 use Rattle.tstd.specs.Measured.{IsStreamFullness}

@@ -2,8 +2,8 @@
 use Rattle.std.specs.Prelude.{◌≡◌, ℕ, ◌≤◌, false, List, [], ◌∷◌, flat_map, slice_get, Some, None}
 use Rattle.ts_packet.specs.PidList.{cut_packets}
 use Rattle.pes_packet.specs.AccessUnits.{AccessUnit}
-use Rattle.description.specs.Described.{DescribedStream}
-use Rattle.description.specs.Ranges.{IsInRange}
+use Rattle.description_parts.specs.Described.{DescribedStream}
+use Rattle.description_parts.specs.Ranges.{IsInRange}
 use Rattle.plan_timing.specs.Promised.{Promised}
 use Rattle.mux_core.specs.Scheduled.{Scheduled}
 use Rattle.mux_core.specs.Headline.{Headline}

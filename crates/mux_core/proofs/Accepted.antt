@@ -1,7 +1,7 @@
 -- The units of a history that a multiplexer stands for are within their declarations.
 use Rattle.std.proofs.Common.{ℕ, Option, Some, None, slice_get, subst}
-use Rattle.description.specs.Described.{DescribedStream}
-use Rattle.description.specs.Ranges.{IsInRange}
+use Rattle.description_parts.specs.Described.{DescribedStream}
+use Rattle.description_parts.specs.Ranges.{IsInRange}
 use Rattle.unit_queue.specs.Queues.{Queue, Kept}
 use Rattle.mux_core.specs.Scheduled.{Scheduled}
 use Rattle.mux_core.specs.Histories.{History, owned_stream}

@@ -8,10 +8,10 @@ use Rattle.ts_packet.specs.Syntax.{ReferenceFits}
 use Rattle.ts_packet.specs.PidList.{is_of_pid}
 use Rattle.slot_contents.specs.Contents.{Content, ContentFits, PayloadContent, PcrContent, NullContent, view_of, Piece}
 use Rattle.slot_contents.specs.RunLaws.{Fits}
-use Rattle.description.specs.Described.{DescribedProgram, DescribedStream}
-use Rattle.description.specs.Ranges.{IsInRange}
-use Rattle.description.specs.Tables.{table_kinds, table_pid}
-use Rattle.description.specs.declared.table_kind.TableKind.{TableKind}
+use Rattle.description_parts.specs.Described.{DescribedProgram, DescribedStream}
+use Rattle.description_parts.specs.Ranges.{IsInRange}
+use Rattle.description_parts.specs.Tables.{table_kinds, table_pid}
+use Rattle.description_parts.specs.declared.table_kind.TableKind.{TableKind}
 use Rattle.slot_plan.specs.declared.slot.Slot.{Slot}
 use Rattle.slot_plan.specs.declared.slot.Slot.TheVariants.{Stream, Pcr, Table, Null}
 use Rattle.slot_plan.specs.Schedule.{slot_of}

@@ -15,8 +15,8 @@ use Rattle.ts_packet.specs.Packets.{null_view}
 use Rattle.ts_packet.specs.Reading.{packet_at}
 use Rattle.ts_packet.specs.PidList.{Entry, entry_of, cut_packets, entries_of, is_of_pid, pid_list, payload_of}
 use Rattle.ts_packet.proofs.Again.{packet_read}
-use Rattle.description.specs.Described.{Described, DescribedStream}
-use Rattle.description.specs.Ranges.{IsInRange}
+use Rattle.description_parts.specs.Described.{Described, DescribedStream}
+use Rattle.description_parts.specs.Ranges.{IsInRange}
 use Rattle.slot_plan.specs.declared.slot.Slot.{Slot}
 use Rattle.slot_plan.specs.SlotPids.{slot_pid}
 use Rattle.slot_plan.proofs.SlotPids.{slots_below}

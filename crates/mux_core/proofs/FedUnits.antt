@@ -6,7 +6,7 @@ use Rattle.std.proofs.lemmas.Option.{slice_get_within}
 use Rattle.circular_buffer.proofs.Places.{slice_get-set_same, slice_get-set_other}
 use Rattle.pes_packet.specs.AccessUnits.{AccessUnit}
 use Rattle.slot_contents.specs.Contents.{Content, packet_of, run_bytes}
-use Rattle.description.specs.Described.{DescribedStream}
+use Rattle.description_parts.specs.Described.{DescribedStream}
 use Rattle.slot_plan.specs.declared.slot.Slot.{Slot}
 use Rattle.slot_plan.specs.declared.slot.Slot.TheVariants.{Stream, Pcr, Table, Null}
 use Rattle.slot_plan.specs.declared.slot.Item.TheVariants.{Stream as StreamItem}

@@ -4,10 +4,10 @@ use Rattle.std.proofs.Common.{◌≡◌, refl, sym, ◌∙◌, ap, subst, arith}
 use Rattle.std.proofs.Math.Seq.{take-suc}
 use Rattle.std.proofs.lemmas.List.{map-append}
 use Rattle.std.proofs.lemmas.List.Elements.{All-get_or}
-use Rattle.description.specs.Described.{Described, DescribedStream}
-use Rattle.description.specs.Ranges.{IsInRange, IsStream}
-use Rattle.description.specs.Tables.{table_kinds, table_count}
-use Rattle.description.specs.declared.table_kind.TableKind.{TableKind}
+use Rattle.description_parts.specs.Described.{Described, DescribedStream}
+use Rattle.description_parts.specs.Ranges.{IsInRange, IsStream}
+use Rattle.description_parts.specs.Tables.{table_kinds, table_count}
+use Rattle.description_parts.specs.declared.table_kind.TableKind.{TableKind}
 use Rattle.description.proofs.SectionCounts.{sections_law}
 use Rattle.unit_queue.specs.Queues.{Queue, ParametersInRange}
 use Rattle.unit_queue.proofs.QueueStates.{first_law}

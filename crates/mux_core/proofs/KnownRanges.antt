@@ -5,11 +5,11 @@ use Rattle.std.proofs.lemmas.Bool.{lt-ltb}
 use Rattle.std.proofs.lemmas.List.Elements.{All-get_or}
 use Rattle.std.proofs.lemmas.Option.{get_or_from_slice_get, slice_get_within}
 use Rattle.pes_packet.specs.StreamIds.{is_unit_id, greatest_size}
-use Rattle.description.specs.Described.{Described, DescribedStream}
-use Rattle.description.specs.Ranges.{IsInRange, IsStream, IsStreamId}
-use Rattle.description.specs.Tables.{table_kinds}
+use Rattle.description_parts.specs.Described.{Described, DescribedStream}
+use Rattle.description_parts.specs.Ranges.{IsInRange, IsStream, IsStreamId}
+use Rattle.description_parts.specs.Tables.{table_kinds}
 use Rattle.description.proofs.Allowed.{rows_some}
-use Rattle.description.specs.declared.table_kind.TableKind.{TableKind}
+use Rattle.description_parts.specs.declared.table_kind.TableKind.{TableKind}
 use Rattle.table_rounds.specs.Laws.{IsSourceOf}
 use Rattle.mux_core.specs.Scheduled.{Scheduled}
 use Rattle.unit_queue.specs.Queues.{ParametersInRange}

@@ -7,7 +7,7 @@ use Rattle.pes_packet.specs.AccessUnits.{AccessUnit}
 use Rattle.pes_packet.specs.Units.{units_of}
 use Rattle.ts_packet.specs.Reading.{packet_at}
 use Rattle.ts_packet.proofs.Again.{packet_read}
-use Rattle.description.specs.Described.{Described, DescribedStream}
+use Rattle.description_parts.specs.Described.{Described, DescribedStream}
 use Rattle.tstd.specs.Carried.{carries}
 use Rattle.tstd.specs.Refusals.{first_unreadable, is_within, is_declared, all_carried}
 use Rattle.unit_queue.specs.declared.refusal.FeedError.{FeedError}

@@ -4,8 +4,8 @@ use Rattle.std.proofs.Common.{◌≡◌, refl, sym, ◌∙◌, ap, subst}
 use Rattle.std.proofs.lemmas.List.{length-map}
 use Rattle.pes_packet.specs.AccessUnits.{AccessUnit}
 use Rattle.slot_contents.specs.Contents.{packet_of}
-use Rattle.description.specs.Ranges.{IsInRange}
-use Rattle.description.specs.Described.{DescribedStream}
+use Rattle.description_parts.specs.Ranges.{IsInRange}
+use Rattle.description_parts.specs.Described.{DescribedStream}
 use Rattle.description.proofs.SectionCounts.{sections_law}
 use Rattle.slot_plan.specs.declared.slot.Slot.{Slot}
 use Rattle.slot_plan.specs.declared.slot.Slot.TheVariants.{Stream, Pcr, Table, Null}

@@ -11,11 +11,11 @@ use Rattle.ts_packet.specs.PidList.{Entry, is_of_pid, pid_list}
 use Rattle.slot_contents.specs.Contents.{Content, PcrContent, view_of, run_bytes, entries_in}
 use Rattle.slot_contents.specs.RunLaws.{Fits}
 use Rattle.slot_contents.proofs.Runs.{run_pid_list, run_indices, run_two}
-use Rattle.description.specs.Described.{DescribedProgram}
-use Rattle.description.specs.Ranges.{IsInRange}
-use Rattle.description.specs.Tables.{table_kind, table_pid, kind_pid}
-use Rattle.description.specs.declared.table_kind.TableKind.TheVariants.{Pmt}
-use Rattle.description.proofs.TableNumbers.{table_kind-pmt}
+use Rattle.description_parts.specs.Described.{DescribedProgram}
+use Rattle.description_parts.specs.Ranges.{IsInRange}
+use Rattle.description_parts.specs.Tables.{table_kind, table_pid, kind_pid}
+use Rattle.description_parts.specs.declared.table_kind.TableKind.TheVariants.{Pmt}
+use Rattle.description_parts.proofs.TableNumbers.{table_kind-pmt}
 use Rattle.slot_plan.specs.declared.slot.Slot.{Slot}
 use Rattle.slot_plan.specs.declared.slot.Slot.TheVariants.{Stream, Pcr, Table, Null}
 use Rattle.slot_plan.specs.declared.slot.Item.TheVariants.{Pcr as PcrItem, System}

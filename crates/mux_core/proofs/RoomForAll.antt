@@ -5,7 +5,7 @@ use Rattle.std.proofs.lemmas.Bool.{lt-leb, cases_eq, cases_lt}
 use Rattle.std.proofs.lemmas.List.{length-append}
 use Rattle.pes_packet.specs.AccessUnits.{AccessUnit}
 use Rattle.pes_packet.specs.Units.{units_of}
-use Rattle.description.specs.Described.{DescribedStream}
+use Rattle.description_parts.specs.Described.{DescribedStream}
 use Rattle.own_slots.specs.Slots.{own_before}
 use Rattle.unit_queue.specs.OwnedStreams.{OwnedStream, end_slot, packet_count}
 use Rattle.unit_queue.specs.Places.{Left, left_at, left_before}

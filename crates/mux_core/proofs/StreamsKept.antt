@@ -16,7 +16,7 @@ use Rattle.unit_timing.specs.Plans.{KeepsDeclaration, run_packets}
 use Rattle.unit_timing.specs.AccessUnits.{packets_of}
 use Rattle.unit_timing.proofs.LateUnits.{late_law}
 use Rattle.unit_timing.proofs.NotEarly.{run_left}
-use Rattle.description.specs.Described.{DescribedStream}
+use Rattle.description_parts.specs.Described.{DescribedStream}
 use Rattle.slot_plan.specs.declared.slot.Item.TheVariants.{Stream as StreamItem}
 use Rattle.slot_plan.specs.Schedule.{owned}
 use Rattle.plan_timing.specs.Promised.{declaration, Promised}

@@ -1,7 +1,7 @@
 -- The finished bytes of a history keep all that they promise.
 use Rattle.std.specs.Prelude.{ℕ, List}
 use Rattle.pes_packet.specs.AccessUnits.{AccessUnit}
-use Rattle.description.specs.Ranges.{IsInRange}
+use Rattle.description_parts.specs.Ranges.{IsInRange}
 use Rattle.slot_contents.specs.RunLaws.{Fits}
 use Rattle.slot_contents.proofs.Runs.{run_length}
 use Rattle.unit_queue.proofs.SentPlaces.{content_law}

@@ -8,9 +8,9 @@ use Rattle.pes_packet.specs.Units.{pes_packets_of}
 use Rattle.ts_packet.specs.Packets.{null_view}
 use Rattle.ts_packet.specs.Beginnings.{is_access, has_access}
 use Rattle.ts_packet.specs.PidList.{Entry, entries_of, pid_list, payloads_on}
-use Rattle.description.specs.Described.{Described, DescribedStream}
-use Rattle.description.specs.Ranges.{IsInRange}
-use Rattle.description.specs.Tables.{table_count, table_pid}
+use Rattle.description_parts.specs.Described.{Described, DescribedStream}
+use Rattle.description_parts.specs.Ranges.{IsInRange}
+use Rattle.description_parts.specs.Tables.{table_count, table_pid}
 use Rattle.slot_plan.specs.declared.slot.Slot.{Slot}
 use Rattle.slot_plan.specs.SlotPids.{slot_pid}
 use Rattle.unit_timing.specs.Transport.{pes_left}

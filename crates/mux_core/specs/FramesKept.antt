@@ -8,7 +8,7 @@ use Rattle.pes_packet.specs.AccessUnits.{AccessUnit}
 use Rattle.unit_timing.specs.declared.framing.Framing.{Framing}
 use Rattle.unit_timing.specs.AccessUnits.{FramedPacket, KeepsFraming, packets_of, framed_fullness}
 use Rattle.unit_timing.specs.Transport.{pes_left}
-use Rattle.description.specs.Described.{DescribedStream}
+use Rattle.description_parts.specs.Described.{DescribedStream}
 use Rattle.tstd.specs.Carried.{timed_pes_packets, packets_on}
 use Rattle.mux_core.specs.Scheduled.{Scheduled}
 

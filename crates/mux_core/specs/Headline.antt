@@ -10,8 +10,8 @@ use Rattle.ts_packet.specs.Syntax.{IsPacket}
 use Rattle.ts_packet.specs.Packets.{pcr_view, null_view}
 use Rattle.ts_packet.specs.PidList.{Entry, cut_packets, entries_of, pid_list}
 use Rattle.slot_contents.specs.Contents.{run_bytes, payload_at}
-use Rattle.description.specs.Described.{Described, DescribedProgram, DescribedStream}
-use Rattle.description.specs.Tables.{table_count, table_limit, section_count}
+use Rattle.description_parts.specs.Described.{Described, DescribedProgram, DescribedStream}
+use Rattle.description_parts.specs.Tables.{table_count, table_limit, section_count}
 use Rattle.slot_plan.specs.declared.slot.Slot.{Slot}
 use Rattle.slot_plan.specs.SlotPids.{slot_pid}
 use Rattle.slot_plan.specs.TableRounds.{section_starts}
@@ -33,7 +33,7 @@ use Rattle.mux_core.specs.Scheduled.{Scheduled}
 use Rattle.mux_core.specs.FramesKept.{FramesKept}
 use Rattle.mux_core.specs.Histories.{History, parameters_of, owned_stream, table_of, content_at}
 use Rattle.mux_core.specs.MuxStates.{MuxState, Stands}
-use Rattle.description.specs.Ranges.{IsInRange}
+use Rattle.description_parts.specs.Ranges.{IsInRange}
 use Rattle.plan_timing.specs.Promised.{Promised}
 use Rattle.plan_timing.specs.Waits.{pes_entered, longest_wait}
 use Rattle.unit_queue.specs.Queues.{ParametersInRange, Kept}

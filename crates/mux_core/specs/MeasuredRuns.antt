@@ -3,7 +3,7 @@ use Rattle.std.specs.Prelude.{◌≡◌, ℕ, ◌≤◌, true, List, slice_get, 
 use Rattle.std.specs.List.{list_all}
 use Rattle.pes_packet.specs.AccessUnits.{AccessUnit}
 use Rattle.pes_packet.specs.Units.{units_of}
-use Rattle.description.specs.Described.{Described, DescribedProgram, DescribedStream}
+use Rattle.description_parts.specs.Described.{Described, DescribedProgram, DescribedStream}
 use Rattle.tstd.specs.Measured.{Measured, StreamsMeasured, SystemsMeasured, late_unit}
 use Rattle.tstd.specs.Refusals.{is_declared, cause}
 use Rattle.tstd.specs.declared.fullness.StreamFullness.{StreamFullness}

@@ -2,9 +2,9 @@
 use Rattle.std.specs.Prelude.{◌≡◌, ◌≤◌, ◌<◌, ◌^◌, ℕ, List, Option, Some, None, slice_get, length, option_map, Result, Ok, Err, ⊤}
 use Rattle.pes_packet.specs.AccessUnits.{AccessUnit}
 use Rattle.slot_contents.specs.Contents.{packet_of}
-use Rattle.description.specs.Described.{DescribedStream}
-use Rattle.description.specs.Tables.{table_kinds}
-use Rattle.description.specs.declared.table_kind.TableKind.{TableKind}
+use Rattle.description_parts.specs.Described.{DescribedStream}
+use Rattle.description_parts.specs.Tables.{table_kinds}
+use Rattle.description_parts.specs.declared.table_kind.TableKind.{TableKind}
 use Rattle.unit_queue.specs.declared.refusal.FeedError.{FeedError}
 use Rattle.unit_queue.specs.declared.refusal.FeedError.TheVariants.{UnknownStream}
 use Rattle.unit_queue.specs.Places.{left_before}

@@ -1,7 +1,7 @@
 -- A multiplexer that is made, and why none is.
 use Rattle.std.specs.Prelude.{◌≡◌, ◌⊎◌, zero, suc, [], ◌∷◌, ◌*◌, ◌^◌, ◌&&◌, ℕ, nat_le, Bool, if◌then◌else◌, Option, Some, None, Result, Ok, Err, List}
-use Rattle.description.specs.Described.{Described, DescribedStream}
-use Rattle.description.specs.Tables.{table_pid, section_lengths}
+use Rattle.description_parts.specs.Described.{Described, DescribedStream}
+use Rattle.description_parts.specs.Tables.{table_pid, section_lengths}
 use Rattle.unit_queue.specs.Queues.{Queue}
 use Rattle.unit_queue.specs.QueueSteps.{empty_queue}
 use Rattle.table_rounds.specs.Carousels.{Carousel, first_carousel as table_carousel}

@@ -1,5 +1,5 @@
 -- What is multiplexed: a description, and the schedule that serves it.
-use Rattle.description.specs.Described.{Described}
+use Rattle.description_parts.specs.Described.{Described}
 use Rattle.slot_plan.specs.Schedule.{Schedule, single, switched}
 use Rattle.mux_core.specs.declared.checked_schedule.CheckedPlans.{CheckedPlans}
 use Rattle.mux_core.specs.declared.checked_schedule.CheckedPlans.TheVariants.{One, Two}

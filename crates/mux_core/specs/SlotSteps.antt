@@ -1,8 +1,8 @@
 -- One slot, and one unit, as the state takes them.
 use Rattle.std.specs.Prelude.{ℕ, suc, cond, nat_lt, List, [], set, Option, Some, None, slice_get}
 use Rattle.slot_contents.specs.Contents.{Content, NullContent}
-use Rattle.description.specs.Described.{Described}
-use Rattle.description.specs.Tables.{table_count, section_count}
+use Rattle.description_parts.specs.Described.{Described}
+use Rattle.description_parts.specs.Tables.{table_count, section_count}
 use Rattle.description.specs.SectionBytes.{table_bytes}
 use Rattle.slot_plan.specs.declared.slot.Slot.{Slot}
 use Rattle.slot_plan.specs.declared.slot.Slot.TheVariants.{Stream, Pcr, Table, Null}

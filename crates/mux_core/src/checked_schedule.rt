@@ -1,7 +1,7 @@
 //! A description with the checked plans that serve it.
 
 ghost use Rattle.std.specs.Prelude.{◌≡◌};
-ghost use Rattle.description.specs.Ranges.{IsInRange};
+ghost use Rattle.description_parts.specs.Ranges.{IsInRange};
 ghost use Rattle.slot_plan.specs.Schedule.{slot_of, repeated, single, switched};
 ghost use Rattle.plan_timing.specs.Promised.{Promised};
 ghost use Rattle.mux_core.specs.Scheduled.{scheduled_of};

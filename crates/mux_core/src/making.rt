@@ -1,8 +1,8 @@
 //! Making a multiplexer: the one place where it takes memory.
 
 ghost use Rattle.std.specs.Prelude.{◌≡◌, ◌<◌, IfOk, IfErr, map, length};
-ghost use Rattle.description.specs.Tables.{table_count};
-ghost use Rattle.description.specs.Ranges.{IsInRange};
+ghost use Rattle.description_parts.specs.Tables.{table_count};
+ghost use Rattle.description_parts.specs.Ranges.{IsInRange};
 ghost use Rattle.plan_timing.specs.Promised.{Promised};
 ghost use Rattle.slot_plan.specs.Schedule.{single, switched};
 ghost use Rattle.mux_core.specs.Histories.{parameters_of, empty_history};

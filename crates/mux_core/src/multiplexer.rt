@@ -8,7 +8,7 @@ ghost use Rattle.mux_core.specs.Histories.{History, bytes_of, next_slot};
 ghost use Rattle.mux_core.specs.MuxStates.{Stands, Gives, Takes, waiting_of};
 ghost use Rattle.mux_core.specs.Headline.{Headline};
 ghost use Rattle.mux_core.specs.SlotSteps.{sends, after, queue_cause, queues_with};
-ghost use Rattle.description.specs.Ranges.{IsInRange};
+ghost use Rattle.description_parts.specs.Ranges.{IsInRange};
 ghost use Rattle.plan_timing.specs.Promised.{Promised};
 
 use crate::checked_schedule::CheckedSchedule;
@@ -36,7 +36,7 @@ pub struct Mux<A: Allocator = Global> {
 }
 
 impl<A: Allocator> Model for Mux<A> {
-    ghost use Rattle.description.specs.Ranges.{IsInRange};
+    ghost use Rattle.description_parts.specs.Ranges.{IsInRange};
     ghost use Rattle.plan_timing.specs.Promised.{Promised};
     ghost use Rattle.mux_core.specs.MuxStates.{MuxState};
 

@@ -2,7 +2,7 @@
 
 ghost use Rattle.std.specs.Prelude.{◌≡◌, ◌<◌, ◌^◌, slice_get};
 ghost use Rattle.slot_contents.specs.Contents.{PcrContent, NullContent, packet_of};
-ghost use Rattle.description.specs.Ranges.{IsInRange};
+ghost use Rattle.description_parts.specs.Ranges.{IsInRange};
 ghost use Rattle.mux_core.specs.Histories.{pcr_content};
 ghost use Rattle.mux_core.specs.SlotSteps.{section_bytes, queue_sends, queues_after, carousel_sends, carousels_after};
 

@@ -3,7 +3,7 @@ use Rattle.std.proofs.Common.{◌≡◌, ℕ, ◌+◌, max, Bool, true, false, L
 use Rattle.std.specs.Prelude.{IfErr, OnOk}
 use Rattle.packet_output.specs.declared.output.OutputFault.{OutputFault}
 use Rattle.unit_queue.specs.declared.refusal.FeedError.{FeedError}
-use Rattle.description.specs.Ranges.{IsInRange}
+use Rattle.description_parts.specs.Ranges.{IsInRange}
 use Rattle.plan_timing.specs.Promised.{Promised}
 use Rattle.pes_packet.specs.AccessUnits.{AccessUnit}
 use Rattle.pes_packet.specs.Units.{units_of}

@@ -11,8 +11,8 @@ use Rattle.std.specs.List.{filter}
 use Rattle.clock27.specs.Release.{release}
 use Rattle.pes_packet.specs.AccessUnits.{AccessUnit}
 use Rattle.pes_packet.specs.Units.{units_of}
-use Rattle.description.specs.Described.{DescribedStream}
-use Rattle.description.specs.Ranges.{IsInRange}
+use Rattle.description_parts.specs.Described.{DescribedStream}
+use Rattle.description_parts.specs.Ranges.{IsInRange}
 use Rattle.plan_timing.specs.Promised.{declaration}
 use Rattle.unit_timing.specs.Plans.{KeepsDeclaration}
 use Rattle.unit_queue.specs.OwnedStreams.{timed}

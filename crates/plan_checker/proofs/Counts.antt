@@ -1,12 +1,12 @@
 -- How many parts a description has.
 use Rattle.std.proofs.Common.{◌≤◌, Bool, true, false, ◌++◌, length, arith}
 use Rattle.std.proofs.lemmas.List.{length-append}
-use Rattle.description.specs.Described.{Described}
-use Rattle.description.specs.Ranges.{IsInRange}
-use Rattle.description.specs.Tables.{only_if, has_event, service_tables, table_count}
-use Rattle.description.specs.declared.table_kind.TableKind.{TableKind}
-use Rattle.description.specs.declared.table_kind.TableKind.TheVariants.{Nit, Sdt, Eit, Tdt}
-use Rattle.description.proofs.TableNumbers.{table_count-is}
+use Rattle.description_parts.specs.Described.{Described}
+use Rattle.description_parts.specs.Ranges.{IsInRange}
+use Rattle.description_parts.specs.Tables.{only_if, has_event, service_tables, table_count}
+use Rattle.description_parts.specs.declared.table_kind.TableKind.{TableKind}
+use Rattle.description_parts.specs.declared.table_kind.TableKind.TheVariants.{Nit, Sdt, Eit, Tdt}
+use Rattle.description_parts.proofs.TableNumbers.{table_count-is}
 use Rattle.std.specs.Prelude.{is_some}
 use Rattle.std.specs.List.{list_any}
 

@@ -3,8 +3,8 @@ use Rattle.std.specs.Prelude.{◌≤◌, Some, []}
 use Rattle.std.proofs.Common.{◌≡◌, arith}
 use Rattle.std.proofs.lemmas.List.Elements.{All-head}
 use Rattle.unit_timing.specs.declared.multiplexing_buffer.MultiplexingBuffer.{MultiplexingBuffer}
-use Rattle.description.specs.Described.{DescribedStream}
-use Rattle.description.specs.Ranges.{IsMultiplexingBuffer, IsStream}
+use Rattle.description_parts.specs.Described.{DescribedStream}
+use Rattle.description_parts.specs.Ranges.{IsMultiplexingBuffer, IsStream}
 
 ranges_of : (s : DescribedStream) (b : MultiplexingBuffer) → IsStream s → s.multiplexing ≡ Some b → IsMultiplexingBuffer s.rx b
 ranges_of s b is some = All-head (IsMultiplexingBuffer s.rx) b [] (rw some at is.multiplexing)

@@ -5,11 +5,11 @@ use Rattle.std.specs.Option.{option_to_list, unwrap_or}
 use Rattle.std.proofs.lemmas.List.Elements.{All-get_or, All-head, All-tail}
 use Rattle.std.proofs.lemmas.List.Sums.{sum_by-cons}
 use Rattle.std.proofs.lemmas.Option.{slice_get_within, unwrap_or-slice_get}
-use Rattle.description.specs.Described.{Described, DescribedProgram, DescribedEvent, DescribedTable}
-use Rattle.description.specs.Ranges.{IsInRange, IsProgram, IsEvent, IsBytes, IsTable}
-use Rattle.description.specs.Tables.{packets_of_section, pmt_length, nit_length, service_length, longest_event, eit_length, eit_lengths, has_event, kind_lengths, table_kind, round_packets}
-use Rattle.description.specs.declared.table_kind.TableKind.{TableKind}
-use Rattle.description.specs.declared.table_kind.TableKind.TheVariants.{Pat, Pmt, Nit, Sdt, Eit, Tdt, Private}
+use Rattle.description_parts.specs.Described.{Described, DescribedProgram, DescribedEvent, DescribedTable}
+use Rattle.description_parts.specs.Ranges.{IsInRange, IsProgram, IsEvent, IsBytes, IsTable}
+use Rattle.description_parts.specs.Tables.{packets_of_section, pmt_length, nit_length, service_length, longest_event, eit_length, eit_lengths, has_event, kind_lengths, table_kind, round_packets}
+use Rattle.description_parts.specs.declared.table_kind.TableKind.{TableKind}
+use Rattle.description_parts.specs.declared.table_kind.TableKind.TheVariants.{Pat, Pmt, Nit, Sdt, Eit, Tdt, Private}
 
 -- an element that is there
 found_at : {X : Type 0} (P : X → Type 0) (xs : List X) (i : ℕ) (x : X) → slice_get xs i ≡ Some x → All P xs → P x

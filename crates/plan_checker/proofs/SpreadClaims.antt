@@ -9,8 +9,8 @@ use Rattle.own_slots.specs.Period.{per_period}
 use Rattle.own_slots.proofs.PositionLemmas.{per_period_le}
 use Rattle.unit_timing.specs.Allowances.{allowance_rows}
 use Rattle.unit_timing.specs.Conditions.{packets_in_row, lead_needed, time_given}
-use Rattle.description.specs.Described.{Described, DescribedStream}
-use Rattle.description.specs.Ranges.{IsInRange, IsStream}
+use Rattle.description_parts.specs.Described.{Described, DescribedStream}
+use Rattle.description_parts.specs.Ranges.{IsInRange, IsStream}
 use Rattle.description.proofs.Allowed.{rows_some}
 use Rattle.slot_plan.specs.declared.slot.Item.TheVariants.{Stream}
 use Rattle.slot_plan.specs.declared.condition.Condition.TheVariants.{StreamLead}

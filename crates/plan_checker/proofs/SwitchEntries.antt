@@ -1,7 +1,7 @@
 -- The conditions of a second plan after a first one, in their order.
 use Rattle.std.specs.Prelude.{◌++◌, Option, Some, None}
 use Rattle.std.proofs.Common.{◌≡◌, refl, ap, sym, ◌∙◌}
-use Rattle.description.specs.Described.{Described}
+use Rattle.description_parts.specs.Described.{Described}
 use Rattle.slot_plan.specs.Planned.{Planned}
 use Rattle.slot_plan.specs.Entries.{Entry, first_failing}
 use Rattle.slot_plan.specs.Conditions.{entries}

@@ -1,6 +1,6 @@
 -- The conditions that a plan does not keep, and the search for those from a number on.
 use Rattle.std.specs.Prelude.{ℕ, ◌-◌, ◌==◌, Bool, List, [], ◌∷◌, ◌++◌, filter, is_none, length, map, nat_le, not, if◌then◌else◌}
-use Rattle.description.specs.Described.{Described}
+use Rattle.description_parts.specs.Described.{Described}
 use Rattle.slot_plan.specs.Planned.{Planned}
 use Rattle.slot_plan.specs.Entries.{Entry, entry_holds, first_failing}
 use Rattle.slot_plan.specs.Conditions.{entries, shape_entries, timing_entries}

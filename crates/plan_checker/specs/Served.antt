@@ -1,5 +1,5 @@
 -- A description and the plan that serves it.
-use Rattle.description.specs.Described.{Described}
+use Rattle.description_parts.specs.Described.{Described}
 use Rattle.slot_plan.specs.Planned.{Planned}
 
 -- a checked plan as contracts see it

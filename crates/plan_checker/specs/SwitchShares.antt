@@ -3,7 +3,7 @@ use Rattle.std.specs.Prelude.{ℕ, ◌^◌, ◌<◌, ◌≤◌, length}
 use Rattle.own_slots.specs.Period.{per_period}
 use Rattle.own_slots.specs.Switch.{shift}
 use Rattle.unit_timing.specs.Conditions.{Share}
-use Rattle.description.specs.Described.{DescribedStream}
+use Rattle.description_parts.specs.Described.{DescribedStream}
 use Rattle.slot_plan.specs.declared.slot.Item.TheVariants.{Stream}
 use Rattle.slot_plan.specs.declared.condition.Condition.{Condition}
 use Rattle.slot_plan.specs.Planned.{Planned}

@@ -2,7 +2,7 @@
 //! multiplexing buffer of a stream that has both are empty at least once a second (2.4.2.6).
 
 ghost use Rattle.std.specs.Prelude.{◌≡◌, ◌^◌, ◌<◌, ◌≤◌, ◌∷◌, [], Some, length};
-ghost use Rattle.description.specs.Ranges.{IsStream};
+ghost use Rattle.description_parts.specs.Ranges.{IsStream};
 ghost use Rattle.unit_timing.specs.Buffers.{tb_size};
 ghost use Rattle.slot_plan.specs.Items.{marks};
 ghost use Rattle.slot_plan.specs.Claims.{stream_claim};

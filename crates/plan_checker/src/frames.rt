@@ -2,7 +2,7 @@
 //! bytes of later units find room.
 
 ghost use Rattle.std.specs.Prelude.{◌≡◌, ◌-◌, ◌*◌, ◌^◌, ◌<◌, ◌≤◌, ◌∷◌, [], length};
-ghost use Rattle.description.specs.Ranges.{IsStream};
+ghost use Rattle.description_parts.specs.Ranges.{IsStream};
 ghost use Rattle.unit_timing.specs.AccessUnits.{ahead_of, framed_waiting};
 ghost use Rattle.slot_plan.specs.Claims.{declaration, stream_share};
 ghost use Rattle.slot_plan.specs.Conditions.{entries_from, frame_entry, frame_entries};

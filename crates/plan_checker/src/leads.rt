@@ -3,8 +3,8 @@
 
 ghost use Rattle.std.specs.Prelude.{◌≡◌, ◌^◌, ◌<◌, ◌≤◌, ◌∷◌, [], length};
 ghost use Rattle.own_slots.specs.Period.{per_period};
-ghost use Rattle.description.specs.Ranges.{IsStream};
-ghost use Rattle.description.specs.Tables.{greatest_unit_packets};
+ghost use Rattle.description_parts.specs.Ranges.{IsStream};
+ghost use Rattle.description_parts.specs.Tables.{greatest_unit_packets};
 ghost use Rattle.unit_timing.specs.Allowances.{allowance_rows};
 ghost use Rattle.unit_timing.specs.Conditions.{packets_in_row};
 ghost use Rattle.slot_plan.specs.Claims.{declaration, peaked_share};

@@ -1,7 +1,7 @@
 //! What waits for its decoding time finds room in the main buffer (ISO/IEC 13818-1, 2.4.2.3).
 
 ghost use Rattle.std.specs.Prelude.{◌≡◌, ◌^◌, ◌<◌, ◌≤◌, ◌∷◌, [], length};
-ghost use Rattle.description.specs.Ranges.{IsStream};
+ghost use Rattle.description_parts.specs.Ranges.{IsStream};
 ghost use Rattle.unit_timing.specs.Conditions.{waiting_slots, bytes_by_units, bytes_waiting};
 ghost use Rattle.slot_plan.specs.Claims.{declaration, led_declaration, stream_share};
 ghost use Rattle.slot_plan.specs.Conditions.{main_buffer_entry, frame_entries};

@@ -1,7 +1,7 @@
 //! PCRs and sections recur in time.
 
 ghost use Rattle.std.specs.Prelude.{◌∷◌, []};
-ghost use Rattle.description.specs.Tables.{table_kinds};
+ghost use Rattle.description_parts.specs.Tables.{table_kinds};
 ghost use Rattle.slot_plan.specs.Conditions.{pcr_gap_entry, table_gap_entry};
 
 use crate::comparison::at_most;

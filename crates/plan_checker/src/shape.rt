@@ -2,7 +2,7 @@
 //! certificate.
 
 ghost use Rattle.std.specs.Prelude.{◌≡◌, ◌+◌, ◌<◌, ◌∷◌, [], is_none, length};
-ghost use Rattle.description.specs.Tables.{table_kinds};
+ghost use Rattle.description_parts.specs.Tables.{table_kinds};
 ghost use Rattle.slot_plan.specs.declared.slot.Item.TheVariants.{Stream as StreamItem, Pcr as PcrItem};
 ghost use Rattle.slot_plan.specs.declared.slot.Item.TheVariants.{Table as TableItem};
 ghost use Rattle.slot_plan.specs.Entries.{first_failing};

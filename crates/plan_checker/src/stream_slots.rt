@@ -2,7 +2,7 @@
 
 ghost use Rattle.std.specs.Prelude.{◌≡◌, ◌*◌, ◌≤◌, ◌∷◌, []};
 ghost use Rattle.unit_timing.specs.Allowances.{steady_packets, steady_time};
-ghost use Rattle.description.specs.Ranges.{IsStream};
+ghost use Rattle.description_parts.specs.Ranges.{IsStream};
 ghost use Rattle.slot_plan.specs.Conditions.{spread_entry, stream_rate_entry};
 
 use crate::claims::claim_of_stream;

@@ -1,7 +1,7 @@
 //! The units that can wait for their decoding times at once: their number, their packets, their bytes.
 
 ghost use Rattle.std.specs.Prelude.{◌≡◌, ◌^◌, ◌<◌, ◌≤◌};
-ghost use Rattle.description.specs.Ranges.{IsStream};
+ghost use Rattle.description_parts.specs.Ranges.{IsStream};
 ghost use Rattle.unit_timing.specs.Conditions.{waiting_units, waiting_packets, bytes_by_units};
 ghost use Rattle.slot_plan.specs.Claims.{led_declaration};
 

@@ -9,8 +9,8 @@ use Rattle.std.proofs.lemmas.List.Sums.{sum_by-append, sum_by-cons}
 use Rattle.clock27.specs.Units.{slot_ms_at_1bps}
 use Rattle.clock27.specs.LeastRate.{IsLeastRate, HasNoRate}
 use Rattle.clock27.specs.declared.rate.TheConstants.{GREATEST_RATE}
-use Rattle.description.specs.Described.{Described}
-use Rattle.description.specs.Tables.{table_kinds, table_limit, round_packets}
+use Rattle.description_parts.specs.Described.{Described}
+use Rattle.description_parts.specs.Tables.{table_kinds, table_limit, round_packets}
 use Rattle.slot_plan.specs.Numbered.{numbered}
 use Rattle.slot_plan.proofs.NumberedLists.{numbered-more}
 use Rattle.unit_timing.specs.Allowances.{steady_packets, steady_time}

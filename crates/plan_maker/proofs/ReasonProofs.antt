@@ -20,8 +20,8 @@ use Rattle.own_slots.proofs.WorkLemmas.{work_more, work_begin}
 use Rattle.unit_timing.specs.declared.multiplexing_buffer.MultiplexingBuffer.{MultiplexingBuffer}
 use Rattle.unit_timing.specs.Allowances.{allowance_rows, steady_packets, steady_time}
 use Rattle.unit_timing.specs.Conditions.{StreamConditions, packets_in_row, waiting_slots}
-use Rattle.description.specs.Described.{Described, DescribedProgram, DescribedStream}
-use Rattle.description.specs.Tables.{table_kinds, table_count, table_limit, round_packets}
+use Rattle.description_parts.specs.Described.{Described, DescribedProgram, DescribedStream}
+use Rattle.description_parts.specs.Tables.{table_kinds, table_count, table_limit, round_packets}
 use Rattle.slot_plan.specs.declared.slot.Item.TheVariants.{Stream, Pcr, Table}
 use Rattle.slot_plan.specs.Numbered.{numbered}
 use Rattle.slot_plan.specs.Planned.{Planned}

@@ -1,6 +1,6 @@
 -- Plans that do not serve.
 use Rattle.std.specs.Prelude.{◌≡◌, false, Option, Result, Ok, Err}
-use Rattle.description.specs.Described.{Described}
+use Rattle.description_parts.specs.Described.{Described}
 use Rattle.slot_plan.specs.Planned.{Planned}
 use Rattle.plan_maker.specs.PlainPlan.{serves}
 

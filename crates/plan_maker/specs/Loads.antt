@@ -6,8 +6,8 @@ use Rattle.clock27.specs.Units.{slot_ms_at_1bps}
 use Rattle.clock27.specs.declared.rate.TheConstants.{GREATEST_RATE}
 use Rattle.unit_timing.specs.Allowances.{steady_packets, steady_time}
 use Rattle.unit_timing.specs.Shares.{parts}
-use Rattle.description.specs.Described.{Described, DescribedStream}
-use Rattle.description.specs.Tables.{table_kinds, table_limit, round_packets}
+use Rattle.description_parts.specs.Described.{Described, DescribedStream}
+use Rattle.description_parts.specs.Tables.{table_kinds, table_limit, round_packets}
 use Rattle.slot_plan.specs.Numbered.{numbered}
 use Rattle.plan_maker.specs.FirstNumbers.{first_of}
 

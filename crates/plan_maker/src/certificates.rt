@@ -2,7 +2,7 @@
 
 ghost use Rattle.std.specs.Prelude.{◌≡◌, ◌^◌, ◌<◌, ◌≤◌, IfOk, None, true, length};
 ghost use Rattle.std.specs.List.{list_all};
-ghost use Rattle.description.specs.Ranges.{IsStream};
+ghost use Rattle.description_parts.specs.Ranges.{IsStream};
 ghost use Rattle.slot_plan.specs.Planned.{is_small_multiplexing, is_small_stream};
 ghost use Rattle.slot_plan.specs.Planned.{is_small_program, plan_error};
 ghost use Rattle.plan_maker.specs.Certificates.{multiplexing_entry_of, stream_entry_of, program_entry_of};

@@ -6,7 +6,7 @@ pub mod streams;
 
 ghost use Rattle.std.specs.Prelude.{◌≡◌, ◌++◌, ◌<◌, IfOk, OnOk};
 ghost use Rattle.std.specs.Option.{option_to_list};
-ghost use Rattle.description.specs.Ranges.{IsStream};
+ghost use Rattle.description_parts.specs.Ranges.{IsStream};
 ghost use Rattle.plan_maker.specs.Reasons.{stream_reason, pcr_reasons, table_reasons, stream_reasons};
 ghost use Rattle.plan_maker.specs.Reasons.{reasons_of, ReasonLaw};
 

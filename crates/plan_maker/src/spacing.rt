@@ -1,8 +1,8 @@
 //! The distances at which the plain plan sets the slots of each item.
 
 ghost use Rattle.std.specs.Prelude.{◌≡◌, ◌<◌, ◌≤◌, ◌++◌, IfOk, OnOk};
-ghost use Rattle.description.specs.Ranges.{IsStream};
-ghost use Rattle.description.specs.Tables.{table_count};
+ghost use Rattle.description_parts.specs.Ranges.{IsStream};
+ghost use Rattle.description_parts.specs.Tables.{table_count};
 ghost use Rattle.plan_maker.specs.Spacings.{within, spacing, stream_room, pcr_room, table_room};
 ghost use Rattle.plan_maker.specs.Spacings.{spaced_streams, spaced_pcrs, spaced_tables, spaced_items};
 

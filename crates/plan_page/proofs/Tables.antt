@@ -1,7 +1,7 @@
 -- The tables of a description one by one.
 use Rattle.std.proofs.Common.{◌≡◌, ◌∙◌, ℕ, zero, suc, ◌+◌, ◌<◌, List, [], ◌∷◌, ◌++◌, length, drop, refl, sym, ap, append_assoc, arith}
-use Rattle.description.specs.Described.{Described}
-use Rattle.description.specs.Tables.{table_count, table_kinds}
+use Rattle.description_parts.specs.Described.{Described}
+use Rattle.description_parts.specs.Tables.{table_count, table_kinds}
 use Rattle.slot_plan.specs.Numbered.{numbered}
 use Rattle.plan_page.specs.declared.plan_items.PlanItem.{PlanItem}
 use Rattle.plan_page.specs.PlanItems.{table_item}

@@ -1,6 +1,6 @@
 -- The text of the page of a plan.
 use Rattle.std.specs.Prelude.{ℕ, nat_lt, if◌then◌else◌, List, [], ◌++◌, codes, decimal, length, take}
-use Rattle.description.specs.Described.{Described}
+use Rattle.description_parts.specs.Described.{Described}
 use Rattle.slot_plan.specs.declared.slot.Slot.{Slot}
 use Rattle.slot_plan.specs.Planned.{Planned}
 use Rattle.plan_page.specs.declared.owners.Owner.TheVariants.{Null}

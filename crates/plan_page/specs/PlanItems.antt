@@ -1,9 +1,9 @@
 -- The items of a description, with the limits of their gaps.
 use Rattle.std.specs.Prelude.{ℕ, ◌*◌, List, [], ◌∷◌, ◌++◌, Option, Some, None, codes, slice_get}
-use Rattle.description.specs.Described.{Described, DescribedProgram, DescribedStream, DescribedEntry}
-use Rattle.description.specs.Tables.{round_packets, table_kind, table_kinds, table_limit, table_pid}
-use Rattle.description.specs.declared.table_kind.TableKind.{TableKind}
-use Rattle.description.specs.declared.table_kind.TableKind.TheVariants.{Pat, Pmt, Nit, Sdt, Eit, Tdt, Private}
+use Rattle.description_parts.specs.Described.{Described, DescribedProgram, DescribedStream, DescribedEntry}
+use Rattle.description_parts.specs.Tables.{round_packets, table_kind, table_kinds, table_limit, table_pid}
+use Rattle.description_parts.specs.declared.table_kind.TableKind.{TableKind}
+use Rattle.description_parts.specs.declared.table_kind.TableKind.TheVariants.{Pat, Pmt, Nit, Sdt, Eit, Tdt, Private}
 use Rattle.slot_plan.specs.Numbered.{numbered}
 use Rattle.slot_plan.specs.declared.slot.Item.TheVariants.{Stream, Pcr, Table}
 use Rattle.stream_coding.specs.Codings.{coding_of}

@@ -1,7 +1,7 @@
 //! The tables of a description as items of a plan.
 ghost use Rattle.std.specs.Prelude.{◌≡◌, ◌++◌, ◌∷◌, ◌<◌, ◌≤◌, [], OnOk};
-ghost use Rattle.description.specs.Ranges.{IsInRange};
-ghost use Rattle.description.specs.Tables.{table_count, table_kinds};
+ghost use Rattle.description_parts.specs.Ranges.{IsInRange};
+ghost use Rattle.description_parts.specs.Tables.{table_count, table_kinds};
 ghost use Rattle.slot_plan.specs.Numbered.{numbered};
 ghost use Rattle.plan_page.specs.PlanItems as spec;
 

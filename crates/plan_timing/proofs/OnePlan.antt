@@ -27,9 +27,9 @@ use Rattle.unit_timing.specs.EmptyPlans.{StreamEmptied, VideoEmptied}
 use Rattle.unit_timing.proofs.PlanLemmas.{stream_law, program_law}
 use Rattle.unit_timing.proofs.AccessUnitLemmas.{framed_law}
 use Rattle.unit_timing.proofs.VideoLemmas.{video_law}
-use Rattle.description.specs.Described.{Described, DescribedProgram, DescribedStream}
-use Rattle.description.specs.Ranges.{IsInRange, IsMultiplexingBuffer, IsFraming, IsStream}
-use Rattle.description.specs.Tables.{table_kinds, table_count, table_limit, round_packets, section_count, section_lengths, packets_of_section}
+use Rattle.description_parts.specs.Described.{Described, DescribedProgram, DescribedStream}
+use Rattle.description_parts.specs.Ranges.{IsInRange, IsMultiplexingBuffer, IsFraming, IsStream}
+use Rattle.description_parts.specs.Tables.{table_kinds, table_count, table_limit, round_packets, section_count, section_lengths, packets_of_section}
 use Rattle.description.proofs.Allowed.{rows_some}
 use Rattle.slot_plan.specs.declared.slot.Slot.{Slot}
 use Rattle.slot_plan.specs.declared.slot.Item.{Item}

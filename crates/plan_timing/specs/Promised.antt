@@ -10,9 +10,9 @@ use Rattle.unit_timing.specs.EmptyPlans.{StreamEmptied, VideoEmptied}
 use Rattle.unit_timing.specs.LongestStay.{WaitsAtMost}
 use Rattle.unit_timing.specs.VideoPlans.{Leak, VideoServed}
 use Rattle.unit_timing.specs.AccessUnits.{FramedPacket, KeepsFraming, packets_of}
-use Rattle.description.specs.Described.{Described, DescribedProgram, DescribedStream}
-use Rattle.description.specs.Ranges.{IsInRange}
-use Rattle.description.specs.Tables.{table_count, table_limit, section_count}
+use Rattle.description_parts.specs.Described.{Described, DescribedProgram, DescribedStream}
+use Rattle.description_parts.specs.Ranges.{IsInRange}
+use Rattle.description_parts.specs.Tables.{table_count, table_limit, section_count}
 use Rattle.slot_plan.specs.declared.slot.Item.TheVariants.{Stream, Pcr, System}
 use Rattle.slot_plan.specs.Planned.{Planned}
 use Rattle.slot_plan.specs.Conditions.{IsServing}

@@ -1,7 +1,7 @@
 -- A small service and its plan, with what the conditions give for it and for changes of it.
 use Rattle.std.specs.Prelude.{ℕ, true, List, [], ◌∷◌, ◌++◌, None, Some, codes}
 use Rattle.unit_timing.specs.declared.allowance.Allowance.TheVariants.{Groups}
-use Rattle.description.specs.Described.{Described, DescribedStream}
+use Rattle.description_parts.specs.Described.{Described, DescribedStream}
 use Rattle.slot_plan.specs.declared.slot.Slot.{Slot}
 use Rattle.slot_plan.specs.declared.slot.Slot.TheVariants.{Stream, Pcr, Table, Null}
 use Rattle.slot_plan.specs.Planned.{Planned, Certified}

@@ -2,7 +2,7 @@
 use Rattle.std.specs.Prelude.{◌++◌, List, None, is_none}
 use Rattle.std.proofs.Common.{◌≡◌, inl, inr}
 use Rattle.std.proofs.lemmas.Bool.{cases_Bool}
-use Rattle.description.specs.Described.{Described}
+use Rattle.description_parts.specs.Described.{Described}
 use Rattle.slot_plan.specs.Planned.{Planned}
 use Rattle.slot_plan.specs.Shape.{IsShaped}
 use Rattle.slot_plan.specs.Entries.{Entry, first_failing}

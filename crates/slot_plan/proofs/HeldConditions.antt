@@ -4,8 +4,8 @@ use Rattle.std.proofs.Common.{◌≡◌, refl, arith, inl, inr}
 use Rattle.std.proofs.lemmas.Bool.{cases_Bool, leb-true}
 use Rattle.std.proofs.lemmas.Bool.Decides.{nat_tests}
 use Rattle.own_slots.specs.Period.{per_period}
-use Rattle.description.specs.Described.{Described}
-use Rattle.description.specs.Tables.{table_kinds}
+use Rattle.description_parts.specs.Described.{Described}
+use Rattle.description_parts.specs.Tables.{table_kinds}
 use Rattle.slot_plan.specs.declared.slot.Item.TheVariants.{Stream, Pcr, Table}
 use Rattle.slot_plan.specs.declared.condition.Condition.{Condition}
 use Rattle.slot_plan.specs.declared.condition.Condition.TheVariants.{Shape}

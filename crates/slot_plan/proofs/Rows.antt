@@ -12,7 +12,7 @@ use Rattle.slot_plan.specs.Entries.{Entry, at_most, equal_counts, first_failing}
 use Rattle.slot_plan.specs.Conditions.{entries}
 use Rattle.slot_plan.specs.SwitchConditions.{switch_entries}
 use Rattle.unit_timing.specs.declared.allowance.Allowance.TheVariants.{Groups, Pace}
-use Rattle.description.specs.Described.{Described, DescribedStream}
+use Rattle.description_parts.specs.Described.{Described, DescribedStream}
 use Rattle.slot_plan.proofs.BaseService.{base, base_stream, base_plan, base_slots, claims}
 
 -- the first condition that fails

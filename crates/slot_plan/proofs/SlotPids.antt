@@ -1,9 +1,9 @@
 -- The PIDs of slots, by their places in the list of a description's PIDs.
 use Rattle.std.proofs.Common.{◌≡◌, ℕ, ◌+◌, ◌<◌, length, Option, None, Some, slice_get, refl, ap, sym, ◌∙◌, arith}
 use Rattle.std.proofs.lemmas.Option.{slice_get_within}
-use Rattle.description.specs.Described.{Described, DescribedProgram, DescribedStream}
-use Rattle.description.specs.Tables.{table_kind, table_kinds, table_count, table_pid}
-use Rattle.description.specs.declared.table_kind.TableKind.{TableKind}
+use Rattle.description_parts.specs.Described.{Described, DescribedProgram, DescribedStream}
+use Rattle.description_parts.specs.Tables.{table_kind, table_kinds, table_count, table_pid}
+use Rattle.description_parts.specs.declared.table_kind.TableKind.{TableKind}
 use Rattle.description.specs.Pids.{all_pids}
 use Rattle.description.proofs.Pids.{pids_apart, pids_below, pid_positions}
 use Rattle.slot_plan.specs.declared.slot.Slot.{Slot}

@@ -4,8 +4,8 @@ use Rattle.own_slots.specs.Period.{per_period}
 use Rattle.unit_timing.specs.Plans.{Declaration}
 use Rattle.unit_timing.specs.Conditions.{Share}
 use Rattle.unit_timing.specs.declared.multiplexing_buffer.MultiplexingBuffer.{MultiplexingBuffer}
-use Rattle.description.specs.Described.{DescribedStream}
-use Rattle.description.specs.Tables.{greatest_unit_packets}
+use Rattle.description_parts.specs.Described.{DescribedStream}
+use Rattle.description_parts.specs.Tables.{greatest_unit_packets}
 use Rattle.slot_plan.specs.declared.slot.Item.TheVariants.{Stream}
 use Rattle.slot_plan.specs.declared.certificate.StreamEntry.{StreamEntry}
 use Rattle.slot_plan.specs.declared.certificate.MultiplexingEntry.{MultiplexingEntry}

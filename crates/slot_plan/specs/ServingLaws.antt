@@ -1,7 +1,7 @@
 -- What is known of a plan that serves a description.
 use Rattle.std.specs.Prelude.{ℕ, ◌<◌, All, length}
-use Rattle.description.specs.Described.{Described}
-use Rattle.description.specs.Tables.{table_count}
+use Rattle.description_parts.specs.Described.{Described}
+use Rattle.description_parts.specs.Tables.{table_count}
 use Rattle.slot_plan.specs.declared.slot.Slot.{Slot}
 use Rattle.slot_plan.specs.declared.slot.Slot.TheVariants.{Stream, Pcr, Table, Null}
 use Rattle.slot_plan.specs.Planned.{Planned}

@@ -1,8 +1,8 @@
 -- The PIDs of slots: each slot that names a part of the description has that part's PID, and no two parts share one.
 use Rattle.std.specs.Prelude.{◌≡◌, ℕ, ◌<◌, Option, None, Some, option_map, slice_get}
-use Rattle.description.specs.Described.{Described}
-use Rattle.description.specs.Ranges.{IsInRange}
-use Rattle.description.specs.Tables.{table_kind, table_pid}
+use Rattle.description_parts.specs.Described.{Described}
+use Rattle.description_parts.specs.Ranges.{IsInRange}
+use Rattle.description_parts.specs.Tables.{table_kind, table_pid}
 use Rattle.slot_plan.specs.declared.slot.Slot.{Slot}
 use Rattle.slot_plan.specs.declared.slot.Slot.TheVariants.{Stream, Pcr, Table, Null}
 

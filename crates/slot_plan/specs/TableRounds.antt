@@ -2,8 +2,8 @@
 -- carry the packets in turn.
 use Rattle.std.specs.Prelude.{ℕ, Bool, take, sum_by}
 use Rattle.own_slots.specs.Rounds.{starts}
-use Rattle.description.specs.Described.{Described}
-use Rattle.description.specs.Tables.{packets_of_section, section_lengths, round_packets}
+use Rattle.description_parts.specs.Described.{Described}
+use Rattle.description_parts.specs.Tables.{packets_of_section, section_lengths, round_packets}
 use Rattle.slot_plan.specs.declared.slot.Item.TheVariants.{Table}
 use Rattle.slot_plan.specs.Schedule.{Schedule, owned}
 

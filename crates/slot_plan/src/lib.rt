@@ -24,8 +24,9 @@ mod words;
 
 pub use certificate::{Certificate, MultiplexingEntry, ProgramEntry, StreamEntry};
 pub use condition::{Condition, Relation};
-pub use description::{
-    Description, Network, PrivateTable, ProgramDescription, StreamDescription, TableKind,
+pub use description::Description;
+pub use description_parts::{
+    Network, PrivateTable, ProgramDescription, StreamDescription, TableKind,
 };
 pub use plan::{Plan, PlanError};
 pub use reader::PlanTextError;

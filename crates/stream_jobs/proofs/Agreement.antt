@@ -1,6 +1,6 @@
 -- Streams that agree one after another.
 use Rattle.std.proofs.Common.{◌≡◌, ℕ, zero, suc, true, rules, Some, List, [], ◌∷◌, slice_get, sym}
-use Rattle.description.specs.Described.{Described, DescribedProgram, DescribedStream}
+use Rattle.description_parts.specs.Described.{Described, DescribedProgram, DescribedStream}
 use Rattle.std.specs.Str.{bytes_eq}
 use Rattle.std.proofs.lemmas.Bool.{and_parts, eqb-true}
 use Rattle.std.proofs.lemmas.Slice.Eq.{bytes_eq-Decides}

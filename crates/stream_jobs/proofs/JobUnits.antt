@@ -6,7 +6,7 @@ use Rattle.std.proofs.lemmas.Option.{slice_get_within, slice_get-get_or, slice_g
 use Rattle.pes_packet.specs.AccessUnits.{AccessUnit}
 use Rattle.pes_packet.specs.Units.{units_of}
 use Rattle.demux.specs.Views.{FindingView}
-use Rattle.description.specs.Described.{Described, DescribedStream}
+use Rattle.description_parts.specs.Described.{Described, DescribedStream}
 use Rattle.es_units.specs.Merging.{AreMerged}
 use Rattle.stream_jobs.specs.Jobs.{Agrees, AllAgree, AreUnits, FitsQueue, IsMoved, IsStream}
 use Rattle.stream_jobs.specs.JobInput.{JobInputView}

@@ -7,7 +7,7 @@ use Rattle.std.proofs.lemmas.Option.{same_Some, slice_get_within, slice_get-get_
 use Rattle.pes_packet.specs.AccessUnits.{AccessUnit}
 use Rattle.pes_packet.specs.Units.{units_of}
 use Rattle.demux.specs.Views.{FindingView}
-use Rattle.description.specs.Described.{Described, DescribedStream}
+use Rattle.description_parts.specs.Described.{Described, DescribedStream}
 use Rattle.es_units.specs.Merging.{AreMerged}
 use Rattle.stream_jobs.specs.Jobs.{Agrees, AllAgree, FitsQueue}
 use Rattle.stream_jobs.specs.JobInput.{JobInputView}

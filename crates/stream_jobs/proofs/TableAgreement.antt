@@ -1,6 +1,6 @@
 -- Private tables that are the declared ones, one after another.
 use Rattle.std.proofs.Common.{◌≡◌, ℕ, zero, suc, true, Option, Some, None, List, [], ◌∷◌, slice_get, sym, refl, ap₂}
-use Rattle.description.specs.Described.{DescribedEntry, DescribedTable}
+use Rattle.description_parts.specs.Described.{DescribedEntry, DescribedTable}
 use Rattle.std.specs.Str.{bytes_eq}
 use Rattle.std.proofs.lemmas.Bool.{and_parts, eqb-true}
 use Rattle.stream_jobs.specs.Jobs.{IsTable, TablesInTurn, are_sections, entry_of, has_entry, is_table}

@@ -1,7 +1,7 @@
 -- A description that has the programs, the tables and the streams of an input, one after another.
 use Rattle.std.proofs.Common.{◌≡◌, true, length, sym}
 use Rattle.std.proofs.lemmas.Bool.{and_parts, eqb-true}
-use Rattle.description.specs.Described.{Described}
+use Rattle.description_parts.specs.Described.{Described}
 use Rattle.stream_jobs.specs.Jobs.{AgreeInTurn, AllAgree, AreInTurn, TablesInTurn, are_counted}
 use Rattle.stream_jobs.specs.JobInput.{JobInputView}
 use Rattle.stream_jobs.proofs.Agreement.{at_each, at_program}

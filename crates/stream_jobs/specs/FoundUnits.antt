@@ -8,7 +8,7 @@ use Rattle.es_units.specs.MadeDts.{made_units}
 use Rattle.es_units.specs.Declaration.{min_interval, max_unit_size, max_pts_after, AllowsUnits}
 use Rattle.es_units.specs.Laws.{FirstDue}
 use Rattle.es_units.specs.Stamps.{moved, first_fault}
-use Rattle.description.specs.Described.{Described, DescribedStream}
+use Rattle.description_parts.specs.Described.{Described, DescribedStream}
 
 -- units as on the wire, at the moments that they have where the clock shows `base` at moment 0, each presented within some limit after its
 -- DTS

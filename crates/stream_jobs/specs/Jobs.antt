@@ -5,7 +5,7 @@ use Rattle.std.specs.Str.{bytes_eq}
 use Rattle.pes_packet.specs.AccessUnits.{AccessUnit}
 use Rattle.pes_packet.specs.Units.{units_of}
 use Rattle.demux.specs.Views.{FindingView}
-use Rattle.description.specs.Described.{Described, DescribedEntry, DescribedProgram, DescribedStream, DescribedTable}
+use Rattle.description_parts.specs.Described.{Described, DescribedEntry, DescribedProgram, DescribedStream, DescribedTable}
 use Rattle.unit_timing.specs.declared.allowance.Allowance.{Allowance}
 use Rattle.unit_timing.specs.declared.allowance.Allowance.TheVariants.{Groups, Pace}
 use Rattle.es_units.specs.Declaration.{min_interval, max_unit_size, max_pts_after, group_packets, burst_packets}

@@ -4,7 +4,7 @@ use Rattle.std.specs.List.{AllZip}
 use Rattle.std.specs.Str.{bytes_eq}
 use Rattle.pes_packet.specs.AccessUnits.{AccessUnit}
 use Rattle.pes_packet.specs.Units.{units_of}
-use Rattle.description.specs.Described.{Described, DescribedStream}
+use Rattle.description_parts.specs.Described.{Described, DescribedStream}
 use Rattle.demux.specs.Views.{FindingView}
 use Rattle.job_text.specs.DescriptionParts.{NetworkPartView}
 use Rattle.stream_jobs.specs.Answers.{and_then, unless}

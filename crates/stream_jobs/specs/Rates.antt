@@ -1,9 +1,9 @@
 -- The rates at which a plan is looked for.
 use Rattle.std.specs.Prelude.{◌≡◌, ◌⊎◌, ℕ, zero, suc, ◌+◌, ◌/◌, ◌-◌, ◌^◌, min, nat_le, nat_lt, false, if◌then◌else◌, List, [], ◌∷◌, ◌++◌, map, Option, Some, None, Ok, All}
 use Rattle.std.specs.List.{range_with_len}
-use Rattle.description.specs.Described.{Described, DescribedProgram}
+use Rattle.description_parts.specs.Described.{Described, DescribedProgram}
 use Rattle.description.specs.Reading.{description_of}
-use Rattle.description.specs.Tables.{round_packets, table_count, table_limit}
+use Rattle.description_parts.specs.Tables.{round_packets, table_count, table_limit}
 use Rattle.plan_maker.specs.PlainPlan.{plain_plan, serves}
 use Rattle.slot_plan.specs.Conditions.{IsServing}
 use Rattle.slot_plan.specs.Planned.{Planned}

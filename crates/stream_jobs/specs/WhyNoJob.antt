@@ -1,9 +1,9 @@
 -- Why there is no job of this input: each definition says whether an error is a cause.
 use Rattle.std.specs.Prelude.{◌≡◌, ◌⊎◌, ⊤, ℕ, List, Option, Some, None, Err}
-use Rattle.description.specs.Described.{Described}
+use Rattle.description_parts.specs.Described.{Described}
 use Rattle.description.specs.Reading.{description_of}
-use Rattle.description.specs.declared.fault.DescFault.{DescFault}
-use Rattle.description.specs.declared.fault.DescError.TheVariants as read
+use Rattle.description_keys.specs.declared.fault.DescFault.{DescFault}
+use Rattle.description_keys.specs.declared.fault.DescError.TheVariants as read
 use Rattle.slot_plan.specs.Conditions.{IsServing}
 use Rattle.slot_plan.specs.Planned.{Planned}
 use Rattle.toml.specs.Parse.{parse_document}

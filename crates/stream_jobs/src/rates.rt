@@ -3,7 +3,7 @@
 ghost use Rattle.std.specs.Prelude.{◌≡◌, ◌≤◌, ◌<◌, ◌++◌, IfOk, IfErr, IfSome, IfNone, Some, None, All, OnOk, map};
 ghost use Rattle.std.specs.Prelude.{string_bytes};
 ghost use Rattle.std.specs.List.{range_with_len};
-ghost use Rattle.description.specs.Tables.{table_count};
+ghost use Rattle.description_parts.specs.Tables.{table_count};
 ghost use Rattle.stream_jobs.specs.Rates as spec;
 ghost use Rattle.stream_jobs.specs.WhyNoJob.{IsWhyNoPlan, IsWhyNoRate, IsWhyNotReadAtOne, IsWhyNotReadAt};
 
@@ -11,7 +11,8 @@ use crate::declarations::StreamChoice;
 use crate::description_draft::{DescriptionDraft, described};
 use crate::refusal::{JobError, JobRefusal};
 use clock27::GREATEST_RATE;
-use description::{Description, ProgramDescription};
+use description::Description;
+use description_parts::ProgramDescription;
 use plan_checker::CheckedPlan;
 use plan_maker::{MakeError, make};
 use std::alloc::{AllocError, Global};

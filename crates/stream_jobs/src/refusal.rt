@@ -3,7 +3,7 @@
 ghost use Rattle.std.specs.Prelude.{◌≡◌};
 ghost use Rattle.stream_jobs.specs.declared.refusal.JobError.TheVariants.{Memory, Refused};
 
-use description::DescFault;
+use description_keys::DescFault;
 use es_units::{DtsFault, StampFault};
 use std::alloc::{AllocError, AllocFailed};
 

@@ -5,7 +5,8 @@ ghost use Rattle.stream_jobs.specs.Jobs.{IsTable, TablesInTurn};
 ghost use Rattle.stream_jobs.specs.Jobs as spec;
 
 use crate::job_tables::JobTable;
-use description::{MapEntry, PrivateSection, PrivateTable};
+use description_parts::{MapEntry, PrivateTable};
+use description_values::PrivateSection;
 
 // Whether these are the declared sections.
 #[tactic(auto, unfolding(crate::specs::Jobs::are_sections))]

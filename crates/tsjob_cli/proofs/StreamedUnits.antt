@@ -6,21 +6,21 @@ use Rattle.std.proofs.Math.Seq.{drop-cons}
 use Rattle.std.proofs.lemmas.List.{append_assoc, append-nil, drop_all}
 use Rattle.clap.specs.Words.{Text}
 use Rattle.checked_jobs.specs.Jobs.{described}
-use Rattle.description.specs.Described.{Described, DescribedStream}
-use Rattle.description.specs.declared.fault.DescError.TheVariants as refused_by
+use Rattle.description_parts.specs.Described.{Described, DescribedStream}
+use Rattle.description_keys.specs.declared.fault.DescError.TheVariants as refused_by
 use Rattle.es_feed.specs.Feeding.{FedStreamView}
 use Rattle.devices.specs.Devices.{Device, HasFailed, IsUntouched, Port}
 use Rattle.devices.specs.Files.{Files, IsOpened}
 use Rattle.devices.specs.Lines.{Reports, line_text}
-use Rattle.description.specs.Codes.{fault_code, fault_item}
-use Rattle.description.specs.declared.fault.DescFault.{DescFault}
+use Rattle.description_keys.specs.Codes.{fault_code, fault_item}
+use Rattle.description_keys.specs.declared.fault.DescFault.{DescFault}
 use Rattle.devices.specs.Outcomes.{halt_line, Outcome}
 use Rattle.devices.specs.WholeInput.{ReadsInput}
 use Rattle.devices.specs.declared.halt.Halt.{Halt}
 use Rattle.devices.specs.declared.halt.Halt.TheVariants as halt
 use Rattle.devices.proofs.NamedReaders.{is_unread}
 use Rattle.devices.specs.Runs.{Performs}
-use Rattle.description.specs.Ranges.{IsInRange}
+use Rattle.description_parts.specs.Ranges.{IsInRange}
 use Rattle.job_run.specs.JobArguments.{JobArgumentsView}
 use Rattle.stream_jobs.specs.JobOptions.{JobOptionsView}
 use Rattle.job_run.specs.Outcomes.{Leads}

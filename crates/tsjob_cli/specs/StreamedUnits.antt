@@ -1,15 +1,15 @@
 -- The units of the streams of a description, while a stream comes.
 use Rattle.std.specs.Prelude.{◌≡◌, ◌⊎◌, ℕ, ◌+◌, ◌==◌, List, [], ◌∷◌, filter, map, Some, None, Result, Ok, Err, codes, ⊤, Bool, if◌then◌else◌}
-use Rattle.description.specs.Described.{Described, DescribedProgram, DescribedStream}
-use Rattle.description.specs.declared.fault.DescError.TheVariants as refused_by
+use Rattle.description_parts.specs.Described.{Described, DescribedProgram, DescribedStream}
+use Rattle.description_keys.specs.declared.fault.DescError.TheVariants as refused_by
 pub use Rattle.es_feed.specs.EachStream.{fed_stream}
 use Rattle.es_feed.specs.Feeding.{FeedView, FedStreamView, feed_first}
 use Rattle.es_feed.specs.Maps.{MapView}
 use Rattle.es_feed.specs.declared.fed_map.NamedStream.{NamedStream}
 use Rattle.es_feed.specs.Passing.{RunsStream}
 use Rattle.checked_jobs.specs.Jobs.{described}
-use Rattle.description.specs.Codes.{fault_code, fault_item}
-use Rattle.description.specs.declared.fault.DescFault.{DescFault}
+use Rattle.description_keys.specs.Codes.{fault_code, fault_item}
+use Rattle.description_keys.specs.declared.fault.DescFault.{DescFault}
 use Rattle.devices.specs.Devices.{Device, IsUntouched}
 use Rattle.devices.specs.Files.{Files, IsOpened, IsUnopened, IsUnread}
 use Rattle.devices.specs.Lines.{Reports, line_text}

@@ -8,7 +8,9 @@ ghost use Rattle.tsjob_cli.specs.StreamedUnits as spec;
 
 use checked_jobs::read_description;
 use counted_io::{Sink, Source};
-use description::{DescError, DescFault, Description, ProgramDescription, StreamDescription};
+use description::Description;
+use description_keys::{DescError, DescFault};
+use description_parts::{ProgramDescription, StreamDescription};
 use devices::{Halt, NamedFiles, read_whole, report_halt, report_line};
 use es_feed::{FedMap, FedStream, NamedStream, UnitFeed, pass_stream};
 use given_marks::{Marking, TypedPid};

@@ -1,9 +1,9 @@
 -- What a description that was read leads `plan` to.
 use Rattle.std.proofs.Common.{◌≡◌, ◌⊎◌, ℕ, false, List, [], refl, ap, subst, ◌∙◌, Result, Ok, Err, inl, inr}
 use Rattle.std.specs.Prelude.{codes}
-use Rattle.description.specs.Described.{Described}
-use Rattle.description.specs.declared.fault.DescError.{DescError}
-use Rattle.description.specs.declared.fault.DescError.TheVariants.{Refused, Memory}
+use Rattle.description_parts.specs.Described.{Described}
+use Rattle.description_keys.specs.declared.fault.DescError.{DescError}
+use Rattle.description_keys.specs.declared.fault.DescError.TheVariants.{Refused, Memory}
 use Rattle.plan_maker.specs.PlainPlan.{plain_plan, serves}
 use Rattle.checked_jobs.specs.Jobs.{BadDescription, described}
 use Rattle.checked_jobs.specs.JobFaults.{fault_line}

@@ -1,8 +1,8 @@
 -- `plan`: the text of some plan that serves the description.
 use Rattle.std.specs.Prelude.{◌≡◌, ◌⊎◌, ℕ, false, List, [], Result, Ok, Err, codes}
-use Rattle.description.specs.Described.{Described}
-use Rattle.description.specs.declared.fault.DescError.{DescError}
-use Rattle.description.specs.declared.fault.DescError.TheVariants.{Refused, Memory}
+use Rattle.description_parts.specs.Described.{Described}
+use Rattle.description_keys.specs.declared.fault.DescError.{DescError}
+use Rattle.description_keys.specs.declared.fault.DescError.TheVariants.{Refused, Memory}
 use Rattle.slot_plan.specs.Conditions.{IsServing}
 use Rattle.slot_plan.specs.Planned.{Planned}
 use Rattle.slot_plan.specs.Text.{plan_text}

@@ -7,7 +7,8 @@ ghost use Rattle.tsmux_cli.specs.Planning.{IsPlanText, ReportsUnread, MakesPlan}
 
 use checked_jobs::{JobFault, read_description, report_fault, report_refusal};
 use counted_io::{Sink, Source};
-use description::{DescError, Description};
+use description::Description;
+use description_keys::DescError;
 use devices::{Halt, read_whole, report_halt, write_text};
 use plan_maker::{MakeError, make};
 use std::alloc::Global;

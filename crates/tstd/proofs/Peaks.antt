@@ -13,8 +13,8 @@ use Rattle.tstd.specs.declared.queue.Queue.{Queue}
 use Rattle.tstd.specs.declared.fullness.SystemFullness.{SystemFullness}
 use Rattle.tstd.specs.Measured.{IsSystemFullness}
 use Rattle.tstd.specs.Queues.{all_arrived, greatest_residence, bytes_within}
-use Rattle.description.specs.Described.{DescribedStream}
-use Rattle.description.specs.Ranges.{IsStream, IsMultiplexingBuffer}
+use Rattle.description_parts.specs.Described.{DescribedStream}
+use Rattle.description_parts.specs.Ranges.{IsStream, IsMultiplexingBuffer}
 use Rattle.std.proofs.lemmas.List.Elements.{All-head}
 use Rattle.unit_timing.specs.declared.multiplexing_buffer.MultiplexingBuffer.{MultiplexingBuffer}
 use Rattle.unit_timing.specs.Schedule.{Packet}

@@ -3,7 +3,7 @@ ghost use Rattle.std.specs.Prelude.{◌≡◌, length, slice_get};
 ghost use Rattle.std.specs.List.{list_all};
 ghost use Rattle.tstd.specs.Refusals.{is_within};
 
-use description::StreamDescription;
+use description_parts::StreamDescription;
 use pes_packet::Unit;
 use std::alloc::Allocator;
 

@@ -1,6 +1,6 @@
 //! The buffers of a stream.
 ghost use Rattle.std.specs.Prelude.{◌≡◌, ◌*◌, ◌<◌, ◌≤◌, ◌^◌, length, IfOk, sum_by};
-ghost use Rattle.description.specs.Ranges.{IsStream, IsMultiplexingBuffer};
+ghost use Rattle.description_parts.specs.Ranges.{IsStream, IsMultiplexingBuffer};
 ghost use Rattle.pes_packet.specs.Units.{units_of};
 ghost use Rattle.tstd.specs.Carried.{timed_pes_packets};
 ghost use Rattle.tstd.specs.PidPackets.{packets_from};
@@ -10,7 +10,7 @@ use crate::fullness::{StreamFullness, VideoFullness};
 use crate::main_buffer::MainBuffer;
 use crate::payload_bytes::PayloadBytes;
 use crate::units::measure_units;
-use description::StreamDescription;
+use description_parts::StreamDescription;
 use pes_packet::Unit;
 use std::alloc::{AllocError, Allocator};
 use unit_timing::multiplexing_buffer::MultiplexingBuffer;

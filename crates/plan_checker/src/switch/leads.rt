@@ -2,7 +2,7 @@
 //! there is one, by their decoding times.
 
 ghost use Rattle.std.specs.Prelude.{◌≡◌, ◌^◌, ◌<◌, ◌≤◌, ◌∷◌, [], length};
-ghost use Rattle.description.specs.Ranges.{IsStream};
+ghost use Rattle.description_parts.specs.Ranges.{IsStream};
 ghost use Rattle.unit_timing.specs.Allowances.{allowance_rows};
 ghost use Rattle.slot_plan.specs.Conditions.{entries_from};
 ghost use Rattle.slot_plan.specs.SwitchConditions.{lead_switch_entry, elementary_switch_entries, if_changed};

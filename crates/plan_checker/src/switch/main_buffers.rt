@@ -1,7 +1,7 @@
 //! Main buffers over a switch: what waits for its decoding time finds room.
 
 ghost use Rattle.std.specs.Prelude.{◌≡◌, ◌^◌, ◌<◌, ◌≤◌, ◌∷◌, [], length};
-ghost use Rattle.description.specs.Ranges.{IsStream};
+ghost use Rattle.description_parts.specs.Ranges.{IsStream};
 ghost use Rattle.unit_timing.specs.Conditions.{bytes_across};
 ghost use Rattle.slot_plan.specs.Claims.{led_declaration, stream_share};
 ghost use Rattle.slot_plan.specs.SwitchConditions.{main_switch_entry, frame_switch_entries, if_changed};

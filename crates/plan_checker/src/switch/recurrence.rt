@@ -1,7 +1,7 @@
 //! Gaps over a switch: PCRs and sections recur within their limits.
 
 ghost use Rattle.std.specs.Prelude.{◌∷◌, []};
-ghost use Rattle.description.specs.Tables.{table_kinds};
+ghost use Rattle.description_parts.specs.Tables.{table_kinds};
 ghost use Rattle.slot_plan.specs.SwitchConditions.{pcr_switch_entry, table_switch_entry};
 
 use crate::comparison::at_most;

@@ -7,7 +7,7 @@ ghost use Rattle.slot_plan.specs.SwitchConditions.{work_switch_entry, emptied_sw
 ghost use Rattle.slot_plan.specs.SwitchConditions.{stream_work_entries, stream_emptied_switch_entries};
 ghost use Rattle.slot_plan.specs.SwitchConditions.{transport_work_entry, system_work_entry};
 ghost use Rattle.slot_plan.specs.SwitchConditions.{multiplexing_work_entries};
-ghost use Rattle.description.specs.Ranges.{IsStream};
+ghost use Rattle.description_parts.specs.Ranges.{IsStream};
 ghost use Rattle.plan_checker.specs.Failing.{after, search_of};
 
 use crate::claims::{claim_of_multiplexing, claim_of_program, claim_of_stream};

@@ -2,7 +2,7 @@
 
 ghost use Rattle.std.specs.Prelude.{◌≡◌, ◌<◌};
 ghost use Rattle.std.specs.Option.{option_to_list};
-ghost use Rattle.description.specs.Tables.{table_count};
+ghost use Rattle.description_parts.specs.Tables.{table_count};
 ghost use Rattle.plan_maker.specs.Reasons.{least_limit, pcr_reason, table_reason};
 
 use crate::reason::Reason;

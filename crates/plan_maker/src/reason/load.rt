@@ -2,7 +2,7 @@
 
 ghost use Rattle.std.specs.Prelude.{◌≡◌, ◌^◌, ◌<◌, ◌≤◌};
 ghost use Rattle.std.specs.Option.{option_to_list};
-ghost use Rattle.description.specs.Ranges.{IsStream};
+ghost use Rattle.description_parts.specs.Ranges.{IsStream};
 ghost use Rattle.plan_maker.specs.Loads.{stream_load, recurring_load, streams_load, pcrs_load, tables_load};
 ghost use Rattle.plan_maker.specs.Loads.{has_slots, least_rate};
 ghost use Rattle.plan_maker.specs.Reasons.{load_reason};

@@ -4,7 +4,7 @@
 ghost use Rattle.std.specs.Prelude.{◌≡◌, ◌+◌, ◌<◌, ◌≤◌};
 ghost use Rattle.std.specs.Option.{option_to_list};
 ghost use Rattle.unit_timing.specs.Allowances.{allowance_rows};
-ghost use Rattle.description.specs.Ranges.{IsStream};
+ghost use Rattle.description_parts.specs.Ranges.{IsStream};
 ghost use Rattle.plan_maker.specs.Reasons.{least_drain, units_lead, least_lead, least_main};
 ghost use Rattle.plan_maker.specs.Reasons.{drain_reason, leak_reason, lead_reason, main_reason};
 

@@ -1,6 +1,6 @@
 //! Streams: their rate, the deadlines of units in a row, their main buffer.
 
-ghost use Rattle.description.specs.Ranges.{IsStream};
+ghost use Rattle.description_parts.specs.Ranges.{IsStream};
 
 use crate::search::numbers::{narrowed, product, rounded_up};
 use clock27::{BYTE_UNITS_AT_1BPS, SLOT_UNITS_AT_1BPS};

@@ -7,7 +7,8 @@ use super::texts::{
 };
 use super::{described, edited, repeated};
 use arrayvec::ArrayVec;
-use description::{Description, TableKind};
+use description::Description;
+use description_parts::TableKind;
 use sections::{SECTIONS, Section};
 use std::alloc::Global;
 

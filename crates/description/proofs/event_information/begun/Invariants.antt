@@ -1,6 +1,6 @@
 use Rattle.std.proofs.Common.{◌≡◌, ◌≤◌, take}
 use Rattle.std.specs.List.{count_by}
-use Rattle.description.specs.Described.{event_view}
+use Rattle.description_parts.specs.Described.{event_view}
 use Rattle.description.specs.SectionBytes.{has_begun}
 use Rattle.description.proofs.event_information.begun.Given as goal
 

@@ -1,5 +1,5 @@
 use Rattle.std.proofs.Common.{sym, ap, ◌∙◌, option_map}
-use Rattle.description.specs.Described.{event_view}
+use Rattle.description_parts.specs.Described.{event_view}
 use Rattle.description.proofs.EventPlaces.{present_at, no_present, after}
 use Rattle.description.proofs.event_information.present_event.Goals as goal
 

@@ -1,6 +1,6 @@
 use Rattle.std.proofs.Common.{◌≡◌, take, length, sum_by}
 use Rattle.psi_tables.specs.ProgramMap.{stream_loop_of, streams_bytes}
-use Rattle.description.specs.Tables.{entry_length}
+use Rattle.description_parts.specs.Tables.{entry_length}
 use Rattle.description.specs.SectionBytes.{pmt_streams}
 use Rattle.description.proofs.program_map.program_streams.Given as goal
 

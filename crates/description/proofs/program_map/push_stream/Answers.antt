@@ -1,6 +1,6 @@
 use Rattle.std.proofs.Common.{arith, rules, length, ◌≡◌, ◌+◌, ◌++◌, [], ◌∷◌}
 use Rattle.psi_tables.specs.ProgramMap.{stream_loop_of, streams_bytes}
-use Rattle.description.specs.Tables.{es_info_length}
+use Rattle.description_parts.specs.Tables.{es_info_length}
 use Rattle.description.specs.SectionBytes.{pmt_stream}
 use Rattle.description.proofs.LoopLengths.{streams_bytes-push, stream_descriptors-length, encoded_length}
 use Rattle.description.proofs.program_map.push_stream.Goals as goal

@@ -1,6 +1,6 @@
 use Rattle.std.proofs.Common.{◌≡◌, ◌+◌, ◌++◌, take, length, sum_by}
 use Rattle.psi_tables.specs.ProgramMap.{stream_loop_of, streams_bytes}
-use Rattle.description.specs.Tables.{listed_length}
+use Rattle.description_parts.specs.Tables.{listed_length}
 use Rattle.description.specs.SectionBytes.{pmt_tables}
 use Rattle.description.proofs.program_map.push_tables.Given as goal
 

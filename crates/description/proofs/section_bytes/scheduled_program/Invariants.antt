@@ -1,5 +1,5 @@
 use Rattle.std.proofs.Common.{◌≡◌, filter, drop, slice_get}
-use Rattle.description.specs.Tables.{has_event}
+use Rattle.description_parts.specs.Tables.{has_event}
 use Rattle.description.proofs.section_bytes.scheduled_program.Given as goal
 
 abbrev pub invariant-loop-program : goal.invariant-loop-program

@@ -1,6 +1,6 @@
 use Rattle.std.proofs.Common.{◌≡◌, map, take, length, sum_by}
 use Rattle.dvb_tables.specs.Services.{service_loop_of, services_bytes}
-use Rattle.description.specs.Tables.{service_length}
+use Rattle.description_parts.specs.Tables.{service_length}
 use Rattle.description.specs.SectionBytes.{service_says}
 use Rattle.description.proofs.service_description.program_services.Given as goal
 

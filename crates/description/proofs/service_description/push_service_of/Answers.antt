@@ -1,6 +1,6 @@
 use Rattle.std.proofs.Common.{arith, rules, length, ◌≡◌, ◌+◌, ◌++◌, [], ◌∷◌}
 use Rattle.dvb_tables.specs.Services.{service_loop_of, services_bytes}
-use Rattle.description.specs.Tables.{service_length}
+use Rattle.description_parts.specs.Tables.{service_length}
 use Rattle.description.specs.SectionBytes.{service_says}
 use Rattle.description.proofs.LoopLengths.{services_bytes-push, service_descriptor-length, encoded_length}
 use Rattle.description.proofs.service_description.push_service_of.Goals as goal

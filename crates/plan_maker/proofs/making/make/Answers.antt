@@ -1,6 +1,6 @@
 use Rattle.std.specs.Prelude.{IfOk, IfErr}
 use Rattle.std.proofs.Common.{◌≡◌, false, Option, Result, Ok, Err, ap, sym, ◌∙◌}
-use Rattle.description.specs.Described.{Described}
+use Rattle.description_parts.specs.Described.{Described}
 use Rattle.slot_plan.specs.Planned.{Planned}
 use Rattle.plan_maker.specs.PlainPlan.{plain_plan, serves}
 use Rattle.plan_maker.specs.Failures.{Fails}

@@ -1,5 +1,5 @@
 use Rattle.std.proofs.Common.{◌<◌, ◌≤◌, length, rules}
-use Rattle.description.specs.Tables.{table_kinds}
+use Rattle.description_parts.specs.Tables.{table_kinds}
 use Rattle.plan_maker.specs.Reasons.{table_reason}
 use Rattle.plan_maker.proofs.GrowingLists.{number_parts_pushed, all_parts_pushed}
 use Rattle.plan_maker.proofs.reason.push_tables.Goals as goal

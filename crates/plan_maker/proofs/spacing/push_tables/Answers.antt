@@ -1,5 +1,5 @@
 use Rattle.std.proofs.Common.{◌≡◌, ◌<◌, ◌≤◌, length, arith, rules, ap, ◌∙◌}
-use Rattle.description.specs.Tables.{table_kinds}
+use Rattle.description_parts.specs.Tables.{table_kinds}
 use Rattle.plan_checker.proofs.Counts.{few_tables}
 use Rattle.slot_plan.specs.declared.slot.Slot.TheVariants.{Table}
 use Rattle.plan_maker.specs.Spacings.{spacing, table_room}

@@ -1,5 +1,5 @@
 use Rattle.std.proofs.Common.{◌≡◌, [], ◌∷◌, ◌++◌, take}
-use Rattle.description.specs.Tables.{table_kinds}
+use Rattle.description_parts.specs.Tables.{table_kinds}
 use Rattle.slot_plan.specs.Numbered.{numbered}
 use Rattle.slot_plan.specs.declared.slot.Slot.TheVariants.{Table}
 use Rattle.plan_maker.specs.Spacings.{spacing, table_room}

@@ -1,5 +1,5 @@
 use Rattle.std.proofs.Common.{◌≡◌, ◌∷◌, [], ◌++◌, drop}
-use Rattle.description.specs.Tables.{table_kinds}
+use Rattle.description_parts.specs.Tables.{table_kinds}
 use Rattle.slot_plan.specs.Numbered.{numbered}
 use Rattle.plan_page.specs.PlanItems.{table_item}
 use Rattle.plan_page.proofs.table_items.push_tables.Given as goal

@@ -1,5 +1,5 @@
 use Rattle.std.proofs.Common.{◌≤◌, length, rules, arith}
-use Rattle.description.specs.Tables.{table_count, table_kinds}
+use Rattle.description_parts.specs.Tables.{table_count, table_kinds}
 use Rattle.stream_jobs.specs.Rates.{table_recurs}
 use Rattle.stream_jobs.proofs.TriedRates.{all_tables, pushed_table}
 use Rattle.stream_jobs.proofs.rates.push_tables.Goals as goal

@@ -1,6 +1,6 @@
 use Rattle.std.proofs.Common.{◌≡◌, ◌∙◌, ◌<◌, ◌≤◌, true, false, Some, refl, ap, sym, subst, length, get_or}
 use Rattle.std.proofs.lemmas.List.Elements.{All-get_or}
-use Rattle.description.specs.Ranges.{IsStream}
+use Rattle.description_parts.specs.Ranges.{IsStream}
 use Rattle.pes_packet.specs.Units.{units_of}
 use Rattle.tstd.specs.Carried.{carries}
 use Rattle.tstd.proofs.StreamsInTurn.{carried_next, carried_end, carries_same, declared_fit, gets}

@@ -1,6 +1,6 @@
 use Rattle.std.proofs.Common.{◌≡◌, ℕ, length, slice_get, Some, drop, true}
 use Rattle.std.specs.Option.{option_or}
-use Rattle.description.specs.Described.{DescribedStream}
+use Rattle.description_parts.specs.Described.{DescribedStream}
 use Rattle.tstd.specs.declared.fullness.StreamFullness.{StreamFullness}
 use Rattle.pes_packet.specs.Units.{units_of}
 use Rattle.tstd.specs.Carried.{packets_on}

@@ -1,5 +1,5 @@
 use Rattle.std.proofs.Common.{◌≡◌, ℕ, length, slice_get, Some}
-use Rattle.description.specs.Described.{DescribedProgram}
+use Rattle.description_parts.specs.Described.{DescribedProgram}
 use Rattle.tstd.specs.declared.fullness.SystemFullness.{SystemFullness}
 use Rattle.tstd.specs.Carried.{table_packets}
 use Rattle.tstd.specs.Measured.{IsSystemFullness}

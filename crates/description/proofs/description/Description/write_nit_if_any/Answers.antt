@@ -1,6 +1,6 @@
 use Rattle.std.proofs.Common.{◌≤◌, sym, ap, ◌∙◌, option_map}
-use Rattle.description.specs.Ranges.{IsNetwork, longest_section}
-use Rattle.description.specs.Tables.{nit_length}
+use Rattle.description_parts.specs.Ranges.{IsNetwork, longest_section}
+use Rattle.description_parts.specs.Tables.{nit_length}
 use Rattle.description.proofs.NetworkFacts.{of_some}
 use Rattle.description.proofs.description.Description.write_nit_if_any.Goals as goal
 

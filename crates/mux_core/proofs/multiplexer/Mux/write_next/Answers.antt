@@ -1,5 +1,5 @@
 use Rattle.std.proofs.Common.{◌<◌, ◌^◌, suc, subst, rules, arith}
-use Rattle.description.specs.Ranges.{IsInRange}
+use Rattle.description_parts.specs.Ranges.{IsInRange}
 use Rattle.plan_timing.specs.Promised.{Promised}
 use Rattle.mux_core.specs.MuxStates.{MuxState}
 use Rattle.mux_core.proofs.MuxStates.{gives}

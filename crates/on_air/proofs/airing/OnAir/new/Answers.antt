@@ -1,6 +1,6 @@
 use Rattle.std.proofs.Common.{◌+◌, ap, ◌∙◌, subst}
-use Rattle.description.specs.Described.{Described}
-use Rattle.description.specs.Ranges.{IsInRange}
+use Rattle.description_parts.specs.Described.{Described}
+use Rattle.description_parts.specs.Ranges.{IsInRange}
 use Rattle.mux_core.specs.Histories.{empty_history}
 use Rattle.mux_core.specs.WholeJobs.{plan_schedule}
 use Rattle.on_air.specs.Airing.{greatest_lead, room_by, room_of}

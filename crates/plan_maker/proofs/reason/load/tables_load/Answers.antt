@@ -1,5 +1,5 @@
 use Rattle.std.proofs.Common.{◌≡◌, ◌<◌, length, arith, rules, ap₂, ◌∙◌}
-use Rattle.description.specs.Tables.{table_kinds, table_limit, round_packets}
+use Rattle.description_parts.specs.Tables.{table_kinds, table_limit, round_packets}
 use Rattle.plan_checker.proofs.Counts.{few_tables}
 use Rattle.plan_checker.proofs.Rounds.{few_places}
 use Rattle.plan_maker.specs.Loads.{recurring_load}

@@ -1,5 +1,5 @@
 use Rattle.std.proofs.Common.{◌≡◌, ◌*◌, ◌^◌, ◌≤◌, take}
-use Rattle.description.specs.Tables.{table_kinds, table_limit, round_packets}
+use Rattle.description_parts.specs.Tables.{table_kinds, table_limit, round_packets}
 use Rattle.plan_maker.specs.Loads.{total, recurring_load}
 use Rattle.plan_maker.proofs.reason.load.tables_load.Given as goal
 

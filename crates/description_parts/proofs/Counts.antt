@@ -1,0 +1,187 @@
+-- A document whose keys are all in their ranges has as many parts as a description may have.
+use Rattle.std.proofs.Common.{◌≡◌, ℕ, get_or, inl, inr, suc, ◌≤◌, ◌&&◌, not, nat_le, Bool, true, false, List, [], ◌∷◌, length, Option, None, Some, unwrap_or, option_map, refl, ap, sym, ◌∙◌, arith, if◌then◌else◌, All, position, codes, is_some}
+use Rattle.std.proofs.lemmas.Bool.{and_parts, cases_lt, leb-true}
+use Rattle.std.proofs.lemmas.List.Sums.{prefix_len_passes}
+use Rattle.std.proofs.lemmas.Bool.Decides.{nat_tests}
+use Rattle.std.proofs.lemmas.List.{length-map}
+use Rattle.std.proofs.lemmas.List.Elements.{All-map, All-same}
+use Rattle.std.specs.List.{list_all, filter_map, cons_option, AllByRecursion, prefix_len}
+use Rattle.std.specs.Option.{option_or}
+use Rattle.toml.specs.Data.{Data, get}
+use Rattle.description_values.specs.Values.{elements, elements_in, array_in, are_tables, tables_at, are_sections, sections_at, has_length, is_table, is_section, section_in}
+use Rattle.description_parts.specs.Contents.{described, described_sections, described_table, described_program, described_stream}
+use Rattle.description_parts.specs.Described.{Described}
+use Rattle.description_parts.specs.Ranges.{HasCounts}
+use Rattle.description_values.specs.KnownKeys.{first_refused}
+use Rattle.description_keys.specs.Refusals.{unknown_key_fault, top_fault, network_fault, program_fault, stream_fault, event_fault, table_fault, key_fault, programs_of, streams_of, tables_of, table_keys}
+use Rattle.description_keys.specs.TableKeys.{refuses_table}
+use Rattle.description_keys.specs.declared.fault.DescFault.{DescFault}
+use Rattle.description_keys.specs.declared.fault.DescFault.TheVariants.{Programs, Streams, Tables, Table}
+
+-- where the first of two is None and the second is, both are
+pub or_none : {X : Type 0} (a b : Option X) → option_or a b ≡ None → (a ≡ None) × (b ≡ None)
+or_none None b h = (refl, h)
+or_none (Some x) b h = absurd (cc)
+
+-- no key of the document is refused
+pub record NoFault (d : Data) : Type 0 where
+  pub top : top_fault d ≡ None
+  pub network : network_fault d ≡ None
+  pub program : program_fault d ≡ None
+  pub stream : stream_fault d ≡ None
+  pub event : event_fault d ≡ None
+  pub table : table_fault d ≡ None
+
+pub no_fault : (d : Data) → key_fault d ≡ None → NoFault d
+no_fault d h =
+    let before_network : Option DescFault = option_or (unknown_key_fault d) (top_fault d) in
+    let before_programs : Option DescFault = option_or before_network (network_fault d) in
+    let before_streams : Option DescFault = option_or before_programs (program_fault d) in
+    let before_events : Option DescFault = option_or before_streams (stream_fault d) in
+    let before_tables : Option DescFault = option_or before_events (event_fault d) in
+    let seven = or_none before_tables (table_fault d) h in
+    let six = or_none before_events (event_fault d) seven.0 in
+    let five = or_none before_streams (stream_fault d) six.0 in
+    let four = or_none before_programs (program_fault d) five.0 in
+    let three = or_none before_network (network_fault d) four.0 in
+    let two = or_none (unknown_key_fault d) (top_fault d) three.0 in
+    record { top = two.1; network = three.1; program = four.1; stream = five.1; event = six.1; table = seven.1 }
+
+-- a test that is not refused passed, and what is after it is not refused
+pub if_none : {X : Type 0} (b : Bool) (a : Option X) (x : X) → (if b then a else Some x) ≡ None → (b ≡ true) × (a ≡ None)
+if_none true a x h = (refl, h)
+if_none false a x h = absurd (cc)
+
+-- an array of low to high tables has so many elements
+pub record HasLength (low high n : ℕ) : Type 0 where
+  pub least : low ≤ n
+  pub most : n ≤ high
+
+has_length-is : (low high : ℕ) (ds : List Data) → has_length low high ds ≡ true → HasLength low high (length ds)
+has_length-is low high ds h =
+    let parts = and_parts (nat_le low (length ds)) (nat_le (length ds) high) h in
+    record { least = leb-true low (length ds) parts.0; most = leb-true (length ds) high parts.1 }
+
+tables_in : (low high : ℕ) (o : Option (List Data)) → (elim o [ None ↦ false | Some ds ↦ has_length low high ds && list_all is_table ds ]) ≡ true
+    → HasLength low high (length (unwrap_or o []))
+tables_in low high None h = absurd (cc)
+tables_in low high (Some ds) h = has_length-is low high ds (and_parts (has_length low high ds) (list_all is_table ds) h).0
+
+tables_of_value : (absent : Bool) (low high : ℕ) (o : Option Data) → (absent ≡ true → low ≡ 0)
+    → (elim o [ None ↦ absent | Some value ↦ are_tables low high value ]) ≡ true
+    → HasLength low high (length (elim o as (λ _. List Data) [ None ↦ [] | Some value ↦ elements_in value ]))
+tables_of_value absent low high None zero h = let z = zero h in record { least = omega (arith, z); most = omega arith }
+tables_of_value absent low high (Some value) zero h = tables_in low high (array_in value) h
+
+pub elements-length : (absent : Bool) (key : List ℕ) (low high : ℕ) (d : Data) → (absent ≡ true → low ≡ 0) → tables_at absent key low high d ≡ true
+    → HasLength low high (length (elements key d))
+elements-length absent key low high d zero h = tables_of_value absent low high (get key d) zero h
+
+-- what is after a map that gives nothing is nothing
+pub map_none : {X Y : Type 0} (f : X → Y) (o : Option X) → option_map f o ≡ None → o ≡ None
+map_none f None h = refl
+map_none f (Some x) h = absurd (cc)
+
+-- each of the keys accepts each of the parts
+abbrev pub AllAccept : {K : Type 0} → (K → Data → Bool) → List K → List Data → Type 0
+AllAccept refuses keys parts = AllByRecursion (λ key. All (λ part. refuses key part ≡ false) parts) keys
+
+pub not_true : (b : Bool) → not b ≡ true → b ≡ false
+not_true true h = absurd (cc)
+not_true false h = refl
+
+pub no_position : {X : Type 0} (p : X → Bool) (xs : List X) → position p xs ≡ None → All (λ x. p x ≡ false) xs
+no_position p xs h = λ k d within.
+    elim (cases_lt (prefix_len (λ x. not (p x)) xs) (length xs)) [
+      | inl before ↦ absurd (grind (arith, nat_tests, before, h))
+      | inr after ↦
+          let passes : not (p (get_or xs k d)) ≡ true = prefix_len_passes (λ x. not (p x)) xs k d (omega arith) in
+          not_true (p (get_or xs k d)) passes
+    ]
+
+first_none : {K : Type 0} (key : K) (o : Option ℕ) (rest : Option (K × ℕ)) → (elim o as (λ _. Option (K × ℕ)) [ None ↦ rest | Some place ↦ Some (key, place) ]) ≡ None
+    → (o ≡ None) × (rest ≡ None)
+first_none key None rest h = (refl, h)
+first_none key (Some place) rest h = absurd (cc)
+
+pub all_accept : {K : Type 0} (refuses : K → Data → Bool) (keys : List K) (parts : List Data) → first_refused refuses keys parts ≡ None
+    → AllAccept refuses keys parts
+all_accept refuses [] parts h = tt
+all_accept refuses (key ∷ keys) parts h =
+    let both = first_none key (position (refuses key) parts) (first_refused refuses keys parts) h in
+    (no_position (refuses key) parts both.0, all_accept refuses keys parts both.1)
+
+-- an array of sections
+pub record AreSections (ds : List Data) : Type 0 where
+  pub counted : HasLength 1 8 (length ds)
+  pub sections : list_all is_section ds ≡ true
+
+sections_in : (o : Option (List Data)) → (elim o [ None ↦ false | Some ds ↦ has_length 1 8 ds && list_all is_section ds ]) ≡ true
+    → AreSections (unwrap_or o [])
+sections_in None h = absurd (cc)
+sections_in (Some ds) h =
+    let parts = and_parts (has_length 1 8 ds) (list_all is_section ds) h in
+    record { counted = has_length-is 1 8 ds parts.0; sections = parts.1 }
+
+sections_of_value : (o : Option Data) → (elim o [ None ↦ false | Some value ↦ are_sections value ]) ≡ true
+    → AreSections (elim o as (λ _. List Data) [ None ↦ [] | Some value ↦ elements_in value ])
+sections_of_value None h = absurd (cc)
+sections_of_value (Some value) h = sections_in (array_in value) h
+
+cons_length : {X : Type 0} (o : Option X) (xs : List X) → is_some o ≡ true → length (cons_option o xs) ≡ suc (length xs)
+cons_length None xs h = absurd (cc)
+cons_length (Some x) xs h = refl
+
+filtered_length : (ds : List Data) → list_all is_section ds ≡ true → length (filter_map section_in ds) ≡ length ds
+filtered_length [] h = refl
+filtered_length (d ∷ ds) h =
+    let parts = and_parts (is_section d) (list_all is_section ds) h in
+    cons_length (section_in d) (filter_map section_in ds) parts.0 ∙ ap suc (filtered_length ds parts.1)
+
+-- a private table has 1 to 8 sections
+pub sections-length : (part : Data) → sections_at (codes "sections") part ≡ true → HasLength 1 8 (length (described_sections part))
+sections-length part h =
+    let are = sections_of_value (get (codes "sections") part) h in
+    let same = filtered_length (elements (codes "sections") part) are.sections in
+    record { least = omega (arith, same, are.counted.least); most = omega (arith, same, are.counted.most) }
+
+pub not_false : (b : Bool) → not b ≡ false → b ≡ true
+not_false true h = refl
+not_false false h = absurd (cc)
+
+-- no key of a table is refused
+pub tables_accepted : (d : Data) → NoFault d → AllAccept (λ key. refuses_table key d) table_keys (tables_of d)
+tables_accepted d none =
+    let arrays = if_none (tables_at true (codes "table") 0 16 d) (option_map (λ p. Table p.0 p.1) (first_refused (λ key. refuses_table key d) table_keys (tables_of d))) Tables none.table in
+    all_accept (λ key. refuses_table key d) table_keys (tables_of d) (map_none (λ p. Table p.0 p.1) (first_refused (λ key. refuses_table key d) table_keys (tables_of d)) arrays.1)
+
+pub table_sections : (d : Data) → NoFault d → All (λ part. HasLength 1 8 (length (described_sections part))) (tables_of d)
+table_sections d none =
+    λ k other within. sections-length (get_or (tables_of d) k other) (not_false (sections_at (codes "sections") (get_or (tables_of d) k other)) ((tables_accepted d none).1.1.0 k other within))
+
+-- how many of each there are
+pub has_counts : (d : Data) → NoFault d → HasCounts (described d)
+has_counts d none =
+    let programs = elements-length false (codes "program") 1 16 d (λ e. absurd (cc)) (if_none (tables_at false (codes "program") 1 16 d) _ Programs none.program).0 in
+    let streams = elements-length true (codes "stream") 0 32 d (λ e. refl) (if_none (tables_at true (codes "stream") 0 32 d) _ Streams none.stream).0 in
+    let tables = elements-length true (codes "table") 0 16 d (λ e. refl) (if_none (tables_at true (codes "table") 0 16 d) _ Tables none.table).0 in
+    let p = length-map (programs_of d) (described_program d) in
+    let s = length-map (streams_of d) described_stream in
+    let t = length-map (tables_of d) described_table in
+    record {
+      some_programs = omega (arith, p, programs.least);
+      most_programs = omega (arith, p, programs.most);
+      most_streams = omega (arith, s, streams.most);
+      most_tables = omega (arith, t, tables.most);
+      most_sections = All-map (λ table. length table.sections ≤ 8) described_table (tables_of d) (λ k other within. (table_sections d none k other within).most);
+    }
+
+-- the counts are those of the parts alone
+pub counts_of : (d e : Described) → d.programs ≡ e.programs → d.streams ≡ e.streams → d.tables ≡ e.tables → HasCounts d → HasCounts e
+counts_of d e p s t h = record {
+  some_programs = rw (← p) h.some_programs;
+  most_programs = rw (← p) h.most_programs;
+  most_streams = rw (← s) h.most_streams;
+  most_tables = rw (← t) h.most_tables;
+  most_sections = All-same (λ table. length table.sections ≤ 8) e.tables d.tables (sym t) h.most_sections;
+}

@@ -1,0 +1,10 @@
+pub mod TableNumbers
+pub mod KeyRanges
+pub mod TextRanges
+pub mod Counts
+pub mod PartsInRange
+pub mod Distinct
+pub mod Declared
+pub mod NamedSharers
+pub mod WholeInRange
+pub mod Places

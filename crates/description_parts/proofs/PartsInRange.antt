@@ -1,0 +1,264 @@
+-- Each part of a description is in its ranges.
+use Rattle.std.proofs.Common.{◌≡◌, ℕ, pos, suc, zero, ◌≤◌, ◌<◌, ◌-◌, ◌*◌, ◌/◌, max, ◌==◌, nat_le, Bool, true, false, List, [], ◌∷◌, length, filter, get_or, Option, None, Some, IfSome, unwrap_or, option_map, refl, arith, if◌then◌else◌, All, codes, inl, inr, is_none}
+use Rattle.std.proofs.Math.Nat.{le_trans, div-le_self, mul-div-le, mul-le-mul_left, mul-le-mul_right}
+use Rattle.std.proofs.lemmas.Bool.{leb-true, or_cases, eqb-true}
+use Rattle.std.proofs.lemmas.List.Elements.{All-nil, All-cons, All-map, All-weaker}
+use Rattle.std.specs.Option.{option_to_list}
+use Rattle.std.specs.List.{filter_map, cons_option}
+use Rattle.toml.specs.Data.{Data, get}
+use Rattle.unit_timing.specs.declared.allowance.Allowance.{Allowance}
+use Rattle.unit_timing.specs.declared.framing.Framing.{Framing}
+use Rattle.unit_timing.specs.declared.multiplexing_buffer.MultiplexingBuffer.{MultiplexingBuffer}
+use Rattle.description_parts.specs.Ranges.{IsPid, IsBytes, IsNetwork, IsEvent, IsProgram, IsStreamId, IsGroups, IsPace, IsAllowance, IsMultiplexingBuffer, IsFraming, IsStream, IsEntry, IsTable}
+use Rattle.description_values.specs.Values.{integer_in, integer_at, elements, is_one_section, section_in}
+use Rattle.description_keys.specs.StreamKeys.{is_owned_by, sharers_of, stream_sharers, number_in, is_stream_id, stream_id, is_video_id, id_or_private, greatest_size, leaves_out_buffers, stream_rx, stream_main, stream_size, stream_tag, stream_group, unit_packets, greatest_group_packets, stream_group_packets, is_paced, stream_burst_packets, stream_pace, stream_allowance, has_multiplexing, greatest_rbx, multiplexing_of, has_framing, greatest_frame, stream_frame, stream_interval, stream_frames, framing_of}
+use Rattle.description_parts.specs.Contents.{described_network, described_event, described_number, described_program, described_stream, described_sections, described_entry, described_table}
+use Rattle.description_parts.specs.Described.{DescribedEntry}
+use Rattle.description_keys.specs.TableKeys.{is_listed}
+use Rattle.description_keys.specs.Refusals.{events_of}
+use Rattle.description_parts.proofs.KeyRanges.{Within, holds_of, at_key-all, map_all, integer_in-within, integer_at-within, integer_or-within, moment_at-within}
+use Rattle.description_parts.proofs.TextRanges.{text_at-is, text_or-is, descriptors-is, descriptors_at-is, language_at-is, optional_language-is, IsSectionBytes, sections-are, weaker, then_tested}
+use Rattle.description_parts.proofs.Counts.{HasLength}
+
+pid_is : (key : List ℕ) (d : Data) → IsPid (unwrap_or (integer_at key (pos 32) (pos 8190) d) 32)
+pid_is key d = let w = integer_at-within key 32 8190 32 d (omega arith) (omega arith) in record { low = w.least; high = w.most }
+
+pub network_is : (d : Data) → IsNetwork (described_network d)
+network_is d = record {
+  id = (integer_at-within (codes "id") 0 65535 0 d (omega arith) (omega arith)).most;
+  name = text_at-is 200 (codes "name") d;
+  descriptors = descriptors-is (codes "descriptors") d;
+}
+
+pub event_is : (d : Data) → IsEvent (described_event d)
+event_is d =
+    let duration = integer_at-within (codes "duration") 1 359999 1 d (omega arith) (omega arith) in
+    record {
+      id = (integer_at-within (codes "id") 0 65535 0 d (omega arith) (omega arith)).most;
+      start = (moment_at-within (codes "start") d).most;
+      some_time = duration.least;
+      most_time = duration.most;
+      language = language_at-is (codes "language") d;
+      name = text_at-is 100 (codes "name") d;
+      text = text_at-is 150 (codes "text") d;
+    }
+
+pub program_is : (document d : Data) → IsProgram (described_program document d)
+program_is document d =
+    let number = integer_at-within (codes "number") 1 65535 1 d (omega arith) (omega arith) in
+    let limit = integer_or-within (codes "pcr_limit") 1 100 40 1 d (omega arith) (omega arith) (omega arith) (omega arith) in
+    record {
+      some_number = number.least;
+      most_number = number.most;
+      pmt_pid = pid_is (codes "pmt_pid") d;
+      pcr_pid = pid_is (codes "pcr_pid") d;
+      some_limit = limit.least;
+      most_limit = limit.most;
+      descriptors = descriptors-is (codes "descriptors") d;
+      service_type = (integer_or-within (codes "service_type") 0 255 1 0 d (omega arith) (omega arith) (omega arith) (omega arith)).most;
+      provider = text_or-is 100 (codes "provider") d;
+      name = text_or-is 100 (codes "name") d;
+      events = All-map IsEvent described_event (filter (is_owned_by (described_number d)) (events_of document)) (λ k other within. event_is (get_or (filter (is_owned_by (described_number d)) (events_of document)) k other));
+    }
+
+-- stream_id
+id_tested : (id : ℕ) → Within 189 239 id → is_stream_id id ≡ true → IsStreamId id
+id_tested id w h = elim (or_cases (id == 189) (nat_le 192 id) h) [
+  | inl is ↦ inl (eqb-true id 189 is)
+  | inr above ↦ inr (leb-true 192 id above, w.most)
+]
+
+id_is : (d : Data) → IsStreamId (id_or_private d)
+id_is d =
+    holds_of IsStreamId (stream_id d) 189
+    (weaker (λ id. Within 189 239 id × (is_stream_id id ≡ true)) IsStreamId (stream_id d) (λ id p. id_tested id p.0 p.1)
+    (then_tested (Within 189 239) is_stream_id (integer_at (codes "id") (pos 189) (pos 239) d)
+    (at_key-all (Within 189 239) (codes "id") None (integer_in (pos 189) (pos 239)) d tt (integer_in-within 189 239))))
+    (inl refl)
+
+-- the greatest unit
+record SizeBounds (id most : ℕ) : Type 0 where
+  some : 1 ≤ most
+  any : most ≤ 4000000
+  bounded : id < 224 → most ≤ 65522
+
+size_bounds : (id : ℕ) (b : Bool) → nat_le 224 id ≡ b → SizeBounds id (if b then 4000000 else 65522)
+size_bounds id true is = let above = leb-true 224 id is in record { some = omega arith; any = omega arith; bounded = λ low. absurd (omega arith) }
+size_bounds id false is = record { some = omega arith; any = omega arith; bounded = λ low. omega arith }
+
+-- a group of as many units has no fewer packets than one
+group_most : (g u : ℕ) → 1 ≤ g → u ≤ g * u
+group_most zero u h = absurd (omega arith)
+group_most (suc g) u h = omega arith
+
+if_some : {X : Type 0} (P : X → Type 0) (b : Bool) (x : X) → P x → IfSome (if b then Some x else None) P
+if_some P true x h = h
+if_some P false x h = tt
+
+groups_are : (d : Data) → IsGroups (unit_packets d) (unwrap_or (stream_group d) 1) (unwrap_or (stream_group_packets d) (unit_packets d))
+groups_are d =
+    let group = integer_or-within (codes "group") 1 64 1 1 d (omega arith) (omega arith) (omega arith) (omega arith) in
+    let more = group_most (unwrap_or (stream_group d) 1) (unit_packets d) group.least in
+    let packets = integer_or-within (codes "group_packets") (unit_packets d) (greatest_group_packets d) (greatest_group_packets d) (unit_packets d) d more (omega arith) (omega arith) more in
+    record { some_units = group.least; most_units = group.most; some_packets = packets.least; most_packets = packets.most }
+
+pace_is : (d : Data) → unit_packets d ≤ 100000 → IsPace (unit_packets d) (unwrap_or (stream_burst_packets d) (unit_packets d)) (unwrap_or (stream_pace d) 1)
+pace_is d few =
+    let burst = integer_at-within (codes "burst_packets") (unit_packets d) 100000 (unit_packets d) d (omega arith) few in
+    let pace = integer_at-within (codes "pace") 1 100000000 1 d (omega arith) (omega arith) in
+    record { some_burst = burst.least; most_burst = burst.most; some_pace = pace.least; most_pace = pace.most }
+
+either_is : (n : ℕ) (b : Bool) (p g : Allowance) → IsAllowance n p → IsAllowance n g → IsAllowance n (if b then p else g)
+either_is n true p g hp hg = hp
+either_is n false p g hp hg = hg
+
+allowance_is : (d : Data) → unwrap_or (stream_size d) 1 ≤ 4000000 → IsAllowance (unit_packets d) (stream_allowance d)
+allowance_is d small = either_is (unit_packets d) (is_paced d) _ _ (pace_is d (omega (arith, small))) (groups_are d)
+
+tag_is : (d : Data) → All (λ t. t ≤ 255) (option_to_list (unwrap_or (stream_tag d) None))
+tag_is d =
+    holds_of (λ o. All (λ t. t ≤ 255) (option_to_list o)) (stream_tag d) None
+    (at_key-all (λ o. All (λ t. t ≤ 255) (option_to_list o)) (codes "tag") (Some None) (λ v. option_map Some (integer_in (pos 0) (pos 255) v)) d (All-nil (λ t. t ≤ 255))
+    (λ v. map_all (λ o. All (λ t. t ≤ 255) (option_to_list o)) (Within 0 255) Some (integer_in (pos 0) (pos 255) v)
+    (λ t w. All-cons (λ t. t ≤ 255) t [] w.most (All-nil (λ t. t ≤ 255))) (integer_in-within 0 255 v)))
+    (All-nil (λ t. t ≤ 255))
+
+rx_within : (d : Data) → Within 64000 200000000 (unwrap_or (stream_rx d) 64000)
+rx_within d =
+    holds_of (Within 64000 200000000) (stream_rx d) 64000
+    (at_key-all (Within 64000 200000000) (codes "rx") (if leaves_out_buffers d then Some 2000000 else None) (integer_in (pos 64000) (pos 200000000)) d
+    (if_some (Within 64000 200000000) (leaves_out_buffers d) 2000000 (record { least = omega arith; most = omega arith })) (integer_in-within 64000 200000000))
+    (record { least = omega arith; most = omega arith })
+
+main_within : (d : Data) → Within 1 10000000 (unwrap_or (stream_main d) 1)
+main_within d =
+    holds_of (Within 1 10000000) (stream_main d) 1
+    (at_key-all (Within 1 10000000) (codes "main") (if is_none (get (codes "rx") d) then Some 3584 else None) (integer_in (pos 1) (pos 10000000)) d
+    (if_some (Within 1 10000000) (is_none (get (codes "rx") d)) 3584 (record { least = omega arith; most = omega arith })) (integer_in-within 1 10000000))
+    (record { least = omega arith; most = omega arith })
+
+within_trans : {a b c : ℕ} → a ≤ b → b ≤ c → a ≤ c
+within_trans h k = omega arith
+
+few_kept : (o : Option ℕ) (ns : List ℕ) (n : ℕ) → length ns ≤ n → length (cons_option o ns) ≤ suc n
+few_kept None ns n h = omega (arith, h)
+few_kept (Some x) ns n h = omega (arith, h)
+
+few_numbers : (ds : List Data) → length (filter_map number_in ds) ≤ length ds
+few_numbers [] = omega arith
+few_numbers (d ∷ ds) = few_kept (number_in d) (filter_map number_in ds) (length ds) (few_numbers ds)
+
+few_if : (b : Bool) (ns : List ℕ) → (b ≡ true → length ns ≤ 15) → length (if b then ns else []) ≤ 15
+few_if true ns h = h refl
+few_if false ns h = omega arith
+
+few_sharers : (ds : List Data) → length (sharers_of ds) ≤ 15
+few_sharers ds = few_if (nat_le (length ds) 15) (filter_map number_in ds) (λ is. omega (arith, leb-true (length ds) 15 is, few_numbers ds))
+
+buffer_is : (d : Data) → 64000 ≤ greatest_rbx d → IsMultiplexingBuffer (greatest_rbx d) (multiplexing_of d)
+buffer_is d least =
+    let rbx = integer_at-within (codes "rbx") 64000 (greatest_rbx d) 64000 d (omega arith) least in
+    let size = integer_at-within (codes "mb") 1 10000000 1 d (omega arith) (omega arith) in
+    record { least_rbx = rbx.least; most_rbx = rbx.most; some_size = size.least; most_size = size.most }
+
+buffer_if : (rx : ℕ) (b : Bool) (m : MultiplexingBuffer) → IsMultiplexingBuffer rx m
+    → All (IsMultiplexingBuffer rx) (option_to_list (if b then Some m else None))
+buffer_if rx true m is = All-cons (IsMultiplexingBuffer rx) m [] is (All-nil (IsMultiplexingBuffer rx))
+buffer_if rx false m is = All-nil (IsMultiplexingBuffer rx)
+
+-- so many times the longest time are within the interval
+in_turn : (n t interval : ℕ) → t ≤ interval / max n 1 → n * t ≤ interval
+in_turn n t interval le =
+    le_trans (mul-le-mul_right t (most_of n)) (le_trans (mul-le-mul_left (max n 1) le) (mul-div-le interval (max n 1)))
+  where
+    most_of : (n : ℕ) → n ≤ max n 1
+    most_of n = omega arith
+
+frame_within : (d : Data) → unwrap_or (stream_frame d) 0 ≤ greatest_frame d
+frame_within d =
+    holds_of (λ n. n ≤ greatest_frame d) (stream_frame d) 0
+    (weaker (Within 1 (greatest_frame d)) (λ n. n ≤ greatest_frame d) (stream_frame d) (λ n w. w.most)
+    (at_key-all (Within 1 (greatest_frame d)) (codes "frame") None (integer_in (pos 1) (pos (greatest_frame d))) d tt
+    (integer_in-within 1 (greatest_frame d))))
+    (omega arith)
+
+framing_is : (d : Data) → 1 ≤ unwrap_or (stream_size d) 1 → IsFraming (unwrap_or (stream_interval d) 1) (unwrap_or (stream_size d) 1) (framing_of d)
+framing_is d some =
+    let frames = integer_at-within (codes "frames") 1 64 1 d (omega arith) (omega arith) in
+    let size = integer_at-within (codes "frame_size") 1 (unwrap_or (stream_size d) 1) 1 d (omega arith) some in
+    let interval = unwrap_or (stream_interval d) 1 in
+    let others = unwrap_or (stream_frames d) 1 - 1 in
+    record {
+      some_frames = frames.least;
+      most_frames = frames.most;
+      in_turn = in_turn others (unwrap_or (stream_frame d) 0) interval (frame_within d);
+      most_frame = le_trans (frame_within d) (div-le_self interval (max others 1));
+      some_size = size.least;
+      most_size = size.most;
+    }
+
+framing_if : (interval size : ℕ) (b : Bool) (f : Framing) → IsFraming interval size f
+    → All (IsFraming interval size) (option_to_list (if b then Some f else None))
+framing_if interval size true f is = All-cons (IsFraming interval size) f [] is (All-nil (IsFraming interval size))
+framing_if interval size false f is = All-nil (IsFraming interval size)
+
+pub stream_is : (d : Data) → IsStream (described_stream d)
+stream_is d =
+    let interval = integer_at-within (codes "interval") 1 90000 1 d (omega arith) (omega arith) in
+    let lead = integer_at-within (codes "lead") 1 90000 1 d (omega arith) (omega arith) in
+    let pts_limit = integer_or-within (codes "pts_limit") 1 5400000 90000 1 d (omega arith) (omega arith) (omega arith) (omega arith) in
+    let bounds = size_bounds (id_or_private d) (is_video_id (id_or_private d)) refl in
+    let size = integer_at-within (codes "size") 1 (greatest_size d) 1 d (omega arith) bounds.some in
+    let rx = rx_within d in
+    let main = main_within d in
+    let small = within_trans size.most bounds.any in
+    record {
+      pid = pid_is (codes "pid") d;
+      stream_id = id_is d;
+      stream_type = (integer_at-within (codes "type") 0 255 0 d (omega arith) (omega arith)).most;
+      some_interval = interval.least;
+      most_interval = interval.most;
+      some_size = size.least;
+      most_size = small;
+      bounded_size = λ low. within_trans size.most (bounds.bounded low);
+      some_lead = lead.least;
+      most_lead = lead.most;
+      some_pts_limit = pts_limit.least;
+      most_pts_limit = pts_limit.most;
+      least_rx = rx.least;
+      most_rx = rx.most;
+      some_main = main.least;
+      most_main = main.most;
+      tag = tag_is d;
+      language = optional_language-is (codes "language") d;
+      descriptors = descriptors-is (codes "descriptors") d;
+      allowance = allowance_is d small;
+      few_sharers = few_sharers (elements (codes "shared_with") d);
+      multiplexing = buffer_if (greatest_rbx d) (has_multiplexing d) (multiplexing_of d) (buffer_is d rx.least);
+      framing = framing_if (unwrap_or (stream_interval d) 1) (unwrap_or (stream_size d) 1) (has_framing d) (framing_of d) (framing_is d size.least);
+    }
+
+entry_is : (d : Data) → IsEntry (described_entry d)
+entry_is d =
+    let kind = integer_at-within (codes "stream_type") 1 255 1 d (omega arith) (omega arith) in
+    record { some_type = kind.least; most_type = kind.most; descriptors = descriptors_at-is (codes "descriptors") d }
+
+listed_is : (b : Bool) (e : DescribedEntry) → IsEntry e → All IsEntry (option_to_list (if b then Some e else None))
+listed_is true e is = All-cons IsEntry e [] is (All-nil IsEntry)
+listed_is false e is = All-nil IsEntry
+
+pub table_is : (d : Data) → HasLength 1 8 (length (described_sections d)) → IsTable (described_table d)
+table_is d counted =
+    let limit = integer_at-within (codes "limit") 1 30000 1 d (omega arith) (omega arith) in
+    let are = sections-are (elements (codes "sections") d) in
+    record {
+      pid = pid_is (codes "pid") d;
+      some_limit = limit.least;
+      most_limit = limit.most;
+      some_sections = counted.least;
+      most_sections = counted.most;
+      sections = All-weaker IsSectionBytes (IsBytes 4096) (λ s h. h.octets) (filter_map section_in (elements (codes "sections") d)) are;
+      no_empty_section = All-weaker IsSectionBytes (λ s. 3 ≤ length s) (λ s h. h.three) (filter_map section_in (elements (codes "sections") d)) are;
+      whole_sections = All-weaker IsSectionBytes (λ s. is_one_section s ≡ true) (λ s h. h.whole) (filter_map section_in (elements (codes "sections") d)) are;
+      entry = listed_is (is_listed d) (described_entry d) (entry_is d);
+    }

@@ -1,0 +1,111 @@
+-- What a document describes: each key's value, with the least value of its range where the key is refused. (The
+-- document is refused then, and no description has that value.)
+use Rattle.std.specs.Prelude.{ℕ, Bool, false, List, [], Option, None, Some, map, filter, unwrap_or, option_map, codes, if◌then◌else◌}
+use Rattle.std.specs.List.{filter_map}
+use Rattle.toml.specs.Data.{Data}
+use Rattle.description_parts.specs.Described.{Described, DescribedNetwork, DescribedProgram, DescribedStream, DescribedEvent, DescribedEntry, DescribedTable}
+use Rattle.description_values.specs.Values.{elements, section_in}
+use Rattle.description_keys.specs.TopKeys as top
+use Rattle.description_keys.specs.NetworkKeys.{network_id, network_name, network_descriptors}
+use Rattle.description_keys.specs.ProgramKeys.{program_number, program_pmt_pid, program_pcr_pid, program_pcr_limit, program_descriptors, program_service_type, program_provider, program_name}
+use Rattle.description_keys.specs.StreamKeys.{owner_number, is_owned_by, stream_sharers, stream_pid, id_or_private, stream_type, stream_interval, stream_size, stream_lead, stream_pts_limit, stream_rx, stream_main, stream_tag, stream_language, stream_descriptors, stream_allowance, stream_multiplexing, stream_framing}
+use Rattle.description_keys.specs.EventKeys.{event_id, event_start, event_duration, event_language, event_name, event_text}
+use Rattle.description_keys.specs.TableKeys.{private_pid, private_limit, is_listed, entry_type, entry_descriptors}
+use Rattle.description_keys.specs.Refusals.{network_of, programs_of, streams_of, events_of, tables_of}
+
+abbrev pub described_network : Data → DescribedNetwork
+described_network network = record {
+  id = unwrap_or (network_id network) 0;
+  name = unwrap_or (network_name network) [];
+  descriptors = unwrap_or (network_descriptors network) [];
+}
+
+-- three letters in place of a language that is refused
+abbrev pub no_language : List ℕ
+no_language = codes "und"
+
+abbrev pub described_event : Data → DescribedEvent
+described_event event = record {
+  id = unwrap_or (event_id event) 0;
+  start = unwrap_or (event_start event) 0;
+  duration = unwrap_or (event_duration event) 1;
+  language = unwrap_or (event_language event) no_language;
+  name = unwrap_or (event_name event) [];
+  text = unwrap_or (event_text event) [];
+}
+
+abbrev pub described_events : ℕ → List Data → List DescribedEvent
+described_events number events = map described_event (filter (is_owned_by number) events)
+
+abbrev pub described_number : Data → ℕ
+described_number program = unwrap_or (program_number program) 1
+
+abbrev pub described_program : Data → Data → DescribedProgram
+described_program document program = record {
+  number = described_number program;
+  pmt_pid = unwrap_or (program_pmt_pid program) 32;
+  pcr_pid = unwrap_or (program_pcr_pid program) 32;
+  pcr_limit = unwrap_or (program_pcr_limit program) 1;
+  descriptors = unwrap_or (program_descriptors program) [];
+  service_type = unwrap_or (program_service_type program) 0;
+  provider = unwrap_or (program_provider program) [];
+  name = unwrap_or (program_name program) [];
+  events = described_events (described_number program) (events_of document);
+}
+
+abbrev pub described_stream : Data → DescribedStream
+described_stream stream = record {
+  program = unwrap_or (owner_number stream) 1;
+  pid = unwrap_or (stream_pid stream) 32;
+  stream_id = id_or_private stream;
+  stream_type = unwrap_or (stream_type stream) 0;
+  interval = unwrap_or (stream_interval stream) 1;
+  size = unwrap_or (stream_size stream) 1;
+  lead = unwrap_or (stream_lead stream) 1;
+  pts_limit = unwrap_or (stream_pts_limit stream) 1;
+  rx = unwrap_or (stream_rx stream) 64000;
+  main = unwrap_or (stream_main stream) 1;
+  tag = unwrap_or (stream_tag stream) None;
+  language = unwrap_or (stream_language stream) None;
+  descriptors = unwrap_or (stream_descriptors stream) [];
+  allowance = stream_allowance stream;
+  shared_with = stream_sharers stream;
+  multiplexing = stream_multiplexing stream;
+  framing = stream_framing stream;
+}
+
+abbrev pub described_sections : Data → List (List ℕ)
+described_sections part = filter_map section_in (elements (codes "sections") part)
+
+abbrev pub described_entry : Data → DescribedEntry
+described_entry part = record {
+  program = unwrap_or (owner_number part) 1;
+  stream_type = unwrap_or (entry_type part) 1;
+  descriptors = unwrap_or (entry_descriptors part) [];
+}
+
+abbrev pub entry_if_listed : Data → Option DescribedEntry
+entry_if_listed part = if is_listed part then Some (described_entry part) else None
+
+abbrev pub described_table : Data → DescribedTable
+described_table part = record {
+  pid = unwrap_or (private_pid part) 32;
+  limit = unwrap_or (private_limit part) 1;
+  sections = described_sections part;
+  entry = entry_if_listed part;
+}
+
+abbrev pub described : Data → Described
+described document = record {
+  rate = unwrap_or (top.rate document) 100000;
+  start = unwrap_or (top.start document) 0;
+  base0 = unwrap_or (top.base0 document) 0;
+  transport_stream_id = unwrap_or (top.transport_stream_id document) 0;
+  original_network_id = unwrap_or (top.original_network_id document) 0;
+  has_sdt = unwrap_or (top.has_sdt document) false;
+  has_tdt = unwrap_or (top.has_tdt document) false;
+  network = option_map described_network (network_of document);
+  programs = map (described_program document) (programs_of document);
+  streams = map described_stream (streams_of document);
+  tables = map described_table (tables_of document);
+}

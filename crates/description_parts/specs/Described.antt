@@ -1,0 +1,71 @@
+-- A service description as numbers and byte lists: what every contract of this crate, and of those above it, speaks of.
+-- Texts are kept as they are written in descriptors (ETSI EN 300 468, annex A), moments as seconds since 1970 (UTC).
+use Rattle.std.specs.Prelude.{ℕ, Bool, List, Option}
+use Rattle.dvb_tables.specs.declared.schedule.Event.{Event}
+use Rattle.description_parts.specs.declared.map_entry.MapEntry.{MapEntry}
+use Rattle.description_parts.specs.declared.network.Network.{Network}
+use Rattle.description_parts.specs.declared.stream.StreamDescription.{StreamDescription}
+
+-- the network that the stream belongs to (EN 300 468, 5.2.1)
+abbrev pub DescribedNetwork : Type 0
+DescribedNetwork = Network
+
+-- one event of a program's schedule (EN 300 468, 5.2.4): start is a moment, duration counts seconds
+pub record DescribedEvent : Type 0 where
+  pub id : ℕ
+  pub start : ℕ
+  pub duration : ℕ
+  pub language : List ℕ
+  pub name : List ℕ
+  pub text : List ℕ
+
+-- what an event says
+abbrev pub event_view : Event → DescribedEvent
+event_view e = record { id = e.id; start = e.start; duration = e.duration; language = e.language; name = e.name; text = e.text }
+
+-- one program (ISO/IEC 13818-1, 2.4.4.8) and its service (EN 300 468, 5.2.3), with its events in order of start;
+-- pcr_limit is the greatest time between two PCRs, in ms
+pub record DescribedProgram : Type 0 where
+  pub number : ℕ
+  pub pmt_pid : ℕ
+  pub pcr_pid : ℕ
+  pub pcr_limit : ℕ
+  pub descriptors : List ℕ
+  pub service_type : ℕ
+  pub provider : List ℕ
+  pub name : List ℕ
+  pub events : List DescribedEvent
+
+-- one elementary stream of the program of that number. Its units come at least `interval` apart and `lead` before their
+-- decoding time at the latest (units of 90 kHz), of at most `size` bytes, and have at most the packets that `allowance`
+-- lets units in a row have. Its transport buffer leaks `rx` bits a second into a main buffer of `main` bytes; where it has
+-- a multiplexing buffer the leak is into that one, whose own leak is into an elementary stream buffer of `main` bytes. Where it
+-- has a framing its units are PES packets of several access units. The PMTs of the programs of `shared_with` name it too
+abbrev pub DescribedStream : Type 0
+DescribedStream = StreamDescription
+
+-- what names a table in the PMT of the program of that number: its stream_type there and its descriptors
+abbrev pub DescribedEntry : Type 0
+DescribedEntry = MapEntry
+
+-- ready-made sections on a PID of their own; limit is the greatest time between two starts of a section, in ms. A PMT
+-- names the PID where there is an entry
+pub record DescribedTable : Type 0 where
+  pub pid : ℕ
+  pub limit : ℕ
+  pub sections : List (List ℕ)
+  pub entry : Option DescribedEntry
+
+-- the whole: rate in bits a second, start the moment of the first slot, base0 the system clock's first value (90 kHz)
+pub record Described : Type 0 where
+  pub rate : ℕ
+  pub start : ℕ
+  pub base0 : ℕ
+  pub transport_stream_id : ℕ
+  pub original_network_id : ℕ
+  pub has_sdt : Bool
+  pub has_tdt : Bool
+  pub network : Option DescribedNetwork
+  pub programs : List DescribedProgram
+  pub streams : List DescribedStream
+  pub tables : List DescribedTable

@@ -1,0 +1,6 @@
+pub mod Described
+pub mod Tables
+pub mod Ranges
+pub mod Shown
+pub mod Contents
+pub mod Consistency

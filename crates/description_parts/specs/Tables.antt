@@ -1,0 +1,170 @@
+-- The tables of a description: their numbers, PIDs, limits, sections and lengths (EN 300 468, 5.1.3; TR 101 290, 5.2).
+use Rattle.std.specs.Prelude.{ℕ, ◌+◌, ◌*◌, ◌/◌, max, Bool, List, [], ◌∷◌, ◌++◌, Option, None, Some, is_some, length, map, filter, sum_by, nat_le, slice_index_or, slice_get, option_and_then, ◌==◌, if◌then◌else◌}
+use Rattle.std.specs.List.{list_any}
+use Rattle.std.specs.Option.{option_to_list}
+use Rattle.description_parts.specs.Described.{Described, DescribedNetwork, DescribedProgram, DescribedStream, DescribedEvent, DescribedEntry, DescribedTable}
+use Rattle.description_parts.specs.declared.table_kind.TableKind.{TableKind}
+use Rattle.description_parts.specs.declared.table_kind.TableKind.TheVariants.{Pat, Pmt, Nit, Sdt, Eit, Tdt, Private}
+
+-- the numbers from first on, as many as the list has elements
+abbrev pub numbers_from : {X : Type 0} → ℕ → List X → List ℕ
+numbers_from first [] = []
+numbers_from first (x ∷ xs) = first ∷ numbers_from (first + 1) xs
+
+-- the programs that have an event
+abbrev pub has_event : DescribedProgram → Bool
+has_event p = nat_le 1 (length p.events)
+
+abbrev pub scheduled_programs : Described → List DescribedProgram
+scheduled_programs d = filter has_event d.programs
+
+-- the element alone where the test holds, else nothing
+abbrev pub only_if : {X : Type 0} → Bool → X → List X
+only_if b x = if b then x ∷ [] else []
+
+-- those of NIT, SDT, EIT and TDT that the description has
+abbrev pub service_tables : Described → List TableKind
+service_tables d = only_if (is_some d.network) Nit ++ only_if d.has_sdt Sdt ++ only_if (list_any has_event d.programs) Eit ++ only_if d.has_tdt Tdt
+
+-- the tables in the order of their numbers: PAT, the PMTs in the order of the programs, those of NIT, SDT, EIT and TDT
+-- that the description has, the private tables
+abbrev pub table_kinds : Described → List TableKind
+table_kinds d = (Pat ∷ map Pmt (numbers_from 0 d.programs)) ++ (service_tables d ++ map Private (numbers_from 0 d.tables))
+
+-- how many tables there are
+abbrev pub table_count : Described → ℕ
+table_count d = length (table_kinds d)
+
+-- the kind of a table
+abbrev pub table_kind : Described → ℕ → Option TableKind
+table_kind d t = slice_get (table_kinds d) t
+
+-- the PID of a table (EN 300 468, 5.1.3)
+abbrev pub kind_pid : Described → TableKind → ℕ
+kind_pid d Pat = 0
+kind_pid d (Pmt p) = elim (slice_get d.programs p) [ None ↦ 0 | Some program ↦ program.pmt_pid ]
+kind_pid d Nit = 0x10
+kind_pid d Sdt = 0x11
+kind_pid d Eit = 0x12
+kind_pid d Tdt = 0x14
+kind_pid d (Private i) = elim (slice_get d.tables i) [ None ↦ 0 | Some private ↦ private.pid ]
+
+-- the greatest time between two starts of a section of a table, in ms (TR 101 290, 5.2.1 and 5.2.3)
+abbrev pub kind_limit : Described → TableKind → ℕ
+kind_limit d Pat = 500
+kind_limit d (Pmt p) = 500
+kind_limit d Nit = 10000
+kind_limit d Sdt = 2000
+kind_limit d Eit = 2000
+kind_limit d Tdt = 30000
+kind_limit d (Private i) = elim (slice_get d.tables i) [ None ↦ 0 | Some private ↦ private.limit ]
+
+-- the bytes of a long section around its body: the header's 8 and the check word's 4
+abbrev pub section_overhead : ℕ
+section_overhead = 12
+
+-- the bytes of a stream's descriptors in a PMT: stream_identifier, ISO_639_language, the declared ones
+abbrev pub es_info_length : DescribedStream → ℕ
+es_info_length s = (if is_some s.tag then 3 else 0) + (if is_some s.language then 6 else 0) + length s.descriptors
+
+abbrev pub pat_length : Described → ℕ
+pat_length d = section_overhead + 4 * (length (option_to_list d.network) + length d.programs)
+
+-- the bytes of a stream in the PMT of the program of a number: none if it is another's
+abbrev pub entry_length : ℕ → DescribedStream → ℕ
+entry_length number s = if s.program == number then 5 + es_info_length s else 0
+
+-- a program beside its own shares the stream, and its bytes in that program's PMT
+abbrev pub is_shared_with : ℕ → DescribedStream → Bool
+is_shared_with number s = list_any (λ n. n == number) s.shared_with
+
+abbrev pub shared_length : ℕ → DescribedStream → ℕ
+shared_length number s = if is_shared_with number s then 5 + es_info_length s else 0
+
+-- the entry of a table in the PMT of the program of a number
+abbrev pub entry_if_of : ℕ → DescribedEntry → Option DescribedEntry
+entry_if_of number e = if e.program == number then Some e else None
+
+abbrev pub entry_in : ℕ → DescribedTable → Option DescribedEntry
+entry_in number t = option_and_then (entry_if_of number) t.entry
+
+-- its bytes there: none if there is no such entry
+abbrev pub listed_length : ℕ → DescribedTable → ℕ
+listed_length number t = elim (entry_in number t) [ None ↦ 0 | Some e ↦ 5 + length e.descriptors ]
+
+abbrev pub pmt_length : Described → DescribedProgram → ℕ
+pmt_length d p = section_overhead + 4 + length p.descriptors + sum_by (entry_length p.number) d.streams + sum_by (shared_length p.number) d.streams + sum_by (listed_length p.number) d.tables
+
+abbrev pub nit_length : DescribedNetwork → ℕ
+nit_length n = section_overhead + 2 + (2 + length n.name) + 2 + 6 + length n.descriptors
+
+-- the bytes of a service in the SDT
+abbrev pub service_length : DescribedProgram → ℕ
+service_length p = 5 + (2 + 3 + length p.provider + length p.name)
+
+abbrev pub sdt_length : Described → ℕ
+sdt_length d = section_overhead + 3 + sum_by service_length d.programs
+
+-- the bytes of an event in an EIT section, with its short_event descriptor
+abbrev pub event_length : DescribedEvent → ℕ
+event_length e = 12 + (2 + 3 + 1 + length e.name + 1 + length e.text)
+
+-- the bytes of the longest event of a list, 0 of none
+abbrev pub longest_event : List DescribedEvent → ℕ
+longest_event [] = 0
+longest_event (e ∷ es) = max (event_length e) (longest_event es)
+
+-- the longest of a program's EIT sections: that of an empty loop, or of a loop of one event
+abbrev pub eit_length : DescribedProgram → ℕ
+eit_length p = section_overhead + 6 + longest_event p.events
+
+-- of each program's two sections, that of the present event and that of the following one
+abbrev pub eit_lengths : List DescribedProgram → List ℕ
+eit_lengths [] = []
+eit_lengths (p ∷ ps) = eit_length p ∷ eit_length p ∷ eit_lengths ps
+
+abbrev pub tdt_length : ℕ
+tdt_length = 8
+
+-- the greatest length of each section of a table, in bytes, in the order of the sections
+abbrev pub kind_lengths : Described → TableKind → List ℕ
+kind_lengths d Pat = pat_length d ∷ []
+kind_lengths d (Pmt p) = map (pmt_length d) (option_to_list (slice_get d.programs p))
+kind_lengths d Nit = map nit_length (option_to_list d.network)
+kind_lengths d Sdt = sdt_length d ∷ []
+kind_lengths d Eit = eit_lengths (scheduled_programs d)
+kind_lengths d Tdt = tdt_length ∷ []
+kind_lengths d (Private i) = elim (slice_get d.tables i) [ None ↦ [] | Some private ↦ map length private.sections ]
+
+-- of the table of that number: its PID, its limit in ms, the greatest lengths of its sections in bytes
+abbrev pub table_pid : Described → ℕ → ℕ
+table_pid d t = elim (table_kind d t) [ None ↦ 0 | Some kind ↦ kind_pid d kind ]
+
+abbrev pub table_limit : Described → ℕ → ℕ
+table_limit d t = elim (table_kind d t) [ None ↦ 0 | Some kind ↦ kind_limit d kind ]
+
+abbrev pub section_lengths : Described → ℕ → List ℕ
+section_lengths d t = elim (table_kind d t) [ None ↦ [] | Some kind ↦ kind_lengths d kind ]
+
+-- how many sections the table has
+abbrev pub section_count : Described → ℕ → ℕ
+section_count d t = length (section_lengths d t)
+
+-- the greatest length of a section of the table
+abbrev pub greatest_length : Described → ℕ → ℕ → ℕ
+greatest_length d t j = slice_index_or (section_lengths d t) j 0
+
+-- the packets that a section of that length takes after its pointer_field (ISO/IEC 13818-1, 2.4.4.1)
+abbrev pub packets_of_section : ℕ → ℕ
+packets_of_section l = (1 + l + 183) / 184
+
+-- the places of a section of the table, and of a round of all its sections
+abbrev pub section_packets : Described → ℕ → ℕ → ℕ
+section_packets d t j = packets_of_section (greatest_length d t j)
+
+abbrev pub round_packets : Described → ℕ → ℕ
+round_packets d t = sum_by packets_of_section (section_lengths d t)
+
+-- the packets of a stream's greatest unit, with the longest PES header of 19 bytes (ISO/IEC 13818-1, 2.4.3.7)
+abbrev pub greatest_unit_packets : DescribedStream → ℕ
+greatest_unit_packets s = (19 + s.size + 183) / 184

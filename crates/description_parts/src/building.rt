@@ -1,0 +1,231 @@
+//! The contents of a document, key by key.
+
+ghost use Rattle.std.specs.Prelude.{◌≡◌, map, option_map, unwrap_or, None, IfOk};
+ghost use Rattle.std.specs.List.{filter_map};
+ghost use Rattle.toml.specs.View.{view};
+ghost use Rattle.description_values.specs.Values.{section_in};
+ghost use Rattle.description_parts.specs.Described.{event_view};
+ghost use Rattle.description_keys.specs.TopKeys as top;
+ghost use Rattle.description_keys.specs.Refusals as refusals;
+ghost use Rattle.description_parts.specs.Contents as spec;
+
+use crate::contents::Contents;
+use crate::map_entry::MapEntry;
+use crate::network::Network;
+use crate::private_table::PrivateTable;
+use crate::program::ProgramDescription;
+use crate::stream::StreamDescription;
+use clock27::Rate;
+use description_keys::frame_keys::framing;
+use description_keys::multiplexing_keys::multiplexing;
+use description_keys::owner::{is_owned_by, owner_number};
+use description_keys::sharers::sharers;
+use description_keys::{event_keys, network_keys, program_keys, stream_keys, table_keys, top_keys};
+use description_values::arrays::elements;
+use description_values::private_section::section_of;
+use description_values::texts::empty_text;
+use description_values::{DescriptorLoop, PrivateSection};
+use dvb_tables::Event;
+use std::alloc::{AllocError, Global};
+use toml::Value;
+
+fn network_of(network: &Value) -> Network
+    ensures { result ≡ spec.described_network (view network.now) }
+{
+    Network {
+        id: network_keys::id(network).unwrap_or(0),
+        name: network_keys::name(network).unwrap_or(empty_text()),
+        descriptors: network_keys::descriptors(network).unwrap_or(DescriptorLoop::none()),
+    }
+}
+
+fn event_of(event: &Value) -> Event
+    ensures { event_view result ≡ spec.described_event (view event.now) }
+{
+    Event {
+        id: event_keys::id(event).unwrap_or(0),
+        start: event_keys::start(event).unwrap_or(0),
+        duration: event_keys::duration(event).unwrap_or(1),
+        language: event_keys::language(event).unwrap_or(*b"und"),
+        name: event_keys::name(event).unwrap_or(empty_text()),
+        text: event_keys::text(event).unwrap_or(empty_text()),
+    }
+}
+
+fn events_of(alloc: Global, number: u16, events: &[Value]) -> Result<Vec<Event>, AllocError>
+    ensures { IfOk result (λ v. map event_view v.items ≡ spec.described_events number (map view events.now)) }
+{
+    let mut owned = Vec::new(alloc);
+    for event in events {
+        if is_owned_by(number, event) {
+            owned.push(event_of(event))?;
+        }
+    }
+    Ok(owned)
+}
+
+fn program_of(
+    alloc: Global,
+    document: &Value,
+    program: &Value,
+) -> Result<ProgramDescription, AllocError>
+    ensures { IfOk result (λ p. p ≡ spec.described_program (view document.now) (view program.now)) }
+{
+    let number = program_keys::number(program).unwrap_or(1);
+    let events = events_of(alloc, number, elements(document, "event"))?;
+    Ok(ProgramDescription {
+        number,
+        pmt_pid: program_keys::pmt_pid(program).unwrap_or(32),
+        pcr_pid: program_keys::pcr_pid(program).unwrap_or(32),
+        pcr_limit: program_keys::pcr_limit(program).unwrap_or(1),
+        descriptors: program_keys::descriptors(program).unwrap_or(DescriptorLoop::none()),
+        service_type: program_keys::service_type(program).unwrap_or(0),
+        provider: program_keys::provider(program).unwrap_or(empty_text()),
+        name: program_keys::name(program).unwrap_or(empty_text()),
+        events,
+    })
+}
+
+fn programs_of(
+    alloc: Global,
+    document: &Value,
+    parts: &[Value],
+) -> Result<Vec<ProgramDescription>, AllocError>
+    ensures { IfOk result (λ v. v.items ≡ map (spec.described_program (view document.now)) (map view parts.now)) }
+{
+    let mut programs = Vec::new(alloc);
+    for part in parts {
+        programs.push(program_of(alloc, document, part)?)?;
+    }
+    Ok(programs)
+}
+
+fn stream_of(stream: &Value) -> StreamDescription
+    ensures { result ≡ spec.described_stream (view stream.now) }
+{
+    StreamDescription {
+        program: owner_number(stream).unwrap_or(1),
+        pid: stream_keys::pid(stream).unwrap_or(32),
+        stream_id: stream_keys::id_or_private(stream),
+        stream_type: stream_keys::stream_type(stream).unwrap_or(0),
+        interval: stream_keys::interval(stream).unwrap_or(1),
+        size: stream_keys::size(stream).unwrap_or(1),
+        lead: stream_keys::lead(stream).unwrap_or(1),
+        pts_limit: stream_keys::pts_limit(stream).unwrap_or(1),
+        rx: stream_keys::rx(stream).unwrap_or(64_000),
+        main: stream_keys::main_buffer(stream).unwrap_or(1),
+        tag: stream_keys::tag(stream).unwrap_or(None),
+        language: stream_keys::language(stream).unwrap_or(None),
+        descriptors: stream_keys::descriptors(stream).unwrap_or(DescriptorLoop::none()),
+        allowance: stream_keys::allowance(stream),
+        shared_with: sharers(stream),
+        multiplexing: multiplexing(stream),
+        framing: framing(stream),
+    }
+}
+
+fn streams_of(alloc: Global, parts: &[Value]) -> Result<Vec<StreamDescription>, AllocError>
+    ensures { IfOk result (λ v. v.items ≡ map spec.described_stream (map view parts.now)) }
+{
+    let mut streams = Vec::new(alloc);
+    for part in parts {
+        streams.push(stream_of(part))?;
+    }
+    Ok(streams)
+}
+
+fn sections_of(alloc: Global, parts: &[Value]) -> Result<Vec<PrivateSection>, AllocError>
+    ensures { IfOk result (λ v. v.items ≡ filter_map section_in (map view parts.now)) }
+{
+    let mut sections = Vec::new(alloc);
+    for part in parts {
+        if let Some(section) = section_of(part) {
+            sections.push(section)?;
+        }
+    }
+    Ok(sections)
+}
+
+fn entry_of(table: &Value) -> MapEntry
+    ensures { result ≡ spec.described_entry (view table.now) }
+{
+    MapEntry {
+        program: owner_number(table).unwrap_or(1),
+        stream_type: table_keys::entry_type(table).unwrap_or(1),
+        descriptors: table_keys::entry_descriptors(table).unwrap_or(DescriptorLoop::none()),
+    }
+}
+
+fn entry_if_listed(table: &Value) -> Option<MapEntry>
+    ensures { result ≡ spec.entry_if_listed (view table.now) }
+{
+    if table_keys::is_listed(table) {
+        Some(entry_of(table))
+    } else {
+        None
+    }
+}
+
+fn table_of(alloc: Global, table: &Value) -> Result<PrivateTable, AllocError>
+    ensures { IfOk result (λ t. t ≡ spec.described_table (view table.now)) }
+{
+    let sections = sections_of(alloc, elements(table, "sections"))?;
+    Ok(PrivateTable {
+        pid: table_keys::pid(table).unwrap_or(32),
+        limit: table_keys::limit(table).unwrap_or(1),
+        sections,
+        entry: entry_if_listed(table),
+    })
+}
+
+fn tables_of(alloc: Global, parts: &[Value]) -> Result<Vec<PrivateTable>, AllocError>
+    ensures { IfOk result (λ v. v.items ≡ map spec.described_table (map view parts.now)) }
+{
+    let mut tables = Vec::new(alloc);
+    for part in parts {
+        tables.push(table_of(alloc, part)?)?;
+    }
+    Ok(tables)
+}
+
+fn network_in(document: &Value) -> Option<Network>
+    ensures { result ≡ option_map spec.described_network (refusals.network_of (view document.now)) }
+{
+    match document.get("network") {
+        None => None,
+        Some(network) => Some(network_of(network)),
+    }
+}
+
+fn rate_of(document: &Value) -> Rate
+    ensures { result ≡ unwrap_or (top.rate (view document.now)) 100000 }
+{
+    let bits_per_second = top_keys::rate(document).unwrap_or(100_000);
+    match Rate::new(bits_per_second as u64) {
+        Ok(rate) => rate,
+        Err(_) => unreachable!(),
+    }
+}
+
+/// Returns the contents of a document whose keys are all in their ranges.
+pub fn contents_of(alloc: Global, document: &Value) -> Result<Contents, AllocError>
+    requires { refusals.key_fault (view document.now) ≡ None }
+    ensures { IfOk result (λ c. c ≡ spec.described (view document.now)) }
+{
+    let programs = programs_of(alloc, document, elements(document, "program"))?;
+    let streams = streams_of(alloc, elements(document, "stream"))?;
+    let tables = tables_of(alloc, elements(document, "table"))?;
+    Ok(Contents {
+        rate: rate_of(document),
+        start: top_keys::start(document).unwrap_or(0),
+        base0: top_keys::base0(document).unwrap_or(0),
+        transport_stream_id: top_keys::ts_id(document).unwrap_or(0),
+        original_network_id: top_keys::original_network_id(document).unwrap_or(0),
+        has_sdt: top_keys::sdt(document).unwrap_or(false),
+        has_tdt: top_keys::tdt(document).unwrap_or(false),
+        network: network_in(document),
+        programs,
+        streams,
+        tables,
+    })
+}

@@ -1,0 +1,191 @@
+//! Refusals of the parts of a document taken together.
+
+ghost use Rattle.std.specs.Prelude.{◌≡◌, ◌≤◌, ◌+◌, ◌++◌, [], length, map, nat_lt};
+ghost use Rattle.std.specs.List.{list_any};
+ghost use Rattle.arrayvec.specs.ArrayVec.{array_vec_len};
+ghost use Rattle.toml.specs.View.{view};
+ghost use Rattle.description_parts.specs.Ranges.{last_moment, named_pids, longest_section};
+ghost use Rattle.description_parts.specs.Tables.{table_kinds};
+ghost use Rattle.description_parts.specs.Consistency as spec;
+
+use crate::contents::Contents;
+use crate::private_table::PrivateTable;
+use crate::program::ProgramDescription;
+use crate::stream::StreamDescription;
+use crate::table_kind::TableKind;
+use arrayvec::ArrayVec;
+use description_keys::owner::owner_number;
+use description_keys::{DescFault, event_keys};
+use description_values::arrays::elements;
+use description_values::values::is_distinct;
+use toml::Value;
+
+fn push_pmt_pids(pids: &mut ArrayVec<u16, 80>, programs: &[ProgramDescription])
+    requires { array_vec_len pids.old + length programs.now ≤ 80 }
+    ensures { pids.new.items ≡ pids.old.items ++ map (λ p. p.pmt_pid) programs.now }
+{
+    for program in programs {
+        pids.push(program.pmt_pid());
+    }
+}
+
+fn push_pcr_pids(pids: &mut ArrayVec<u16, 80>, programs: &[ProgramDescription])
+    requires { array_vec_len pids.old + length programs.now ≤ 80 }
+    ensures { pids.new.items ≡ pids.old.items ++ map (λ p. p.pcr_pid) programs.now }
+{
+    for program in programs {
+        pids.push(program.pcr_pid());
+    }
+}
+
+fn push_stream_pids(pids: &mut ArrayVec<u16, 80>, streams: &[StreamDescription])
+    requires { array_vec_len pids.old + length streams.now ≤ 80 }
+    ensures { pids.new.items ≡ pids.old.items ++ map (λ s. s.pid) streams.now }
+{
+    for stream in streams {
+        pids.push(stream.pid);
+    }
+}
+
+fn push_table_pids(pids: &mut ArrayVec<u16, 80>, tables: &[PrivateTable])
+    requires { array_vec_len pids.old + length tables.now ≤ 80 }
+    ensures { pids.new.items ≡ pids.old.items ++ map (λ t. t.pid) tables.now }
+{
+    for table in tables {
+        pids.push(table.pid());
+    }
+}
+
+// Every PID that the description names.
+fn named_pids(contents: &Contents) -> ArrayVec<u16, 80>
+    ensures { result.items ≡ named_pids contents.now }
+{
+    let mut pids = ArrayVec::new();
+    push_pmt_pids(&mut pids, contents.programs());
+    push_pcr_pids(&mut pids, contents.programs());
+    push_stream_pids(&mut pids, contents.streams());
+    push_table_pids(&mut pids, contents.private_tables());
+    pids
+}
+
+fn program_numbers(programs: &[ProgramDescription]) -> ArrayVec<u16, 16>
+    requires { length programs.now ≤ 16 }
+    ensures { result.items ≡ map (λ p. p.number) programs.now }
+{
+    let mut numbers = ArrayVec::new();
+    for program in programs {
+        numbers.push(program.number());
+    }
+    numbers
+}
+
+fn equal_pids_fault(contents: &Contents) -> Option<DescFault>
+    ensures { result ≡ spec.equal_pids_fault contents.now }
+{
+    if is_distinct(named_pids(contents).as_slice()) {
+        None
+    } else {
+        Some(DescFault::EqualPids)
+    }
+}
+
+fn equal_numbers_fault(contents: &Contents) -> Option<DescFault>
+    ensures { result ≡ spec.equal_numbers_fault contents.now }
+{
+    if is_distinct(program_numbers(contents.programs()).as_slice()) {
+        None
+    } else {
+        Some(DescFault::EqualNumbers)
+    }
+}
+
+// When an event begins, in seconds since 1970.
+fn event_begin(event: &Value) -> u64
+    ensures value { result ≡ spec.event_begin (view event.now) }
+    ensures bound { result ≤ last_moment }
+{
+    event_keys::start(event).unwrap_or(0)
+}
+
+// Whether an event begins before an earlier one of its program ends.
+fn overlaps(event: &Value, earlier: &Value) -> bool
+    ensures { result ≡ spec.overlaps (view event.now) (view earlier.now) }
+{
+    let duration = event_keys::duration(earlier).unwrap_or(1) as u64;
+    let is_of_its_program = owner_number(earlier).unwrap_or(1) == owner_number(event).unwrap_or(1);
+    is_of_its_program && event_begin(event) < event_begin(earlier) + duration
+}
+
+fn overlaps_one(event: &Value, earlier: &[Value]) -> bool
+    ensures { result ≡ list_any (λ v. spec.overlaps (view event.now) (view v)) earlier.now }
+{
+    earlier.iter().any(|other| overlaps(event, other))
+}
+
+// The place of the first event that begins before an earlier one of its program ends.
+fn first_overlap(events: &[Value]) -> Option<usize>
+    ensures { result ≡ spec.first_overlap 0 [] (map view events.now) }
+{
+    for item in 0..events.len() {
+        if overlaps_one(&events[item], &events[..item]) {
+            return Some(item);
+        }
+    }
+    None
+}
+
+fn event_order_fault(document: &Value) -> Option<DescFault>
+    ensures { result ≡ spec.event_order_fault (view document.now) }
+{
+    first_overlap(elements(document, "event")).map(DescFault::EventOrder)
+}
+
+// Whether a length passes that of a section with a section_length of 1,021.
+fn has_long(lengths: &[u16]) -> bool
+    ensures { result ≡ list_any (nat_lt longest_section) lengths.now }
+{
+    lengths.iter().any(|length| *length > 1024)
+}
+
+impl Contents {
+    fn is_too_long(&self, kind: TableKind) -> bool
+        ensures { result ≡ spec.is_too_long self.now kind }
+    {
+        match kind {
+            TableKind::Pmt(_) | TableKind::Nit | TableKind::Sdt => {
+                has_long(self.kind_lengths(kind).as_slice())
+            }
+            TableKind::Pat | TableKind::Eit | TableKind::Tdt | TableKind::Private(_) => false,
+        }
+    }
+
+    // The number of the first table that would be too long.
+    fn first_too_long(&self) -> Option<usize>
+        ensures { result ≡ spec.first_place (spec.is_too_long self.now) 0 (table_kinds self.now) }
+    {
+        for table in 0..self.tables() {
+            let kind = self.kind(table)?;
+            if self.is_too_long(kind) {
+                return Some(table);
+            }
+        }
+        None
+    }
+}
+
+fn too_long_fault(contents: &Contents) -> Option<DescFault>
+    ensures { result ≡ spec.too_long_fault contents.now }
+{
+    contents.first_too_long().map(DescFault::TooLong)
+}
+
+/// Returns the first refusal of the parts together: equal PIDs, equal program numbers, events out of
+/// order, a table too long.
+pub fn joint_fault(contents: &Contents, document: &Value) -> Option<DescFault>
+    ensures { result ≡ spec.joint_fault contents.now (view document.now) }
+{
+    equal_pids_fault(contents)
+        .or_else(|| equal_numbers_fault(contents))
+        .or_else(|| event_order_fault(document))
+        .or_else(|| too_long_fault(contents))
+}

@@ -1,0 +1,88 @@
+//! The parts of a description, as a document gives them.
+
+ghost use Rattle.std.specs.Prelude.{◌≡◌, option_map};
+
+use crate::network::Network;
+use crate::private_table::PrivateTable;
+use crate::program::ProgramDescription;
+use crate::stream::StreamDescription;
+use clock27::Rate;
+use std::marker::Model;
+
+/// The parts of a description: as many as it may have, each number in its range.
+#[derive(Drop)]
+pub struct Contents {
+    pub rate: Rate,
+    pub start: u64,
+    pub base0: u64,
+    pub transport_stream_id: u16,
+    pub original_network_id: u16,
+    pub has_sdt: bool,
+    pub has_tdt: bool,
+    pub network: Option<Network>,
+    pub programs: Vec<ProgramDescription>,
+    pub streams: Vec<StreamDescription>,
+    pub tables: Vec<PrivateTable>,
+}
+
+impl Model for Contents {
+    ghost use Rattle.description_parts.specs.Described.{Described};
+
+    ghost Value = { Described };
+
+    ghost use Rattle.description_parts.specs.Shown.{shown};
+    ghost use Rattle.description_parts.specs.Ranges.{HasCounts};
+
+    ghost view = { shown };
+
+    ghost invariant = { λ d. HasCounts (shown d) };
+}
+
+impl Contents {
+    ghost use Rattle.description_parts.specs.Ranges.{HasCounts};
+
+    /// Returns the network, if there is one.
+    pub fn network(&self) -> Option<&Network>
+        ensures { option_map (λ n. n.now) result ≡ self.now.network }
+    {
+        self.network.as_ref()
+    }
+
+    /// Returns the programs, in order.
+    pub fn programs(&self) -> &[ProgramDescription]
+        ensures value { result.now ≡ self.now.programs }
+        ensures counts { HasCounts self.now }
+    {
+        self.programs.as_slice()
+    }
+
+    /// Returns the streams, in order.
+    pub fn streams(&self) -> &[StreamDescription]
+        ensures value { result.now ≡ self.now.streams }
+        ensures counts { HasCounts self.now }
+    {
+        self.streams.as_slice()
+    }
+
+    /// Returns the private tables, in order.
+    pub fn private_tables(&self) -> &[PrivateTable]
+        ensures value { result.now ≡ self.now.tables }
+        ensures counts { HasCounts self.now }
+    {
+        self.tables.as_slice()
+    }
+
+    /// Returns whether there is a service description table.
+    pub fn has_sdt(&self) -> bool
+        ensures { result ≡ self.now.has_sdt }
+    {
+        self.has_sdt
+    }
+
+    /// Returns whether there is a time and date table.
+    pub fn has_tdt(&self) -> bool
+        ensures { result ≡ self.now.has_tdt }
+    {
+        self.has_tdt
+    }
+}

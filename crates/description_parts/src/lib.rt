@@ -1,0 +1,30 @@
+//! What a service description declares: programs, streams, network, tables.
+//!
+//! `building::contents_of` makes them of a document whose keys are in their ranges, and
+//! `consistency::joint_fault` returns what the parts are refused for together. `Contents` knows its
+//! tables by number, with their PIDs, limits and the lengths of their sections.
+#![tactic(auto)]
+
+// What a description holds.
+mod contents;
+mod map_entry;
+mod network;
+mod private_table;
+mod program;
+mod stream;
+
+// Tables: their numbers, the lengths of their sections.
+pub mod section_lengths;
+pub mod table_kind;
+
+// Parts of a document, and whether they are consistent.
+pub mod building;
+pub mod consistency;
+
+pub use contents::Contents;
+pub use map_entry::MapEntry;
+pub use network::Network;
+pub use private_table::PrivateTable;
+pub use program::ProgramDescription;
+pub use stream::StreamDescription;
+pub use table_kind::TableKind;

@@ -1,0 +1,106 @@
+//! A program of the description.
+
+ghost use Rattle.std.specs.Prelude.{◌≡◌, map};
+ghost use Rattle.description_parts.specs.Described.{event_view};
+
+use description_values::DescriptorLoop;
+use dvb_tables::{Event, Text};
+use std::marker::Model;
+
+/// A program (ISO/IEC 13818-1, 2.4.4.8) with its service (EN 300 468, 5.2.3) and the service's events.
+#[derive(Drop)]
+pub struct ProgramDescription {
+    pub(crate) number: u16,
+    pub(crate) pmt_pid: u16,
+    pub(crate) pcr_pid: u16,
+    pub(crate) pcr_limit: u8,
+    pub(crate) descriptors: DescriptorLoop,
+    pub(crate) service_type: u8,
+    pub(crate) provider: Text<100>,
+    pub(crate) name: Text<100>,
+    pub(crate) events: Vec<Event>,
+}
+
+impl Model for ProgramDescription {
+    ghost use Rattle.std.specs.Prelude.{map};
+    ghost use Rattle.description_parts.specs.Described.{DescribedProgram, event_view};
+
+    ghost Value = { DescribedProgram };
+
+    ghost view = { λ p. record {
+      number = p.number;
+      pmt_pid = p.pmt_pid;
+      pcr_pid = p.pcr_pid;
+      pcr_limit = p.pcr_limit;
+      descriptors = p.descriptors;
+      service_type = p.service_type;
+      provider = p.provider;
+      name = p.name;
+      events = map event_view p.events.items;
+    } };
+}
+
+impl ProgramDescription {
+    /// Returns program_number.
+    pub fn number(&self) -> u16
+        ensures { result ≡ self.now.number }
+    {
+        self.number
+    }
+
+    /// Returns the PID of its PMT.
+    pub fn pmt_pid(&self) -> u16
+        ensures { result ≡ self.now.pmt_pid }
+    {
+        self.pmt_pid
+    }
+
+    /// Returns the PID of its clock references.
+    pub fn pcr_pid(&self) -> u16
+        ensures { result ≡ self.now.pcr_pid }
+    {
+        self.pcr_pid
+    }
+
+    /// Returns the greatest time between two clock references, in ms.
+    pub fn pcr_limit(&self) -> u8
+        ensures { result ≡ self.now.pcr_limit }
+    {
+        self.pcr_limit
+    }
+
+    /// Returns its descriptors in its PMT.
+    pub fn descriptors(&self) -> &DescriptorLoop
+        ensures { result.now ≡ self.now.descriptors }
+    {
+        &self.descriptors
+    }
+
+    /// Returns service_type of its service.
+    pub fn service_type(&self) -> u8
+        ensures { result ≡ self.now.service_type }
+    {
+        self.service_type
+    }
+
+    /// Returns the provider of its service.
+    pub fn provider(&self) -> &Text<100>
+        ensures { result.now ≡ self.now.provider }
+    {
+        &self.provider
+    }
+
+    /// Returns the name of its service.
+    pub fn name(&self) -> &Text<100>
+        ensures { result.now ≡ self.now.name }
+    {
+        &self.name
+    }
+
+    /// Returns the events of its service, in order.
+    pub fn events(&self) -> &[Event]
+        ensures { map event_view result.now ≡ self.now.events }
+    {
+        self.events.as_slice()
+    }
+}
